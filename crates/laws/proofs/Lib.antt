@@ -1,0 +1,6 @@
+pub mod Tests
+pub mod Stores
+pub mod Bytes
+pub mod Each
+pub mod Parts
+pub mod Bits

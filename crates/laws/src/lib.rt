@@ -1,0 +1,1 @@
+// Definitions and laws on lists, bytes and bits that several crates cite. There is no code here.
