@@ -1,0 +1,98 @@
+-- The walk over a schema's records: the layout of the columns so far, and what the records that are left add to it.
+use Prim.Native.Nat.{ℕ, zero, suc, _+_, _-_, _≤_, _<_}
+use mathlib.Core.Path.{_≡_, refl, sym, ap, _∙_}
+use mathlib.Core.Bool.{Bool, true, false, cond}
+use mathlib.Core.List.{List, [], _∷_, map}
+use native.Mathlib.Nat.{add-zero}
+use native.Mathlib.Omega.{arith}
+use borrow.Author.Tests.{lt-ltb, le-ltb}
+use lib.Dec.{ltb}
+use lib.ListN.{length, length-map}
+use Rattle.error.specs.declared.Refusal.{Refusal}
+use Rattle.error.specs.declared.Refusal.the-variants.{BadSchema}
+use Rattle.row_format.specs.Places.{through, rankAfter, endAfter, minimum, offsetWidth, rowLimit}
+use Rattle.row_layout.specs.declared.RowLayout.{RowLayout}
+use Rattle.row_layout.specs.Layout.{Bounded, layoutOf, noColumns, withColumn}
+use Rattle.datatype.specs.declared.DataType.{DataType}
+use Rattle.datatype.specs.declared.Record.the-variants.{Column, Refused}
+use Rattle.datatype.specs.declared.SchemaCheck.{SchemaCheck}
+use Rattle.datatype.specs.declared.SchemaCheck.the-variants as Check
+use Rattle.datatype.specs.Types.{shapeOf}
+use Rattle.datatype.specs.Schema.{Parsed, types, refused, before, records, recordAt, limited, schemaOf}
+use Rattle.datatype.specs.Check.{checked, finished}
+
+-- the columns ts after those of l
+abbrev extended : RowLayout → List DataType → RowLayout
+extended l [] = l
+extended l (t ∷ ts) = extended (withColumn l (shapeOf t)) ts
+
+abbrev pub rest : ℕ → RowLayout → Parsed → SchemaCheck
+rest len l (types ts) = finished len (extended l ts)
+rest len l (refused r) = Check.Refused r
+
+-- ---- where the walk begins
+
+extended-is : (l : RowLayout) (ts : List DataType) → extended l ts
+    ≡ record {
+      «num_columns» = length ts + l .«num_columns»;
+      «num_varlen_cols» = through rankAfter (l .«num_varlen_cols») (map shapeOf ts);
+      «packed_size» = through (endAfter true) (l .«packed_size») (map shapeOf ts);
+      «padded_size» = through (endAfter false) (l .«padded_size») (map shapeOf ts);
+    }
+extended-is l [] = let e : 0 + l .«num_columns» ≡ l .«num_columns» = omega arith in rw e
+extended-is l (t ∷ ts) =
+    let e : length ts + (l .«num_columns» + 1) ≡ suc (length ts) + l .«num_columns» = omega arith in
+    extended-is (withColumn l (shapeOf t)) ts ∙ rw e
+
+extended-all : (ts : List DataType) → extended noColumns ts ≡ layoutOf (map shapeOf ts)
+extended-all ts = extended-is noColumns ts ∙ rw (add-zero, length-map ts shapeOf)
+
+checked-cond : (t : Bool) (r : Refusal) (ts : List DataType) → checked (cond t (refused r) (types ts)) ≡ cond t (Check.Refused r) (Check.Good (layoutOf (map shapeOf ts)))
+checked-cond true r ts = refl
+checked-cond false r ts = refl
+
+rest-parsed : (len : ℕ) (p : Parsed) → rest len noColumns p ≡ checked (limited offsetWidth rowLimit len p)
+rest-parsed len (types ts) = ap (finished len) (extended-all ts) ∙ sym (checked-cond (ltb rowLimit (minimum offsetWidth false (map shapeOf ts))) (BadSchema len) ts)
+rest-parsed len (refused r) = refl
+
+rest-before : (len : ℕ) (l : RowLayout) (t : DataType) (p : Parsed) → rest len l (before t p) ≡ rest len (withColumn l (shapeOf t)) p
+rest-before len l t (types ts) = refl
+rest-before len l t (refused r) = refl
+
+-- ---- the walk at a place of the schema
+
+pub record Walking (s : List ℕ) (l : RowLayout) (at : ℕ) : Type 0 where
+  pub bounded : Bounded l
+  pub whole : rest (length s) l (records (256 - l .«num_columns») s at) ≡ checked (schemaOf offsetWidth rowLimit s)
+
+pub walk-start : (s : List ℕ) → Walking s noColumns 0
+unfolding schemaOf
+walk-start s = record { bounded = record { few = omega arith; ranked = omega arith; tight = omega arith; wide = omega arith }; whole = rest-parsed (length s) (records 256 s 0) }
+
+module _ {s : List ℕ} {l : RowLayout} {at : ℕ} (w : Walking s l at) where
+  -- no record more
+  rest-none : (n : ℕ) → length s ≤ at → rest (length s) l (records n s at) ≡ finished (length s) l
+  rest-none zero h = rw (le-ltb _ _ h)
+  rest-none (suc n) h = rw (le-ltb _ _ h)
+
+  pub walk-end : length s ≤ at → finished (length s) l ≡ checked (schemaOf offsetWidth rowLimit s)
+  walk-end h = sym (rest-none (256 - l .«num_columns») h) ∙ w .whole
+
+  -- a 257th
+  pub walk-over : at < length s → l .«num_columns» ≡ 256 → Check.Refused (BadSchema at) ≡ checked (schemaOf offsetWidth rowLimit s)
+  walk-over h e =
+      let z : 256 - l .«num_columns» ≡ 0 = omega arith in
+      sym (rw (lt-ltb at (length s) h)) ∙ rw z at (w .whole)
+
+  module _ (h : at < length s) (few : l .«num_columns» ≡ 256 → ⊥) where
+    left : 256 - l .«num_columns» ≡ suc (256 - (l .«num_columns» + 1))
+    left = omega (arith, w .bounded)
+
+    -- one that is bad
+    pub walk-bad : {r : Refusal} → recordAt s at ≡ Refused r → Check.Refused r ≡ checked (schemaOf offsetWidth rowLimit s)
+    walk-bad e = sym (rw (lt-ltb at (length s) h, e)) ∙ rw left at (w .whole)
+
+    -- a column
+    pub walk-more : {t : DataType} {next : ℕ} → recordAt s at ≡ Column t next → Bounded (withColumn l (shapeOf t)) → Walking s (withColumn l (shapeOf t)) next
+    walk-more {t} {next} e b =
+        record { bounded = b; whole = sym (rw (lt-ltb at (length s) h, e) (rest-before (length s) l t (records (256 - (l .«num_columns» + 1)) s next))) ∙ rw left at (w .whole) }

@@ -1,0 +1,234 @@
+// datatype.rs: the column types, and the bytes of a schema.
+use error::Refusal;
+use row_format::Shape;
+use row_layout::RowLayout;
+ghost use mathlib.Core.Path.{_≡_};
+ghost use mathlib.Core.Bool.{false};
+ghost use Prim.Native.Nat.{_<_, _≤_};
+ghost use lib.ListN.{length};
+ghost use Rattle.row_format.specs.Places.{offsetWidth, rowLimit};
+ghost use Rattle.row_layout.specs.Layout.{Small, Bounded};
+ghost use Rattle.datatype.specs.Types.{sizeOf, alignmentOf, isVarlen, shapeOf};
+ghost use Rattle.datatype.specs.Schema.{goodDigits, bodyKind, recordOf, recordAt, schemaOf};
+ghost use Rattle.datatype.specs.Check.{checked, finished, BoundedIn};
+
+pub enum DataType {
+    SmallInt,
+    Int,
+    BigInt,
+    Real,
+    DoublePrecision,
+    Numeric { precision: u8, scale: u8 },
+    Decimal { precision: u8, scale: u8 },
+    Bool,
+    Char(u16),
+    Character(u16),
+    Varchar(u16),
+    Date,
+    Time,
+    Bit(u16),
+    Timestamp,
+}
+
+impl DataType {
+    pub fn alignment(self) -> usize
+        ensures { λ r. ⌜ (r ≡ alignmentOf self) × ((0 < r) × (r ≤ 8)) ⌝ }
+    {
+        match self {
+            DataType::SmallInt => 2,
+            DataType::Int => 4,
+            DataType::BigInt => 8,
+            DataType::Real => 4,
+            DataType::DoublePrecision => 8,
+            DataType::Numeric {
+                precision: _,
+                scale: _,
+            } => 1,
+            DataType::Decimal {
+                precision: _,
+                scale: _,
+            } => 1,
+            DataType::Bool => 1,
+            DataType::Char(_) => 1,
+            DataType::Character(_) => 1,
+            DataType::Varchar(_) => 1,
+            DataType::Date => 4,
+            DataType::Time => 8,
+            DataType::Bit(_) => 1,
+            DataType::Timestamp => 8,
+        }
+    }
+
+    // The bytes of a fixed column's slot; 0 for a Varchar, which has none.
+    pub fn fixed_size(self) -> usize
+        ensures { λ r. ⌜ (r ≡ sizeOf self) × (r ≤ 65535) ⌝ }
+    {
+        match self {
+            DataType::SmallInt => 2,
+            DataType::Int => 4,
+            DataType::BigInt => 8,
+            DataType::Real => 4,
+            DataType::DoublePrecision => 8,
+            DataType::Numeric {
+                precision,
+                scale: _,
+            } => (precision as usize + 2) / 2,
+            DataType::Decimal {
+                precision,
+                scale: _,
+            } => (precision as usize + 2) / 2,
+            DataType::Bool => 1,
+            DataType::Char(n) => n as usize,
+            DataType::Character(n) => n as usize,
+            DataType::Varchar(_) => 0,
+            DataType::Date => 4,
+            DataType::Time => 8,
+            DataType::Bit(n) => (n as usize + 7) / 8,
+            DataType::Timestamp => 8,
+        }
+    }
+
+    pub fn is_variable_length(self) -> bool
+        ensures { λ r. ⌜ r ≡ isVarlen self ⌝ }
+    {
+        match self {
+            DataType::SmallInt => false,
+            DataType::Int => false,
+            DataType::BigInt => false,
+            DataType::Real => false,
+            DataType::DoublePrecision => false,
+            DataType::Numeric {
+                precision: _,
+                scale: _,
+            } => false,
+            DataType::Decimal {
+                precision: _,
+                scale: _,
+            } => false,
+            DataType::Bool => false,
+            DataType::Char(_) => false,
+            DataType::Character(_) => false,
+            DataType::Varchar(_) => true,
+            DataType::Date => false,
+            DataType::Time => false,
+            DataType::Bit(_) => false,
+            DataType::Timestamp => false,
+        }
+    }
+
+    // What the layout sees of the type.
+    pub fn shape(self) -> Shape
+        ensures { λ r. ⌜ (r ≡ shapeOf self) × Small r ⌝ }
+    {
+        if self.is_variable_length() {
+            return Shape::Varlen;
+        }
+        Shape::Fixed(self.fixed_size(), self.alignment())
+    }
+}
+
+// What stands at a place of a schema.
+pub enum Record {
+    // A column's type, and the place after its record.
+    Column(DataType, usize),
+    Refused(Refusal),
+}
+
+// Whether NUMERIC(precision, scale) is a type.
+fn good_digits(precision: u8, scale: u8) -> bool
+    ensures { λ r. ⌜ r ≡ goodDigits precision scale ⌝ }
+{
+    (1 <= precision) & (precision <= 38) & (scale <= precision)
+}
+
+// A record of a kind that is followed by two bytes, or of no kind.
+fn body_at(schema: &[u8], at: usize, kind: u8) -> Record
+    requires { ⌜ at < length (now schema) ⌝ }
+    ensures { λ r. ⌜ r ≡ recordOf (bodyKind kind) (now (schema .entry)) at ⌝ }
+{
+    if schema.len() - at < 3 {
+        return Record::Refused(Refusal::BadRecord(at));
+    }
+    let precision = schema[at + 1];
+    let scale = schema[at + 2];
+    let n = endian::read_u16(schema, at + 1);
+    let next = at + 3;
+    match kind {
+        6 => {
+            if good_digits(precision, scale) {
+                return Record::Column(DataType::Numeric { precision, scale }, next);
+            }
+            Record::Refused(Refusal::BadSchema(at))
+        }
+        7 => {
+            if good_digits(precision, scale) {
+                return Record::Column(DataType::Decimal { precision, scale }, next);
+            }
+            Record::Refused(Refusal::BadSchema(at))
+        }
+        9 => Record::Column(DataType::Char(n), next),
+        10 => Record::Column(DataType::Character(n), next),
+        11 => Record::Column(DataType::Varchar(n), next),
+        14 => Record::Column(DataType::Bit(n), next),
+        _ => Record::Refused(Refusal::BadRecord(at)),
+    }
+}
+
+pub fn record_at(schema: &[u8], at: usize) -> Record
+    requires { ⌜ at < length (now schema) ⌝ }
+    ensures { λ r. ⌜ r ≡ recordAt (now (schema .entry)) at ⌝ }
+{
+    let kind = schema[at];
+    let next = at + 1;
+    match kind {
+        1 => Record::Column(DataType::SmallInt, next),
+        2 => Record::Column(DataType::Int, next),
+        3 => Record::Column(DataType::BigInt, next),
+        4 => Record::Column(DataType::Real, next),
+        5 => Record::Column(DataType::DoublePrecision, next),
+        8 => Record::Column(DataType::Bool, next),
+        12 => Record::Column(DataType::Date, next),
+        13 => Record::Column(DataType::Time, next),
+        15 => Record::Column(DataType::Timestamp, next),
+        _ => body_at(schema, at, kind),
+    }
+}
+
+// The layout of a schema's rows, or why its bytes are no schema.
+pub enum SchemaCheck {
+    Good(RowLayout),
+    Refused(Refusal),
+}
+
+// The test that comes after the last record.
+fn finish(layout: RowLayout, length: usize) -> SchemaCheck
+    requires { ⌜ Bounded layout ⌝ }
+    ensures { λ r. ⌜ (r ≡ finished length layout) × BoundedIn r ⌝ }
+{
+    if 65535 < layout.min_row_size(false) {
+        return SchemaCheck::Refused(Refusal::BadSchema(length));
+    }
+    SchemaCheck::Good(layout)
+}
+
+pub fn check_schema(schema: &[u8]) -> SchemaCheck
+    ensures { λ r. ⌜ (r ≡ checked (schemaOf offsetWidth rowLimit (now (schema .entry)))) × BoundedIn r ⌝ }
+{
+    let mut layout = RowLayout::new();
+    let mut at = 0;
+    while at < schema.len() {
+        if layout.num_columns == 256 {
+            return SchemaCheck::Refused(Refusal::BadSchema(at));
+        }
+        match record_at(schema, at) {
+            Record::Refused(r) => {
+                return SchemaCheck::Refused(r);
+            }
+            Record::Column(t, next) => {
+                layout = layout.with_column(t.shape());
+                at = next;
+            }
+        }
+    }
+    finish(layout, schema.len())
+}

@@ -1,0 +1,3 @@
+pub mod Places
+pub mod Table
+pub mod Row

@@ -1,0 +1,33 @@
+/* The typed-row codec, proved. Link with librook_row.a.
+ *
+ * A slice passes as a pointer and then its length; lent slices do not overlap. An empty slice may have any pointer.
+ * Every result comes back by value. `number` is 0 for done, else the number of the refusal; `place` goes with it
+ * (README.md has the table). A refusal changes no lent byte, and hands out 0 beside number and place. */
+#ifndef ROOK_ROW_H
+#define ROOK_ROW_H
+
+#include <stddef.h>
+#include <stdint.h>
+
+#ifdef __cplusplus
+extern "C" {
+#endif
+
+typedef struct {
+    uint32_t number;
+    size_t place;
+    size_t flag; /* 0 or 1 */
+} rook_flag_answer;
+
+/* Whether column `column` of a row is null, by the row's own header and bitmap: flag is 1 for null.
+ * Refuses with 4 (row above 65,535 bytes), 3 (row shorter than its header or bitmap), 9 (no such column); place 0. */
+rook_flag_answer rook_row_is_null(const uint8_t *row, size_t row_length, size_t column);
+
+/* Whether bytes are text by RFC 3629 (UTF-8): 1 valid, 0 not. */
+uint32_t rook_text_valid(const uint8_t *text, size_t text_length);
+
+#ifdef __cplusplus
+}
+#endif
+
+#endif
