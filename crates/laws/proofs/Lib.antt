@@ -1,4 +1,5 @@
 pub mod Tests
+pub mod Truths
 pub mod Stores
 pub mod Bytes
 pub mod Each

@@ -3,7 +3,9 @@
 use null_bitmap::NullFlag;
 ghost use mathlib.Core.Path.{_≡_};
 ghost use Rattle.row_format.specs.Places.{rowLimit};
+ghost use Rattle.laws.specs.Bits.{bitValue};
 ghost use Rattle.null_bitmap.specs.Bitmap.{nullFlag};
+ghost use Rattle.text.specs.Rfc3629.{isText};
 ghost use Rattle.rook_row.specs.Answers.{flagAnswer};
 
 #[repr(C)]
@@ -30,4 +32,12 @@ pub extern "C" fn rook_row_is_null(row: &[u8], column: usize) -> FlagAnswer
             flag: 0,
         },
     }
+}
+
+// Whether bytes are text: 1 or 0.
+#[no_mangle]
+pub extern "C" fn rook_text_valid(s: &[u8]) -> u32
+    ensures { λ r. ⌜ r ≡ bitValue (isText (now (s .entry))) ⌝ }
+{
+    text::is_valid(s) as u32
 }

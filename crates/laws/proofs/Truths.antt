@@ -1,0 +1,37 @@
+-- Truth values, and tests of two numbers.
+use Prim.Native.Nat.{ℕ, _≤_, _<_}
+use mathlib.Core.Path.{_≡_, refl, sym, _∙_}
+use mathlib.Core.Bool.{Bool, true, false, _&&_, _||_, false≢true}
+use native.Mathlib.Decide.{decLt}
+use native.Mathlib.Omega.{arith}
+use lib.Dec.{ltb}
+use borrow.Author.Tests.{lt-ltb, le-ltb}
+
+pub and-left : (x y : Bool) → (x && y) ≡ true → x ≡ true
+and-left true y e = refl
+and-left false y e = e
+
+pub and-right : (x y : Bool) → (x && y) ≡ true → y ≡ true
+and-right true y e = e
+and-right false y e = absurd (false≢true e)
+
+pub or-none : (x y : Bool) → (x || y) ≡ false → (x ≡ false) × (y ≡ false)
+or-none true y e = absurd (false≢true (sym e))
+or-none false y e = (refl, e)
+
+-- two that hold together
+pub same : {x y : Bool} → (x ≡ true → y ≡ true) → (y ≡ true → x ≡ true) → x ≡ y
+same {x = true} f g = sym (f refl)
+same {x = false} {y = true} f g = g refl
+same {x = false} {y = false} f g = refl
+
+-- two numbers in order, or not
+by-dec : {P : Type 0} (a b : ℕ) → Dec (a < b) → (a < b → P) → (b ≤ a → P) → P
+by-dec a b (yes p) f g = f p
+by-dec a b (no n) f g = g (omega (arith, n))
+
+pub cases : {P : Type 0} (a b : ℕ) → (a < b → P) → (b ≤ a → P) → P
+cases a b f g = by-dec a b (decLt a b) f g
+
+pub same-ltb : (a b c d : ℕ) → (a < b → c < d) → (b ≤ a → d ≤ c) → ltb a b ≡ ltb c d
+same-ltb a b c d f g = cases a b (λ h. lt-ltb a b h ∙ sym (lt-ltb c d (f h))) (λ h. le-ltb a b h ∙ sym (le-ltb c d (g h)))

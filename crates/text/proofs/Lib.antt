@@ -1,0 +1,5 @@
+mod Laws
+mod Grammar
+mod Follow
+pub mod Bytes
+pub mod Forms
