@@ -1,0 +1,11 @@
+-- The worked cases of 01, by computation.
+use mathlib.Core.Path.{refl}
+use Rattle.row_format.specs.Table.{lay}
+use Rattle.row_format.specs.Row.{header, rowWith}
+use Rattle.datatype.specs.Schema.{schemaOf}
+use Rattle.text.specs.Rfc3629.{octets}
+use Rattle.worked.specs.Cases.{Holds, columns, S, row, table}
+
+pub worked : Holds table
+unfolding table row S columns schemaOf rowWith lay header octets
+worked = (refl, (refl, (refl, (refl, (refl, (refl, tt))))))

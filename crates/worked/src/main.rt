@@ -1,0 +1,80 @@
+// Worked cases that are run and not proved: RFC 3629's own examples, and limits of schemas from document 01.
+// What each gives is written on a line; the file `stdout` has what it must be.
+use datatype::SchemaCheck;
+use libc::STDOUT_FILENO;
+
+fn say(words: &[u8]) {
+    io::write_all(STDOUT_FILENO, words);
+}
+
+fn say_text(name: &[u8], s: &[u8]) {
+    say(name);
+    if text::is_valid(s) {
+        say(b": valid\n");
+    } else {
+        say(b": not valid\n");
+    }
+}
+
+// Section 7, the examples; sections 3 and 10, what is forbidden.
+fn rfc3629() {
+    say_text(
+        b"RFC 3629, 7: A, not identical to, alpha, full stop",
+        b"\x41\xE2\x89\xA2\xCE\x91\x2E",
+    );
+    say_text(
+        b"RFC 3629, 7: Korean",
+        b"\xED\x95\x9C\xEA\xB5\xAD\xEC\x96\xB4",
+    );
+    say_text(
+        b"RFC 3629, 7: Japanese",
+        b"\xE6\x97\xA5\xE6\x9C\xAC\xE8\xAA\x9E",
+    );
+    say_text(
+        b"RFC 3629, 7: byte order mark, U+233B4",
+        b"\xEF\xBB\xBF\xF0\xA3\x8E\xB4",
+    );
+    say_text(b"RFC 3629, 10: overlong NUL", b"\xC0\x80");
+    say_text(
+        b"RFC 3629, 3: a surrogate pair",
+        b"\xED\xA1\x8C\xED\xBE\xB4",
+    );
+    say_text(b"no bytes", b"");
+}
+
+fn say_schema(name: &[u8], schema: &[u8]) {
+    say(name);
+    match datatype::check_schema(schema) {
+        SchemaCheck::Good(layout) => {
+            say(b": columns ");
+            io::print_decimal(STDOUT_FILENO, layout.num_columns as u64);
+        }
+        SchemaCheck::Refused(r) => {
+            say(b": refused, number ");
+            io::print_decimal(STDOUT_FILENO, r.number() as u64);
+            say(b" place ");
+            io::print_decimal(STDOUT_FILENO, r.place() as u64);
+        }
+    }
+    say(b"\n");
+}
+
+// Case 10: 256 columns pass, 257 give 2.
+fn schemas() {
+    let smallints = [1u8; 257];
+    say_schema(b"no columns", b"");
+    say_schema(b"256 columns", &smallints[..256]);
+    say_schema(b"257 columns", &smallints);
+    say_schema(b"unknown kind 16", b"\x01\x10");
+    say_schema(b"a Varchar cut off", b"\x01\x0B\x05");
+    say_schema(b"Numeric(39, 0) cut off", b"\x06\x27");
+    say_schema(b"Numeric(39, 0)", b"\x06\x27\x00");
+    say_schema(b"Numeric(3, 4)", b"\x06\x03\x04");
+    say_schema(b"Char(65530)", b"\x09\xFA\xFF");
+    say_schema(b"Char(65531)", b"\x09\xFB\xFF");
+}
+
+fn main() {
+    rfc3629();
+    schemas();
+}
