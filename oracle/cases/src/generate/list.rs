@@ -1,0 +1,357 @@
+//! Value lists for a schema: good ones, one for each refusal, random bytes.
+
+use super::Expected;
+use super::value::{TextArea, other_kind, outside, suitable, unsuitable};
+use crate::LIMIT;
+use crate::layout::Layout;
+use crate::rng::Rng;
+use crate::value::{Record, TextRange, ValueList, body_length};
+use rookdb::types::datatype::DataType;
+
+#[derive(Debug, Clone, Copy, PartialEq, Eq, PartialOrd, Ord)]
+pub enum Sort {
+    /// Each column null or suitable.
+    Good,
+    /// Each column suitable, none null.
+    Values,
+    Nulls,
+    /// Good, the text area exactly 65,535 bytes.
+    TextAtLimit,
+    /// Good, the packed row exactly 65,535 bytes.
+    RowAtLimit,
+    // Refused with 10.
+    UnknownKind,
+    Cut,
+    TooFew,
+    TooMany,
+    TextAbove,
+    // Refused with 11 or 12, one bad column.
+    OtherKind,
+    Unsuitable,
+    Outside,
+    /// Several bad columns; the first decides.
+    Several,
+    /// Refused with 13.
+    RowAbove,
+    Random,
+}
+
+impl Sort {
+    pub const ALL: [Sort; 16] = [
+        Sort::Good,
+        Sort::Values,
+        Sort::Nulls,
+        Sort::TextAtLimit,
+        Sort::RowAtLimit,
+        Sort::UnknownKind,
+        Sort::Cut,
+        Sort::TooFew,
+        Sort::TooMany,
+        Sort::TextAbove,
+        Sort::OtherKind,
+        Sort::Unsuitable,
+        Sort::Outside,
+        Sort::Several,
+        Sort::RowAbove,
+        Sort::Random,
+    ];
+}
+
+/// A value list for a build; of one column, for a set.
+#[derive(Debug, Clone, PartialEq, Eq)]
+pub struct List {
+    pub values: ValueList,
+    pub expected: Expected,
+}
+
+/// A list of this sort; `None` if these columns have none, or the column or the
+/// values tried do not give one.
+pub fn list(rng: &mut Rng, types: &[DataType], sort: Sort) -> Option<List> {
+    match sort {
+        Sort::Good => Some(good(rng, types).accepted()),
+        Sort::Values => values(rng, types).map(Draft::accepted),
+        Sort::Nulls => Some(nulls(types).accepted()),
+        Sort::TextAtLimit => Some(text_at_limit(rng, types)),
+        Sort::RowAtLimit => row_of(rng, types, LIMIT).map(Draft::accepted),
+        Sort::UnknownKind => Some(unknown_kind(rng, types)),
+        Sort::Cut => Some(cut(rng, types)),
+        Sort::TooFew => too_few(rng, types),
+        Sort::TooMany => Some(too_many(rng, types)),
+        Sort::TextAbove => Some(text_above(rng, types)),
+        Sort::OtherKind | Sort::Unsuitable | Sort::Outside => one_bad(rng, types, sort),
+        Sort::Several => several(rng, types),
+        Sort::RowAbove => row_above(rng, types),
+        Sort::Random => Some(random(rng)),
+    }
+}
+
+/// A list of a sort at random, a good one half the time.
+pub fn any_list(rng: &mut Rng, types: &[DataType]) -> (Sort, List) {
+    loop {
+        let sort = if rng.one_in(2) {
+            Sort::Good
+        } else {
+            rng.pick(&Sort::ALL)
+        };
+        if let Some(list) = list(rng, types, sort) {
+            return (sort, list);
+        }
+    }
+}
+
+/// A list in the making: a record for each column, and the text area.
+struct Draft {
+    records: Vec<Record>,
+    area: TextArea,
+}
+
+impl Draft {
+    fn list(self) -> ValueList {
+        ValueList::of_records(&self.records, self.area.bytes)
+    }
+
+    fn accepted(self) -> List {
+        List {
+            values: self.list(),
+            expected: Expected::Accepted,
+        }
+    }
+
+    fn refused(self, number: u32, place: usize) -> List {
+        List {
+            values: self.list(),
+            expected: Expected::refused(number, place),
+        }
+    }
+
+    /// Refused for its number of records.
+    fn miscounted(self) -> List {
+        let values = self.list();
+        let expected = Expected::refused(10, values.bytes.len());
+        List { values, expected }
+    }
+
+    /// The length of the packed row.
+    fn row_length(&self, types: &[DataType]) -> usize {
+        let payload = |record: &Record| match record {
+            Record::Varchar(range) => usize::from(range.length),
+            _ => 0,
+        };
+        Layout::packed(types).minimum + self.records.iter().map(payload).sum::<usize>()
+    }
+}
+
+fn nulls(types: &[DataType]) -> Draft {
+    Draft {
+        records: vec![Record::Null; types.len()],
+        area: TextArea::default(),
+    }
+}
+
+/// A suitable value for each column; `None` if the row would be too long.
+fn values(rng: &mut Rng, types: &[DataType]) -> Option<Draft> {
+    let mut area = TextArea::default();
+    let records = types
+        .iter()
+        .map(|ty| suitable(rng, ty, &mut area))
+        .collect();
+    let draft = Draft { records, area };
+    (draft.row_length(types) <= LIMIT).then_some(draft)
+}
+
+/// Null or a suitable value for each column.
+fn good(rng: &mut Rng, types: &[DataType]) -> Draft {
+    let mut draft = values(rng, types).unwrap_or_else(|| nulls(types));
+    let null = rng.pick(&[2, 8, 64]);
+    for record in &mut draft.records {
+        if rng.one_in(null) {
+            *record = Record::Null;
+        }
+    }
+    draft
+}
+
+/// Lengthens the text area to this length.
+fn lengthen(rng: &mut Rng, text: &mut Vec<u8>, length: usize) {
+    let more = length - text.len();
+    text.extend(rng.bytes(more));
+}
+
+fn text_at_limit(rng: &mut Rng, types: &[DataType]) -> List {
+    let mut draft = good(rng, types);
+    lengthen(rng, &mut draft.area.bytes, LIMIT);
+    draft.accepted()
+}
+
+/// The text area above its limit, the columns good or bad.
+fn text_above(rng: &mut Rng, types: &[DataType]) -> List {
+    let mut draft = good_or_bad(rng, types);
+    let length = LIMIT + rng.pick(&[1, 2, 70_000]);
+    lengthen(rng, &mut draft.area.bytes, length);
+    draft.refused(10, 0)
+}
+
+/// Suitable values that make a packed row of exactly this length, the Varchars
+/// sharing one text; `None` if the Varchars do not reach so far.
+fn row_of(rng: &mut Rng, types: &[DataType], length: usize) -> Option<Draft> {
+    let mut missing = length.checked_sub(Layout::packed(types).minimum)?;
+    let mut draft = nulls(types);
+    let mut columns: Vec<usize> = (0..types.len()).collect();
+    shuffle(rng, &mut columns);
+    for column in columns {
+        if let DataType::Varchar(n) = types[column] {
+            let length = missing.min(n.into()) as u16;
+            draft.records[column] = Record::Varchar(TextRange { start: 0, length });
+            missing -= usize::from(length);
+        }
+    }
+    draft.area.bytes = vec![b'x'; LIMIT];
+    (missing == 0).then_some(draft)
+}
+
+fn row_above(rng: &mut Rng, types: &[DataType]) -> Option<List> {
+    let above = rng.pick(&[1, 2, 1000]);
+    Some(row_of(rng, types, LIMIT + above)?.refused(13, 0))
+}
+
+fn shuffle(rng: &mut Rng, columns: &mut [usize]) {
+    for i in (1..columns.len()).rev() {
+        columns.swap(i, rng.between(0, i));
+    }
+}
+
+/// A bad record for a column, with its refusal's number.
+fn bad_record(
+    rng: &mut Rng,
+    ty: &DataType,
+    sort: Sort,
+    area: &mut TextArea,
+) -> Option<(Record, u32)> {
+    match sort {
+        Sort::OtherKind => Some((other_kind(rng, ty, area), 11)),
+        Sort::Unsuitable => Some((unsuitable(rng, ty, area)?, 12)),
+        _ => Some((outside(rng, ty, area.bytes.len())?, 12)),
+    }
+}
+
+/// One bad column among good ones; `None` if the column tried cannot be bad in
+/// this way.
+fn one_bad(rng: &mut Rng, types: &[DataType], sort: Sort) -> Option<List> {
+    if types.is_empty() {
+        return None;
+    }
+    let mut draft = good(rng, types);
+    let column = rng.below(types.len());
+    let (record, number) = bad_record(rng, &types[column], sort, &mut draft.area)?;
+    draft.records[column] = record;
+    Some(draft.refused(number, column))
+}
+
+/// Makes columns of a draft bad; the refusal of the first of them. Ranges that
+/// leave the text area come last, when it has its length.
+fn spoil(rng: &mut Rng, types: &[DataType], draft: &mut Draft) -> Option<(usize, u32)> {
+    let mut columns: Vec<usize> = (0..types.len()).collect();
+    shuffle(rng, &mut columns);
+    columns.truncate(rng.between(1, 4));
+    let mut sorts: Vec<Sort> = columns
+        .iter()
+        .map(|_| rng.pick(&[Sort::OtherKind, Sort::Unsuitable, Sort::Outside]))
+        .collect();
+    sorts.sort_by_key(|&sort| sort == Sort::Outside);
+    let mut bad = Vec::new();
+    for (&column, sort) in columns.iter().zip(sorts) {
+        if let Some((record, number)) = bad_record(rng, &types[column], sort, &mut draft.area) {
+            draft.records[column] = record;
+            bad.push((column, number));
+        }
+    }
+    bad.into_iter().min()
+}
+
+fn several(rng: &mut Rng, types: &[DataType]) -> Option<List> {
+    let mut draft = good(rng, types);
+    let (column, number) = spoil(rng, types, &mut draft)?;
+    Some(draft.refused(number, column))
+}
+
+fn good_or_bad(rng: &mut Rng, types: &[DataType]) -> Draft {
+    let mut draft = good(rng, types);
+    if rng.one_in(4) {
+        spoil(rng, types, &mut draft);
+    }
+    draft
+}
+
+/// Some records of a draft, perhaps all and more, to which a bad one is added.
+fn begun(rng: &mut Rng, types: &[DataType]) -> ValueList {
+    let mut draft = good_or_bad(rng, types);
+    if rng.one_in(8) {
+        draft.records.push(Record::Null);
+    }
+    let count = rng.between(0, draft.records.len());
+    draft.records.truncate(count);
+    draft.list()
+}
+
+fn unknown_kind(rng: &mut Rng, types: &[DataType]) -> List {
+    let mut values = begun(rng, types);
+    let expected = Expected::refused(10, values.bytes.len());
+    let kind = rng.between(14, 255) as u8;
+    values.bytes.push(rng.pick(&[14, 255, kind]));
+    let more = rng.between(0, 20);
+    values.bytes.extend(rng.bytes(more));
+    List { values, expected }
+}
+
+fn cut(rng: &mut Rng, types: &[DataType]) -> List {
+    let mut values = begun(rng, types);
+    let expected = Expected::refused(10, values.bytes.len());
+    let kind = rng.between(1, 13) as u8;
+    let length = body_length(kind).expect("a known kind");
+    values.bytes.push(kind);
+    let body = rng.between(0, length - 1);
+    values.bytes.extend(rng.bytes(body));
+    List { values, expected }
+}
+
+fn too_few(rng: &mut Rng, types: &[DataType]) -> Option<List> {
+    let mut draft = good_or_bad(rng, types);
+    let fewer = types.len().checked_sub(1)?;
+    let count = match rng.below(3) {
+        0 => 0,
+        1 => fewer,
+        _ => rng.between(0, fewer),
+    };
+    draft.records.truncate(count);
+    Some(draft.miscounted())
+}
+
+fn too_many(rng: &mut Rng, types: &[DataType]) -> List {
+    let mut draft = good_or_bad(rng, types);
+    for _ in 0..rng.pick(&[1, 2, 300]) {
+        let record = rng.pick(&[Record::Null, Record::Bool(1), Record::Int(-1)]);
+        draft.records.push(record);
+    }
+    draft.miscounted()
+}
+
+/// Random bytes, or random bodies behind known kinds.
+fn random(rng: &mut Rng) -> List {
+    let mut bytes = Vec::new();
+    if rng.one_in(2) {
+        let length = rng.between(0, 60);
+        bytes = rng.bytes(length);
+    } else {
+        for _ in 0..rng.between(0, 9) {
+            let kind = rng.between(0, 13) as u8;
+            bytes.push(kind);
+            bytes.extend(rng.bytes(body_length(kind).expect("a known kind")));
+        }
+    }
+    let length = rng.pick(&[0, 1, 30, 4000]);
+    let text = rng.bytes(length);
+    List {
+        values: ValueList { bytes, text },
+        expected: Expected::Unknown,
+    }
+}

@@ -1,0 +1,499 @@
+//! Rows: built by the Rust, padded, and damaged in each way; wanted columns.
+
+use super::list::{self, Sort as ListSort};
+use super::text::{self, Fault};
+use crate::layout::{BITMAP, Layout, PACKED, Place};
+use crate::rng::Rng;
+use crate::row::{clear_null_bit, offset, padded, set_offset};
+use crate::{LIMIT, rust};
+use rookdb::types::datatype::DataType;
+
+#[derive(Debug, Clone, Copy, PartialEq, Eq, PartialOrd, Ord)]
+pub enum Sort {
+    // Sound.
+    Fresh,
+    Built,
+    /// Built, then edited: null slots keep what they held.
+    Edited,
+    Padded,
+    /// Bits past the last column set.
+    SpareBits,
+    /// A sound row of exactly 65,535 bytes.
+    AtLimit,
+    // Changed by hand, sound or not.
+    /// A slot with a stored form at the edge of its type, or no value of it.
+    Stored,
+    /// A Varchar's payload made invalid text.
+    Payload,
+    FlippedBits,
+    Cut,
+    Lengthened,
+    /// An offset changed.
+    Offset,
+    /// An offset before the payloads, the bit clear.
+    OffsetInHeader,
+    /// An offset of 0, the bit clear.
+    ZeroOffset,
+    ColumnCount,
+    VarcharCount,
+    Flag,
+    /// Above 65,535 bytes.
+    Above,
+    /// A right header and random bytes.
+    RandomBody,
+    Random,
+}
+
+impl Sort {
+    pub const ALL: [Sort; 20] = [
+        Sort::Fresh,
+        Sort::Built,
+        Sort::Edited,
+        Sort::Padded,
+        Sort::SpareBits,
+        Sort::AtLimit,
+        Sort::Stored,
+        Sort::Payload,
+        Sort::FlippedBits,
+        Sort::Cut,
+        Sort::Lengthened,
+        Sort::Offset,
+        Sort::OffsetInHeader,
+        Sort::ZeroOffset,
+        Sort::ColumnCount,
+        Sort::VarcharCount,
+        Sort::Flag,
+        Sort::Above,
+        Sort::RandomBody,
+        Sort::Random,
+    ];
+
+    /// The sorts of which every row is sound.
+    pub const SOUND: [Sort; 6] = [
+        Sort::Fresh,
+        Sort::Built,
+        Sort::Edited,
+        Sort::Padded,
+        Sort::SpareBits,
+        Sort::AtLimit,
+    ];
+}
+
+/// A row of this sort for a good schema; `None` if the schema has none, or the
+/// row tried has not what the sort damages.
+pub fn row(rng: &mut Rng, types: &[DataType], sort: Sort) -> Option<Vec<u8>> {
+    match sort {
+        Sort::Fresh => rust::fresh(types).ok(),
+        Sort::Built => Some(built(rng, types)),
+        Sort::Edited => Some(edited(rng, types)),
+        Sort::Padded => Some(padded_row(rng, types)),
+        Sort::SpareBits => spare_bits(rng, types),
+        Sort::AtLimit => build(rng, types, ListSort::RowAtLimit),
+        Sort::Stored => stored(rng, types),
+        Sort::Payload => payload(rng, types),
+        Sort::FlippedBits => Some(flipped(rng, types)),
+        Sort::Cut => Some(cut(rng, types)),
+        Sort::Lengthened => Some(lengthened(rng, types)),
+        Sort::Offset => changed_offset(rng, types),
+        Sort::OffsetInHeader => offset_in_header(rng, types),
+        Sort::ZeroOffset => zero_offset(rng, types),
+        Sort::ColumnCount => Some(column_count(rng, types)),
+        Sort::VarcharCount => Some(varchar_count(rng, types)),
+        Sort::Flag => Some(flag(rng, types)),
+        Sort::Above => Some(above(rng, types)),
+        Sort::RandomBody => Some(random_body(rng, types)),
+        Sort::Random => {
+            let length = rng.between(0, 60);
+            Some(rng.bytes(length))
+        }
+    }
+}
+
+/// A row of a sort at random.
+pub fn any_row(rng: &mut Rng, types: &[DataType]) -> (Sort, Vec<u8>) {
+    loop {
+        let sort = rng.pick(&Sort::ALL);
+        if let Some(row) = row(rng, types, sort) {
+            return (sort, row);
+        }
+    }
+}
+
+/// A sound row.
+pub fn sound_row(rng: &mut Rng, types: &[DataType]) -> Vec<u8> {
+    loop {
+        let sort = rng.pick(&Sort::SOUND);
+        if let Some(row) = row(rng, types, sort) {
+            return row;
+        }
+    }
+}
+
+fn build(rng: &mut Rng, types: &[DataType], sort: ListSort) -> Option<Vec<u8>> {
+    let list = list::list(rng, types, sort)?;
+    let values = list.values.to_rust(types).expect("a good list").values;
+    rust::build(types, &values).ok()
+}
+
+fn built(rng: &mut Rng, types: &[DataType]) -> Vec<u8> {
+    build(rng, types, ListSort::Good).expect("a row of a good list")
+}
+
+fn edited(rng: &mut Rng, types: &[DataType]) -> Vec<u8> {
+    let mut row = built(rng, types);
+    if types.is_empty() {
+        return row;
+    }
+    for _ in 0..rng.between(1, 6) {
+        let column = rng.below(types.len());
+        let list = list::list(rng, &types[column..=column], ListSort::Good).expect("a good list");
+        let values = list.values.to_rust(&types[column..=column]);
+        let edit = match &values.expect("a good list").values[0] {
+            Some(value) => rust::set(types, &row, column, value),
+            None => rust::set_null(types, &row, column),
+        };
+        let edit = edit.ok().expect("an edit with a suitable value");
+        if edit.len() <= LIMIT {
+            row = edit;
+        }
+    }
+    row
+}
+
+fn padded_row(rng: &mut Rng, types: &[DataType]) -> Vec<u8> {
+    let row = if rng.one_in(2) {
+        built(rng, types)
+    } else {
+        edited(rng, types)
+    };
+    let filler = rng.byte();
+    let filler = rng.pick(&[0, 0xFF, filler]);
+    padded(types, &row, filler)
+        .or_else(|| padded(types, &rust::fresh(types).ok()?, filler))
+        .expect("a padded minimum within the limit")
+}
+
+/// A sound row to be damaged.
+fn base(rng: &mut Rng, types: &[DataType]) -> Vec<u8> {
+    match rng.below(4) {
+        0 => edited(rng, types),
+        1 => padded_row(rng, types),
+        _ => built(rng, types),
+    }
+}
+
+fn spare_bits(rng: &mut Rng, types: &[DataType]) -> Option<Vec<u8>> {
+    let used = types.len() % 8;
+    if used == 0 {
+        return None;
+    }
+    let mut row = base(rng, types);
+    row[BITMAP + types.len() / 8] |= 1 << rng.between(used, 7);
+    row[BITMAP + types.len() / 8] |= rng.byte() << used;
+    Some(row)
+}
+
+/// A column that is a Varchar, or one that is not.
+fn pick_column(rng: &mut Rng, types: &[DataType], varchar: bool) -> Option<usize> {
+    let columns: Vec<usize> = (0..types.len())
+        .filter(|&column| types[column].is_variable_length() == varchar)
+        .collect();
+    (!columns.is_empty()).then(|| rng.pick(&columns))
+}
+
+/// A row to be damaged at one of its Varchars.
+struct Target {
+    row: Vec<u8>,
+    layout: Layout,
+    column: usize,
+    rank: usize,
+}
+
+impl Target {
+    fn new(rng: &mut Rng, types: &[DataType]) -> Option<Self> {
+        let column = pick_column(rng, types, true)?;
+        let row = base(rng, types);
+        let layout = Layout::of_row(types, &row);
+        let Place::Varchar { rank } = layout.places[column] else {
+            return None;
+        };
+        Some(Target {
+            row,
+            layout,
+            column,
+            rank,
+        })
+    }
+
+    fn offset(&self, rank: usize) -> u16 {
+        offset(&self.row, &self.layout, rank)
+    }
+
+    fn set_offset(&mut self, offset: u16) {
+        set_offset(&mut self.row, &self.layout, self.rank, offset);
+    }
+}
+
+fn stored(rng: &mut Rng, types: &[DataType]) -> Option<Vec<u8>> {
+    let mut row = base(rng, types);
+    let layout = Layout::of_row(types, &row);
+    for _ in 0..rng.between(1, 3) {
+        let column = pick_column(rng, types, false)?;
+        if let Place::Fixed { start, size } = layout.places[column] {
+            let form = stored_form(rng, &types[column], size);
+            row[start..start + size].copy_from_slice(&form);
+            clear_null_bit(&mut row, column);
+        }
+    }
+    Some(row)
+}
+
+/// Bytes of a slot: at the edge of the type, or no value of it.
+fn stored_form(rng: &mut Rng, ty: &DataType, size: usize) -> Vec<u8> {
+    match ty {
+        DataType::Bool => vec![rng.pick(&[0, 1, 2, 128, 255])],
+        DataType::Date => rng.pick(&STORED_DATES).to_le_bytes().to_vec(),
+        DataType::Time => stored_time(rng).to_le_bytes().to_vec(),
+        DataType::Timestamp => rng.pick(&STORED_TIMESTAMPS).to_le_bytes().to_vec(),
+        DataType::Numeric { precision, .. } | DataType::Decimal { precision, .. } => {
+            stored_numeric(rng, *precision, size)
+        }
+        DataType::Char(_) | DataType::Character(_) => stored_text(rng, size),
+        _ => rng.bytes(size),
+    }
+}
+
+/// 01's ends, chrono's ends (version 0.4.23), one past each, and the ends of the
+/// numbers.
+const STORED_DATES: [i32; 10] = [
+    -719_162,
+    -719_163,
+    2_932_896,
+    2_932_897,
+    -96_465_658,
+    -96_465_659,
+    95_026_601,
+    95_026_602,
+    i32::MIN,
+    i32::MAX,
+];
+
+const STORED_TIMESTAMPS: [i64; 10] = [
+    -62_135_596_800_000_000,
+    -62_135_596_800_000_001,
+    253_402_300_799_999_999,
+    253_402_300_800_000_000,
+    -8_334_632_851_200_000_000,
+    -8_334_632_851_200_000_001,
+    8_210_298_412_799_999_999,
+    8_210_298_412_800_000_000,
+    i64::MIN,
+    i64::MAX,
+];
+
+/// A count near the ends of the day, moved by quotients modulo 2^32.
+fn stored_time(rng: &mut Rng) -> i64 {
+    let turns = rng.between_i64(-2, 2) * 4_294_967_296_000_000;
+    let count = rng.pick(&[0, 1, 999_999, 1_000_000, 86_399_999_999, 86_400_000_000]);
+    match rng.below(8) {
+        0 => rng.next_u64() as i64,
+        1 => rng.pick(&[i64::MIN, i64::MAX]),
+        2 => turns - 1,
+        _ => turns + count,
+    }
+}
+
+/// Digits, a front nibble and a sign nibble, each good or bad; two's complement
+/// where it has room.
+fn stored_numeric(rng: &mut Rng, precision: u8, size: usize) -> Vec<u8> {
+    if size == 17 && rng.one_in(4) {
+        let any = rng.next_i128();
+        let unscaled = rng.pick(&[i128::MIN, i128::MAX, -1, 0, 1, any]);
+        return [&unscaled.to_le_bytes()[..], &[rng.between(0, 38) as u8]].concat();
+    }
+    if rng.one_in(8) {
+        return rng.bytes(size);
+    }
+    let digit = rng.pick(&[0, 9, 10]);
+    let mut nibbles: Vec<u8> = (0..2 * size - 1)
+        .map(|_| rng.between(0, digit) as u8)
+        .collect();
+    if precision.is_multiple_of(2) {
+        nibbles[0] = rng.pick(&[0, 1, 15]);
+    }
+    nibbles.push(rng.pick(&[0xC, 0xC, 0xD, 0xD, 0x0, 0xA, 0xF]));
+    nibbles
+        .chunks(2)
+        .map(|pair| pair[0] << 4 | pair[1])
+        .collect()
+}
+
+fn stored_text(rng: &mut Rng, size: usize) -> Vec<u8> {
+    let fault = rng.pick(&Fault::ALL);
+    if rng.one_in(2)
+        && let Some(bytes) = text::invalid(rng, fault, size)
+    {
+        return bytes;
+    }
+    text::any_valid(rng, size)
+}
+
+fn payload(rng: &mut Rng, types: &[DataType]) -> Option<Vec<u8>> {
+    let mut target = Target::new(rng, types)?;
+    let start = usize::from(target.offset(target.rank));
+    if start == 0 {
+        return None;
+    }
+    let end = (target.rank + 1..target.layout.varchars)
+        .map(|rank| usize::from(target.offset(rank)))
+        .find(|&offset| offset != 0)
+        .unwrap_or(target.row.len());
+    let fault = rng.pick(&Fault::ALL);
+    let bytes = text::invalid(rng, fault, end - start)?;
+    target.row[start..end].copy_from_slice(&bytes);
+    Some(target.row)
+}
+
+fn flipped(rng: &mut Rng, types: &[DataType]) -> Vec<u8> {
+    let mut row = base(rng, types);
+    for _ in 0..rng.between(1, 4) {
+        let at = rng.below(row.len());
+        row[at] ^= 1 << rng.below(8);
+    }
+    row
+}
+
+fn cut(rng: &mut Rng, types: &[DataType]) -> Vec<u8> {
+    let mut row = base(rng, types);
+    let minimum = Layout::of_row(types, &row).minimum;
+    let length = match rng.below(4) {
+        0 => rng.between(0, 4),
+        1 => minimum - 1,
+        2 => minimum,
+        _ => rng.below(row.len()),
+    };
+    row.truncate(length.min(row.len() - 1));
+    row
+}
+
+fn lengthened(rng: &mut Rng, types: &[DataType]) -> Vec<u8> {
+    let mut row = base(rng, types);
+    let more = rng.between(1, 16);
+    row.extend(rng.bytes(more));
+    row
+}
+
+fn changed_offset(rng: &mut Rng, types: &[DataType]) -> Option<Vec<u8>> {
+    let mut target = Target::new(rng, types)?;
+    let old = target.offset(target.rank);
+    let new = match rng.below(6) {
+        0 => rng.next_u64() as u16,
+        1 => target.offset(rng.below(target.layout.varchars)),
+        2 => (target.row.len() + rng.below(2)) as u16,
+        3 => u16::MAX,
+        4 => old.wrapping_sub(1),
+        _ => old,
+    };
+    target.set_offset(if new == old { old.wrapping_add(1) } else { new });
+    Some(target.row)
+}
+
+fn offset_in_header(rng: &mut Rng, types: &[DataType]) -> Option<Vec<u8>> {
+    let mut target = Target::new(rng, types)?;
+    let inside = rng.between(1, target.layout.minimum - 1);
+    let inside = rng.pick(&[1, BITMAP, target.layout.table, inside]);
+    target.set_offset(inside as u16);
+    clear_null_bit(&mut target.row, target.column);
+    Some(target.row)
+}
+
+fn zero_offset(rng: &mut Rng, types: &[DataType]) -> Option<Vec<u8>> {
+    let mut target = Target::new(rng, types)?;
+    target.set_offset(0);
+    clear_null_bit(&mut target.row, target.column);
+    Some(target.row)
+}
+
+fn column_count(rng: &mut Rng, types: &[DataType]) -> Vec<u8> {
+    let mut row = base(rng, types);
+    let count = types.len() as u16;
+    let other = rng.between(1, 0xFFFF) as u16;
+    let by = rng.pick(&[1, u16::MAX, 256, other]);
+    row[..2].copy_from_slice(&count.wrapping_add(by).to_le_bytes());
+    row
+}
+
+/// Another Varchar count, the flag as it was.
+fn varchar_count(rng: &mut Rng, types: &[DataType]) -> Vec<u8> {
+    let mut row = base(rng, types);
+    let field = u16::from_le_bytes([row[2], row[3]]);
+    let other = rng.between(1, 0x7FFF) as u16;
+    let by = rng.pick(&[1, PACKED - 1, 256, other]);
+    let count = field.wrapping_add(by) & !PACKED;
+    row[2..4].copy_from_slice(&(field & PACKED | count).to_le_bytes());
+    row
+}
+
+fn flag(rng: &mut Rng, types: &[DataType]) -> Vec<u8> {
+    let mut row = base(rng, types);
+    row[3] ^= (PACKED >> 8) as u8;
+    row
+}
+
+fn above(rng: &mut Rng, types: &[DataType]) -> Vec<u8> {
+    if let Some(row) = build(rng, types, ListSort::RowAbove) {
+        return row;
+    }
+    let mut row = base(rng, types);
+    row.resize(LIMIT + rng.pick(&[1, 2, 1000]), b' ');
+    row
+}
+
+fn random_body(rng: &mut Rng, types: &[DataType]) -> Vec<u8> {
+    let mut row = rust::fresh(types).ok().expect("a fresh row");
+    if rng.one_in(2) {
+        row[3] &= !(PACKED >> 8) as u8;
+    }
+    let minimum = Layout::of_row(types, &row).minimum;
+    let length = match rng.below(4) {
+        0 => minimum,
+        1 => rng.between(4, minimum),
+        _ => minimum + rng.between(0, 40),
+    };
+    row.truncate(4);
+    row.extend(rng.bytes(length - 4));
+    row
+}
+
+/// Wanted columns, in any order, with repeats and unknown numbers.
+pub fn wanted(rng: &mut Rng, columns: usize) -> Vec<u16> {
+    let all = 0..columns as u16;
+    match rng.below(6) {
+        0 => all.collect(),
+        1 => all.rev().collect(),
+        2 => vec![],
+        3 => vec![rng.between(0, columns) as u16],
+        _ => {
+            let length = rng.pick(&[1, 2, 5, 30, 300]);
+            (0..length)
+                .map(|_| any_column(rng, columns) as u16)
+                .collect()
+        }
+    }
+}
+
+/// A column number, mostly one that there is.
+pub fn any_column(rng: &mut Rng, columns: usize) -> usize {
+    if columns == 0 || rng.one_in(8) {
+        unknown_column(rng, columns)
+    } else {
+        rng.below(columns)
+    }
+}
+
+/// A column number that there is not.
+pub fn unknown_column(rng: &mut Rng, columns: usize) -> usize {
+    let far = rng.any_size() as usize;
+    let numbers = [columns, columns + 1, 256, 65_535, 65_536, usize::MAX, far];
+    rng.pick(&numbers).max(columns)
+}

@@ -1,0 +1,50 @@
+//! Inputs for the calls of 01, deterministic from a seed, in both forms: the
+//! bytes that 01 describes and the values that the Rust takes. Here and in all
+//! files of this crate "01" is document 01, which says what each call hands
+//! back, and "the Rust" is the original, the crate `rookdb`.
+//!
+//! What 01 says, written once more and apart from the port:
+//! - `schema`: schema bytes and `Vec<DataType>`, refusals 1 and 2;
+//! - `value`: value lists with their text area and `Vec<Option<DataValue>>`,
+//!   refusal 10, and which values lie outside 01's domain;
+//! - `layout`: places in packed and padded rows;
+//! - `row`: the padded form of a row, soundness, null slots zeroed;
+//! - `history`: a history of edits and what the Rust makes of it.
+//!
+//! What runs and what makes them:
+//! - `rust`: the Rust's calls, panics caught, errors by variant;
+//! - `rng`: the source of the choices;
+//! - `generate`: schemas, texts, values, value lists, rows and histories, good
+//!   and bad, each by a sort that the caller picks or at random.
+//!
+//! tests/ checks all of this against the Rust. It also holds the findings about
+//! the Rust (`findings.rs`) and 01's statements about it (`statements.rs`). No
+//! program is here: a comparison with the port is built on this library.
+
+pub mod generate;
+pub mod history;
+pub mod layout;
+pub mod rng;
+pub mod row;
+pub mod rust;
+pub mod schema;
+pub mod value;
+
+/// The most bytes of a row and of a text area.
+pub const LIMIT: usize = 65_535;
+
+/// The most columns of a schema.
+pub const MAX_COLUMNS: usize = 256;
+
+/// A number of 01's table other than 0, and its place.
+#[derive(Debug, Clone, Copy, PartialEq, Eq)]
+pub struct Refusal {
+    pub number: u32,
+    pub place: usize,
+}
+
+impl Refusal {
+    pub fn new(number: u32, place: usize) -> Self {
+        Refusal { number, place }
+    }
+}

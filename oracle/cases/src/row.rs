@@ -1,0 +1,97 @@
+//! Row bytes, from 01: the padded form, soundness, null slots zeroed.
+
+use crate::layout::{BITMAP, Layout, PACKED, Place};
+use crate::{LIMIT, rust, value};
+use rookdb::types::datatype::DataType;
+
+/// The column's bit in the null bitmap.
+pub fn null_bit(row: &[u8], column: usize) -> bool {
+    (row[BITMAP + column / 8] >> (column % 8)) & 1 == 1
+}
+
+pub fn clear_null_bit(row: &mut [u8], column: usize) {
+    row[BITMAP + column / 8] &= !(1 << (column % 8));
+}
+
+/// The offset table's number of this rank.
+pub fn offset(row: &[u8], layout: &Layout, rank: usize) -> u16 {
+    let at = layout.table + 2 * rank;
+    u16::from_le_bytes([row[at], row[at + 1]])
+}
+
+pub fn set_offset(row: &mut [u8], layout: &Layout, rank: usize, offset: u16) {
+    let at = layout.table + 2 * rank;
+    row[at..at + 2].copy_from_slice(&offset.to_le_bytes());
+}
+
+/// The padded form of a sound packed row: the flag clear, each slot at its
+/// aligned start, `filler` between the slots, offsets moved with the payloads.
+/// `None` if it passes the row limit.
+pub fn padded(types: &[DataType], row: &[u8], filler: u8) -> Option<Vec<u8>> {
+    let from = Layout::packed(types);
+    let to = Layout::padded(types);
+    let shift = to.minimum - from.minimum;
+    if row.len() + shift > LIMIT {
+        return None;
+    }
+    let fixed = from.table + 2 * from.varchars;
+    let mut out = row[..fixed].to_vec();
+    out.resize(to.minimum, filler);
+    out.extend(&row[from.minimum..]);
+    out[3] &= !(PACKED >> 8) as u8;
+    for rank in 0..from.varchars {
+        let old = offset(row, &from, rank);
+        if old != 0 {
+            set_offset(&mut out, &to, rank, old + shift as u16);
+        }
+    }
+    for (old, new) in from.places.iter().zip(&to.places) {
+        if let (Place::Fixed { start, size }, Place::Fixed { start: at, .. }) = (*old, *new) {
+            out[at..at + size].copy_from_slice(&row[start..start + size]);
+        }
+    }
+    Some(out)
+}
+
+/// Whether a read of all columns gives 0: the Rust reads them, and the row and
+/// its dates are within 01's limits.
+pub fn reads(types: &[DataType], row: &[u8]) -> bool {
+    row.len() <= LIMIT
+        && rust::read_all(types, row)
+            .ok()
+            .is_some_and(|values| values.iter().flatten().all(value::in_domain))
+}
+
+/// Whether the row may be edited: all columns read, each Varchar has offset 0
+/// exactly if it is null, and the first other offset, or the row's length if
+/// there is none, is the minimum.
+pub fn is_sound(types: &[DataType], row: &[u8]) -> bool {
+    if !reads(types, row) {
+        return false;
+    }
+    let layout = Layout::of_row(types, row);
+    let nulls_agree = layout
+        .places
+        .iter()
+        .enumerate()
+        .all(|(column, place)| match place {
+            Place::Varchar { rank } => null_bit(row, column) == (offset(row, &layout, *rank) == 0),
+            Place::Fixed { .. } => true,
+        });
+    let first = (0..layout.varchars)
+        .map(|rank| usize::from(offset(row, &layout, rank)))
+        .find(|&offset| offset != 0)
+        .unwrap_or(row.len());
+    nulls_agree && first == layout.minimum
+}
+
+/// Sets the slots of null fixed columns to zero, as demand 3 says.
+pub fn zero_null_slots(types: &[DataType], row: &mut [u8]) {
+    for (column, place) in Layout::of_row(types, row).places.into_iter().enumerate() {
+        if let Place::Fixed { start, size } = place
+            && null_bit(row, column)
+        {
+            row[start..start + size].fill(0);
+        }
+    }
+}

@@ -1,0 +1,32 @@
+//! The same seed gives the same inputs, another seed others.
+
+use cases::generate::{history, list, row, schema, text};
+use cases::rng::Rng;
+
+/// One of everything, many times, as text.
+fn everything(seed: u64) -> String {
+    let mut rng = Rng::new(seed);
+    let mut out = String::new();
+    for _ in 0..100 {
+        let types = schema::any_types(&mut rng);
+        let fault = rng.pick(&text::Fault::ALL);
+        out += &format!(
+            "{:?}{:?}{:?}{:?}{:?}{:?}{:?}",
+            schema::any_schema(&mut rng),
+            types,
+            text::invalid(&mut rng, fault, 9),
+            list::any_list(&mut rng, &types),
+            row::any_row(&mut rng, &types),
+            row::wanted(&mut rng, types.len()),
+            history::history(&mut rng, &types, 5),
+        );
+    }
+    out
+}
+
+#[test]
+fn the_seed_decides() {
+    let first = everything(7);
+    assert!(first == everything(7));
+    assert!(first != everything(8));
+}
