@@ -4,9 +4,22 @@
 test:
 	.ci/run
 
+# The example in C, over the proved library.
 demo: target/staticlib/librook_row.a
 	gcc -std=c11 -Wall -Wextra -Werror -O2 -Iinclude examples/demo.c target/staticlib/librook_row.a -o target/demo
 	target/demo
 
-target/staticlib/librook_row.a: crates.txt $(shell find crates -name '*.rt' -o -name '*.antt')
-	rt staticlib rook_row
+# Time of each call, against the Rust.
+bench: target/staticlib/librook_row.a
+	cargo run --release --offline --quiet --manifest-path native/Cargo.toml --bin bench_text
+
+# The comparison with the Rust for longer: make differential SECONDS=600 SEED=7
+SECONDS = 300
+SEED = 1
+differential: target/staticlib/librook_row.a target/staticlib/librook_probe.a
+	oracle/prepare
+	cd oracle && cargo run --release --offline --quiet --bin differential -- --seconds $(SECONDS) --seed $(SEED)
+
+sources := $(shell find crates -name '*.rt' -o -name '*.antt')
+target/staticlib/lib%.a: crates.txt $(sources)
+	rt staticlib $*

@@ -21,7 +21,11 @@ fn plain(row: &[u8], column: usize) -> Result<bool, u32> {
 
 fn agree(row: &[u8], column: usize) {
     let expected = plain(row, column).map_err(|number| Refusal { number, place: 0 });
-    assert_eq!(is_null(row, column), expected, "column {column} of {row:02X?}");
+    assert_eq!(
+        is_null(row, column),
+        expected,
+        "column {column} of {row:02X?}"
+    );
 }
 
 #[test]
@@ -29,10 +33,34 @@ fn worked_cases() {
     let row = [3, 0, 1, 0x80, 4, 0x0D, 0, 1, 0, 0, 0, 0, 0, 0x41, 0x42];
     assert_eq!(is_null(&row, 0), Ok(false));
     assert_eq!(is_null(&row, 2), Ok(true));
-    assert_eq!(is_null(&row, 3), Err(Refusal { number: 9, place: 0 }));
-    assert_eq!(is_null(&row[..3], 0), Err(Refusal { number: 3, place: 0 }));
-    assert_eq!(is_null(&row[..4], 0), Err(Refusal { number: 3, place: 0 }));
-    assert_eq!(is_null(&[0; 65_536], usize::MAX), Err(Refusal { number: 4, place: 0 }));
+    assert_eq!(
+        is_null(&row, 3),
+        Err(Refusal {
+            number: 9,
+            place: 0
+        })
+    );
+    assert_eq!(
+        is_null(&row[..3], 0),
+        Err(Refusal {
+            number: 3,
+            place: 0
+        })
+    );
+    assert_eq!(
+        is_null(&row[..4], 0),
+        Err(Refusal {
+            number: 3,
+            place: 0
+        })
+    );
+    assert_eq!(
+        is_null(&[0; 65_536], usize::MAX),
+        Err(Refusal {
+            number: 4,
+            place: 0
+        })
+    );
 }
 
 /// Each count around each length, and columns at their limits.
@@ -44,7 +72,10 @@ fn lengths_and_counts() {
             if length >= 2 {
                 row[..2].copy_from_slice(&(count as u16).to_le_bytes());
             }
-            for column in (0..count + 2).step_by(if count > 300 { 97 } else { 1 }).chain([usize::MAX]) {
+            for column in (0..count + 2)
+                .step_by(if count > 300 { 97 } else { 1 })
+                .chain([usize::MAX])
+            {
                 agree(&row, column);
             }
         }
@@ -55,7 +86,9 @@ fn lengths_and_counts() {
 fn random_rows() {
     let mut random = Random(5);
     for _ in 0..200_000 {
-        let mut row: Vec<u8> = (0..random.below(60)).map(|_| random.next_number() as u8).collect();
+        let mut row: Vec<u8> = (0..random.below(60))
+            .map(|_| random.next_number() as u8)
+            .collect();
         if row.len() > 1 && random.below(4) > 0 {
             row[1] = 0;
         }
@@ -63,7 +96,9 @@ fn random_rows() {
     }
     let mut long = vec![0u8; 65_537];
     long[..2].copy_from_slice(&[0xFF, 0xFF]);
-    long[4..8196].iter_mut().for_each(|byte| *byte = random.next_number() as u8);
+    long[4..8196]
+        .iter_mut()
+        .for_each(|byte| *byte = random.next_number() as u8);
     for column in 0..65_535 {
         agree(&long[..65_535], column);
     }

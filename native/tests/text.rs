@@ -4,20 +4,61 @@ use native::{text, Random, ACCENTED, ASCII, THREE_BYTE};
 use rook_row::text_valid;
 
 fn agree(bytes: &[u8]) {
-    assert_eq!(text_valid(bytes), std::str::from_utf8(bytes).is_ok(), "{bytes:02X?}");
+    assert_eq!(
+        text_valid(bytes),
+        std::str::from_utf8(bytes).is_ok(),
+        "{bytes:02X?}"
+    );
 }
 
 /// The bytes at which a range of the grammar begins or ends.
 const BORDERS: [u8; 26] = [
-    0x00, 0x41, 0x7F, 0x80, 0x8F, 0x90, 0x9F, 0xA0, 0xBF, 0xC0, 0xC1, 0xC2, 0xDF, 0xE0, 0xE1, 0xEC, 0xED, 0xEE, 0xEF, 0xF0, 0xF1, 0xF3, 0xF4, 0xF5, 0xFE, 0xFF,
+    0x00, 0x41, 0x7F, 0x80, 0x8F, 0x90, 0x9F, 0xA0, 0xBF, 0xC0, 0xC1, 0xC2, 0xDF, 0xE0, 0xE1, 0xEC,
+    0xED, 0xEE, 0xEF, 0xF0, 0xF1, 0xF3, 0xF4, 0xF5, 0xFE, 0xFF,
 ];
 
 /// Characters, and what is close to one.
 const PIECES: [&[u8]; 40] = [
-    b"\x00", b"a", b"\x7F", b"\x80", b"\xBF", b"\xC0\x80", b"\xC1\xBF", b"\xC2", b"\xC2\x80", b"\xC3\xA9", b"\xDF\xBF", b"\xC2\xC0", b"\xC2a", b"\xC3\xA9\x80", b"\xE0",
-    b"\xE0\xA0", b"\xE0\x9F\x80", b"\xE0\xA0\x80", b"\xE3\x81\x82", b"\xE3\x81", b"\xE3\x81a", b"\xED\x9F\xBF", b"\xED\xA0\x80", b"\xEE\x80\x80", b"\xEF\xBF\xBF",
-    b"\xEF\xBF\xBF\x80", b"\xE3\xC3\xA9", b"\xF0", b"\xF0\x90", b"\xF0\x90\x80", b"\xF0\x90\x80\x80", b"\xF0\x8F\xBF\xBF", b"\xF1\x80\x80\x80", b"\xF3\xBF\xBF\xBF",
-    b"\xF4\x8F\xBF\xBF", b"\xF4\x90\x80\x80", b"\xF5\x80\x80\x80", b"\xF0\x9F\x98\x80\x80", b"\xFE", b"\xFF\xBF",
+    b"\x00",
+    b"a",
+    b"\x7F",
+    b"\x80",
+    b"\xBF",
+    b"\xC0\x80",
+    b"\xC1\xBF",
+    b"\xC2",
+    b"\xC2\x80",
+    b"\xC3\xA9",
+    b"\xDF\xBF",
+    b"\xC2\xC0",
+    b"\xC2a",
+    b"\xC3\xA9\x80",
+    b"\xE0",
+    b"\xE0\xA0",
+    b"\xE0\x9F\x80",
+    b"\xE0\xA0\x80",
+    b"\xE3\x81\x82",
+    b"\xE3\x81",
+    b"\xE3\x81a",
+    b"\xED\x9F\xBF",
+    b"\xED\xA0\x80",
+    b"\xEE\x80\x80",
+    b"\xEF\xBF\xBF",
+    b"\xEF\xBF\xBF\x80",
+    b"\xE3\xC3\xA9",
+    b"\xF0",
+    b"\xF0\x90",
+    b"\xF0\x90\x80",
+    b"\xF0\x90\x80\x80",
+    b"\xF0\x8F\xBF\xBF",
+    b"\xF1\x80\x80\x80",
+    b"\xF3\xBF\xBF\xBF",
+    b"\xF4\x8F\xBF\xBF",
+    b"\xF4\x90\x80\x80",
+    b"\xF5\x80\x80\x80",
+    b"\xF0\x9F\x98\x80\x80",
+    b"\xFE",
+    b"\xFF\xBF",
 ];
 
 #[test]
@@ -58,7 +99,8 @@ fn each_place() {
                 for at in 0..=length {
                     // Over the bytes that stand there, or between them.
                     let mut over = whole.clone();
-                    over[at..(at + piece.len()).min(length)].copy_from_slice(&piece[..piece.len().min(length - at)]);
+                    over[at..(at + piece.len()).min(length)]
+                        .copy_from_slice(&piece[..piece.len().min(length - at)]);
                     agree(&over);
                     agree(&over[..at]);
                 }
@@ -78,14 +120,18 @@ fn random_texts() {
         let length = random.below(301);
         let start = random.below(32);
         if turn % 64 == 0 {
-            buffer.iter_mut().for_each(|byte| *byte = random.next_number() as u8);
+            buffer
+                .iter_mut()
+                .for_each(|byte| *byte = random.next_number() as u8);
         }
         let place = &mut buffer[start..start + length];
         match turn % 4 {
             0 => {
                 // Bytes of the grammar's borders: short texts of these are valid now and then.
                 let length = length % 24;
-                place[..length].iter_mut().for_each(|byte| *byte = BORDERS[random.below(BORDERS.len())]);
+                place[..length]
+                    .iter_mut()
+                    .for_each(|byte| *byte = BORDERS[random.below(BORDERS.len())]);
                 agree(&place[..length]);
             }
             1 => {
@@ -93,7 +139,11 @@ fn random_texts() {
                 let mut at = 0;
                 while at < length {
                     let piece = PIECES[random.below(PIECES.len())];
-                    let piece = if random.below(4) > 0 && std::str::from_utf8(piece).is_err() { b"\xC3\xA9" } else { piece };
+                    let piece = if random.below(4) > 0 && std::str::from_utf8(piece).is_err() {
+                        b"\xC3\xA9"
+                    } else {
+                        piece
+                    };
                     let n = piece.len().min(length - at);
                     place[at..at + n].copy_from_slice(&piece[..n]);
                     at += n;
@@ -108,7 +158,10 @@ fn random_texts() {
                 while source[shift % source.len()] & 0xC0 == 0x80 {
                     shift += 1;
                 }
-                place.iter_mut().enumerate().for_each(|(i, byte)| *byte = source[(shift + i) % source.len()]);
+                place
+                    .iter_mut()
+                    .enumerate()
+                    .for_each(|(i, byte)| *byte = source[(shift + i) % source.len()]);
                 for _ in 0..random.below(3) {
                     if length > 0 {
                         place[random.below(length)] = random.next_number() as u8;

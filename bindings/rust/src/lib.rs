@@ -43,7 +43,10 @@ pub fn is_null(row: &[u8], column: usize) -> Result<bool, Refusal> {
     let answer = unsafe { rook_row_is_null(row.as_ptr(), row.len(), column) };
     match answer.number {
         0 => Ok(answer.flag == 1),
-        number => Err(Refusal { number, place: answer.place }),
+        number => Err(Refusal {
+            number,
+            place: answer.place,
+        }),
     }
 }
 

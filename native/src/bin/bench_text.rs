@@ -1,10 +1,10 @@
 //! Time for one call, ours against `std::str::from_utf8`, in one run on the same texts: medians over rounds in which both take turns.
 //! There are so many texts of each kind that the processor cannot learn them.
 
-use std::hint::black_box;
-use std::time::Instant;
 use native::{text, Random, ACCENTED, ASCII, THREE_BYTE};
 use rook_row::text_valid;
+use std::hint::black_box;
+use std::time::Instant;
 
 const ROUNDS: usize = 101;
 
@@ -30,9 +30,24 @@ fn median(mut times: Vec<f64>) -> f64 {
 
 fn main() {
     let mut random = Random(0x9E37_79B9_7F4A_7C15);
-    let kinds = [("ascii", ASCII), ("accented", ACCENTED), ("three-byte", THREE_BYTE)];
-    let lengths = [("0 to 16", 0, 16), ("16", 16, 16), ("0 to 64", 0, 64), ("64", 64, 64), ("100 to 200", 100, 200), ("1000", 1000, 1000), ("60000", 60000, 60000)];
-    println!("{:<12}{:<12}{:>12}{:>12}{:>8}", "text", "bytes", "from_utf8", "ours", "ratio");
+    let kinds = [
+        ("ascii", ASCII),
+        ("accented", ACCENTED),
+        ("three-byte", THREE_BYTE),
+    ];
+    let lengths = [
+        ("0 to 16", 0, 16),
+        ("16", 16, 16),
+        ("0 to 64", 0, 64),
+        ("64", 64, 64),
+        ("100 to 200", 100, 200),
+        ("1000", 1000, 1000),
+        ("60000", 60000, 60000),
+    ];
+    println!(
+        "{:<12}{:<12}{:>12}{:>12}{:>8}",
+        "text", "bytes", "from_utf8", "ours", "ratio"
+    );
     for (kind, sources) in kinds {
         for (label, low, high) in lengths {
             let count = (3_000_000 / (high + 20)).clamp(12, 30_000);
@@ -53,7 +68,10 @@ fn main() {
                 times[1].push(nanoseconds(text_valid, &texts, repeats));
             }
             let [std_time, our_time] = times.map(median);
-            println!("{kind:<12}{label:<12}{std_time:>12.1}{our_time:>12.1}{:>8.2}", our_time / std_time);
+            println!(
+                "{kind:<12}{label:<12}{std_time:>12.1}{our_time:>12.1}{:>8.2}",
+                our_time / std_time
+            );
         }
     }
 }

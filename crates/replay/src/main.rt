@@ -1,0 +1,228 @@
+// Runs the library on recorded inputs and compares with what the Rust answered there.
+// oracle/differential/src/recorded.rs describes the records on standard input, and writes them.
+use datatype::SchemaCheck;
+use libc::STDOUT_FILENO;
+use null_bitmap::NullFlag;
+ghost use Prim.Native.Nat.{_+_, _≤_};
+ghost use lib.ListN.{length};
+
+const NOTE: u8 = 0;
+
+const TEXT: u8 = 1;
+
+const NULL_FLAG: u8 = 2;
+
+const LAYOUT: u8 = 3;
+
+const PLANTED: u8 = 128;
+
+// The answers to one call. Of the planted ones, which are wrong, `found` were told apart.
+struct Tally {
+    same: u64,
+    different: u64,
+    planted: u64,
+    found: u64,
+}
+
+struct Tallies {
+    text: Tally,
+    null_flag: Tally,
+    layout: Tally,
+    unknown: u64,
+    done: bool,
+}
+
+fn say(words: &[u8]) {
+    io::write_all(STDOUT_FILENO, words);
+}
+
+// One more, for a count that no run brings to its end.
+fn one_more(n: u64) -> u64 {
+    if n < u64::MAX { n + 1 } else { n }
+}
+
+fn no_tally() -> Tally {
+    Tally {
+        same: 0,
+        different: 0,
+        planted: 0,
+        found: 0,
+    }
+}
+
+fn counted(tally: Tally, same: bool, planted: bool) -> Tally {
+    let mut next = tally;
+    if planted {
+        next.planted = one_more(next.planted);
+        if !same {
+            next.found = one_more(next.found);
+        }
+    } else if same {
+        next.same = one_more(next.same);
+    } else {
+        next.different = one_more(next.different);
+    }
+    next
+}
+
+// The length of the first of some fields, or 0 if not all of it is there.
+fn field_length(fields: &[u8]) -> usize
+    requires { ⌜ 4 ≤ length (now fields) ⌝ }
+    ensures { λ r. ⌜ 4 + r ≤ length (now (fields .entry)) ⌝ }
+{
+    let n = endian::read_u32(fields, 0) as usize;
+    if n <= fields.len() - 4 { n } else { 0 }
+}
+
+// The first of some fields.
+fn field<'r>(fields: &'r [u8]) -> &'r [u8] {
+    if fields.len() < 4 {
+        return fields;
+    }
+    let end = 4 + field_length(fields);
+    &fields[4..end]
+}
+
+// The fields after the first.
+fn after<'r>(fields: &'r [u8]) -> &'r [u8] {
+    if fields.len() < 4 {
+        return fields;
+    }
+    let end = 4 + field_length(fields);
+    &fields[end..]
+}
+
+fn same_text(s: &[u8], answer: &[u8]) -> bool {
+    answer.len() == 1 && answer[0] == text::is_valid(s) as u8
+}
+
+fn same_null_flag(row: &[u8], column: &[u8], answer: &[u8]) -> bool {
+    if column.len() != 8 {
+        return false;
+    }
+    if answer.len() != 2 {
+        return false;
+    }
+    let outcome = answer[0];
+    let flag = answer[1];
+    match null_bitmap::is_column_null_in_row(row, endian::read_u64(column, 0) as usize) {
+        NullFlag::Is(null) => outcome == 0 && flag == null as u8,
+        NullFlag::Refused(r) => outcome == variant(r.number()) && flag == 0,
+    }
+}
+
+// The variant of the Rust's error that a number stands for: 1 Internal, 2 TypeMismatch, 255 none.
+fn variant(number: u32) -> u8 {
+    if number == 3 || number == 5 || number == 6 || number == 9 || number == 11 {
+        1
+    } else if number == 8 || number == 12 {
+        2
+    } else {
+        255
+    }
+}
+
+fn same_layout(schema: &[u8], answer: &[u8]) -> bool {
+    if answer.len() != 16 {
+        return false;
+    }
+    match datatype::check_schema(schema) {
+        SchemaCheck::Good(layout) => {
+            endian::read_u32(answer, 0) as usize == layout.num_columns
+                && endian::read_u32(answer, 4) as usize == layout.num_varlen_cols
+                && endian::read_u32(answer, 8) as usize == layout.packed_size
+                && endian::read_u32(answer, 12) as usize == layout.padded_size
+        }
+        SchemaCheck::Refused(_) => false,
+    }
+}
+
+// A record's kind is its first byte, then come its fields. An empty one fills a block up.
+fn run(tallies: Tallies, record: &[u8]) -> Tallies {
+    let mut next = tallies;
+    if record.len() == 0 {
+        return next;
+    }
+    let planted = record[0] >= PLANTED;
+    let kind = record[0] % PLANTED;
+    let fields = &record[1..];
+    let input = field(fields);
+    let more = after(fields);
+    let answer = field(more);
+    if kind == NOTE {
+        say(input);
+    } else if kind == TEXT {
+        next.text = counted(next.text, same_text(input, answer), planted);
+    } else if kind == NULL_FLAG {
+        let same = same_null_flag(input, answer, field(after(more)));
+        next.null_flag = counted(next.null_flag, same, planted);
+    } else if kind == LAYOUT {
+        next.layout = counted(next.layout, same_layout(input, answer), planted);
+    } else {
+        next.unknown = one_more(next.unknown);
+    }
+    next
+}
+
+fn say_tally(name: &[u8], tally: Tally) {
+    say(name);
+    io::print_decimal(STDOUT_FILENO, tally.same);
+    say(b" the same, ");
+    io::print_decimal(STDOUT_FILENO, tally.different);
+    say(b" different; planted ");
+    io::print_decimal(STDOUT_FILENO, tally.planted);
+    say(b", found ");
+    io::print_decimal(STDOUT_FILENO, tally.found);
+    say(b"\n");
+}
+
+// A block is a list of records in the form of fields.
+fn run_block(tallies: Tallies, block: &[u8]) -> Tallies {
+    let mut next = tallies;
+    let mut at = 0;
+    while block.len() - at >= 4 {
+        let records = &block[at..];
+        next = run(next, field(records));
+        at += 4 + field_length(records);
+    }
+    next
+}
+
+// Reads a block, which fills the buffer, and runs it.
+fn step(tallies: Tallies, buffer: &mut [u8]) -> Tallies {
+    let n = io::read_full(0, buffer);
+    if n == 0 {
+        let mut last = tallies;
+        last.done = true;
+        return last;
+    }
+    run_block(tallies, &buffer[..n])
+}
+
+// A proved loop has to end, and nothing says that the input does: the turns are counted down.
+fn run_all(buffer: &mut [u8]) -> Tallies {
+    let mut tallies = Tallies {
+        text: no_tally(),
+        null_flag: no_tally(),
+        layout: no_tally(),
+        unknown: 0,
+        done: false,
+    };
+    let mut turns = u64::MAX;
+    while turns > 0 && !tallies.done {
+        tallies = step(tallies, buffer);
+        turns -= 1;
+    }
+    tallies
+}
+
+fn main() {
+    let mut buffer = io::large_buffer();
+    let tallies = run_all(&mut buffer);
+    say_tally(b"text: ", tallies.text);
+    say_tally(b"null flag: ", tallies.null_flag);
+    say_tally(b"schema and layout: ", tallies.layout);
+    say(b"records not understood: ");
+    io::print_decimal(STDOUT_FILENO, tallies.unknown);
+    say(b"\n");
+}

@@ -1,0 +1,54 @@
+//! The text check against `std::str::from_utf8`, by which the Rust decides.
+
+use crate::{Compared, hex};
+use cases::generate::text::{Fault, Sort, invalid, valid};
+use cases::rng::Rng;
+
+#[derive(Debug, Clone, Copy)]
+pub enum Kind {
+    Valid(Sort),
+    Invalid(Fault),
+    /// A valid text with one bit changed.
+    Flipped,
+    Random,
+}
+
+/// A text, mostly short, up to 70,000 bytes.
+pub fn text(rng: &mut Rng) -> (Kind, Vec<u8>) {
+    let length = match rng.below(64) {
+        0 => rng.between(0, 70_000),
+        1..=15 => rng.between(0, 600),
+        _ => rng.between(0, 40),
+    };
+    let sort = rng.pick(&Sort::ALL);
+    match rng.below(4) {
+        0 => (Kind::Valid(sort), valid(rng, sort, length)),
+        1 => {
+            let fault = rng.pick(&Fault::ALL);
+            let text =
+                invalid(rng, fault, length.max(4)).expect("a fault takes four bytes at most");
+            (Kind::Invalid(fault), text)
+        }
+        2 => {
+            let mut text = valid(rng, sort, length.max(1));
+            let at = rng.below(text.len());
+            text[at] ^= 1 << rng.below(8);
+            (Kind::Flipped, text)
+        }
+        _ => {
+            let length = rng.between(0, 6);
+            (Kind::Random, rng.bytes(length))
+        }
+    }
+}
+
+pub fn rust(text: &[u8]) -> bool {
+    std::str::from_utf8(text).is_ok()
+}
+
+pub fn compare(rng: &mut Rng) -> Compared {
+    let (kind, text) = text(rng);
+    Compared::new(kind, rook_row::text_valid(&text), rust(&text), || {
+        format!("text {}", hex(&text))
+    })
+}

@@ -1,0 +1,141 @@
+//! A sample of the Rust's answers as a file, for a program of the port that runs
+//! with no Rust at hand. The file is a list of records. A record is the length
+//! of what follows (four bytes, low byte first), a byte of kind, and fields,
+//! each with its length in four bytes before it; the last field is the answer.
+//! No record crosses the end of a block of 65,536 bytes: zeros fill the block.
+//!
+//! | kind | fields |
+//! |---|---|
+//! | 0 | a note to print; no answer |
+//! | 1 | text; answer 1 or 0 |
+//! | 2 | row, column (8 bytes); answer: variant, flag |
+//! | 3 | schema; answer: columns, Varchars, fixed bytes packed and padded (4 bytes each) |
+//!
+//! A variant is 0 for `Ok`, 1 for `Internal`, 2 for `TypeMismatch`. 128 added to
+//! a kind says that the answer was changed by hand: a run must find it wrong.
+
+use crate::compare::{layout, null_flag, text};
+use cases::LIMIT;
+use cases::generate::schema::any_schema;
+use cases::rng::Rng;
+use cases::rust::{self, Outcome};
+use cases::schema::read_schema;
+
+const NOTE: u8 = 0;
+const TEXT: u8 = 1;
+const NULL_FLAG: u8 = 2;
+const LAYOUT: u8 = 3;
+const PLANTED: u8 = 128;
+
+/// The seed that the file is made from.
+const SEED: u64 = 20_261_115;
+
+const BLOCK: usize = 65_536;
+
+/// The longest input of a record, so that the file stays small.
+const LONGEST: usize = 1500;
+
+struct Record {
+    kind: u8,
+    inputs: Vec<Vec<u8>>,
+    answer: Vec<u8>,
+}
+
+impl Record {
+    /// The record with one bit of its answer changed.
+    fn planted(mut self, rng: &mut Rng) -> Self {
+        let at = rng.below(self.answer.len());
+        self.answer[at] ^= 1;
+        self.kind += PLANTED;
+        self
+    }
+
+    fn write(&self, out: &mut Vec<u8>) {
+        let mut body = vec![self.kind];
+        for field in self.inputs.iter().chain([&self.answer]) {
+            body.extend((field.len() as u32).to_le_bytes());
+            body.extend(field);
+        }
+        if out.len() % BLOCK + 4 + body.len() > BLOCK {
+            out.resize(out.len().next_multiple_of(BLOCK), 0);
+        }
+        out.extend((body.len() as u32).to_le_bytes());
+        out.extend(body);
+    }
+}
+
+fn text(rng: &mut Rng) -> Option<Record> {
+    let (_, text) = text::text(rng);
+    let answer = vec![u8::from(text::rust(&text))];
+    (text.len() <= LONGEST).then(|| Record {
+        kind: TEXT,
+        inputs: vec![text],
+        answer,
+    })
+}
+
+fn null_flag(rng: &mut Rng) -> Option<Record> {
+    let (_, row, column) = null_flag::input(rng);
+    if row.len() > LONGEST.min(LIMIT) {
+        return None;
+    }
+    let answer = match rust::is_null(&row, column) {
+        Outcome::Ok(null) => vec![0, u8::from(null)],
+        Outcome::Internal => vec![1, 0],
+        _ => return None,
+    };
+    Some(Record {
+        kind: NULL_FLAG,
+        inputs: vec![row, (column as u64).to_le_bytes().to_vec()],
+        answer,
+    })
+}
+
+fn layout(rng: &mut Rng) -> Option<Record> {
+    let (_, schema) = any_schema(rng);
+    read_schema(&schema.bytes).ok()?;
+    let wanted = layout::wanted(&schema.bytes);
+    let numbers = [wanted.columns, wanted.varlens, wanted.packed, wanted.padded];
+    Some(Record {
+        kind: LAYOUT,
+        inputs: vec![schema.bytes],
+        answer: numbers
+            .iter()
+            .flat_map(|&number| (number as u32).to_le_bytes())
+            .collect(),
+    })
+}
+
+/// So many records, and one with a wrong answer.
+fn samples(rng: &mut Rng, make: fn(&mut Rng) -> Option<Record>, count: usize, out: &mut Vec<u8>) {
+    for number in 0..=count {
+        let record = loop {
+            if let Some(record) = make(rng) {
+                break record;
+            }
+        };
+        match number {
+            0 => record.planted(rng).write(out),
+            _ => record.write(out),
+        }
+    }
+}
+
+/// The file.
+pub fn file() -> Vec<u8> {
+    let note = format!(
+        "Answers of RookDB, commit 4401c3aafd, recorded by oracle/record with seed {SEED}\n"
+    );
+    let mut out = Vec::new();
+    let note = Record {
+        kind: NOTE,
+        inputs: vec![],
+        answer: note.into_bytes(),
+    };
+    note.write(&mut out);
+    let mut rng = Rng::new(SEED);
+    samples(&mut rng, text, 800, &mut out);
+    samples(&mut rng, null_flag, 600, &mut out);
+    samples(&mut rng, layout, 200, &mut out);
+    out
+}
