@@ -2,6 +2,6 @@ pub mod Tests
 pub mod Truths
 pub mod Stores
 pub mod Bytes
-pub mod Each
+pub mod Forall
 pub mod Parts
 pub mod Bits

@@ -9,9 +9,9 @@ use lib.ListN.{length, getD, take, drop, length-append, length-replicate, List·
 use lib.Seq.{drop-drop, take-at, drop-at, drop-append-seam, split-at}
 use Rattle.laws.specs.Bytes.{fromLe, concat, entryAt}
 use Rattle.laws.specs.Bits.{bitAt}
-use Rattle.laws.specs.Each.{Each, nil, cons}
+use Rattle.laws.specs.Forall.{Forall₂, nil, cons}
 use Rattle.laws.proofs.Bytes.{from-to}
-use Rattle.laws.proofs.Each.{each-length}
+use Rattle.laws.proofs.Forall.{forall-length}
 use Rattle.row_format.specs.declared.Shape.{Shape}
 use Rattle.row_format.specs.declared.Shape.the-variants.{Fixed, Varlen}
 use Rattle.row_format.specs.Places.{varlens, fixedSize, rankOf, slotAfter, slotStart, bitmapStart, bitmapSize, tableStart, fixedStart, minimum}
@@ -44,19 +44,19 @@ concat-append (x ∷ xs) ys = rw (concat-append xs ys, append-assoc)
 concat-at : (xs : List (List ℕ)) (i : ℕ) → i < length xs → concat xs ≡ concat (take i xs) ++ (getD xs i [] ++ concat (drop (suc i) xs))
 concat-at xs i h = ap concat (split-at xs i [] h) ∙ concat-append (take i xs) (getD xs i [] ∷ drop (suc i) xs)
 
-pub length-slots : {ss : List Shape} {bs : List (List ℕ)} → Each FitsSlot ss bs → length (concat bs) ≡ fixedSize true ss
+pub length-slots : {ss : List Shape} {bs : List (List ℕ)} → Forall₂ FitsSlot ss bs → length (concat bs) ≡ fixedSize true ss
 length-slots nil = refl
 length-slots (cons {a = s} {xs = ss} r e) = rw (length-append, length-slots e, r, packed-cons s ss)
 
-each-take : {ss : List Shape} {bs : List (List ℕ)} (i : ℕ) → Each FitsSlot ss bs → Each FitsSlot (take i ss) (take i bs)
-each-take zero e = nil
-each-take (suc i) nil = nil
-each-take (suc i) (cons r e) = cons r (each-take i e)
+forall-take : {ss : List Shape} {bs : List (List ℕ)} (i : ℕ) → Forall₂ FitsSlot ss bs → Forall₂ FitsSlot (take i ss) (take i bs)
+forall-take zero e = nil
+forall-take (suc i) nil = nil
+forall-take (suc i) (cons r e) = cons r (forall-take i e)
 
-each-at : {ss : List Shape} {bs : List (List ℕ)} (i : ℕ) → Each FitsSlot ss bs → length (getD bs i []) ≡ slotSize (getD ss i Varlen)
-each-at i nil = refl
-each-at zero (cons r e) = r
-each-at (suc i) (cons r e) = each-at i e
+forall-at : {ss : List Shape} {bs : List (List ℕ)} (i : ℕ) → Forall₂ FitsSlot ss bs → length (getD bs i []) ≡ slotSize (getD ss i Varlen)
+forall-at i nil = refl
+forall-at zero (cons r e) = r
+forall-at (suc i) (cons r e) = forall-at i e
 
 packed-start : (s : Shape) (at : ℕ) → slotAfter true s at ≡ at
 packed-start (Fixed z a) at = refl
@@ -64,7 +64,7 @@ packed-start Varlen at = refl
 
 -- ---- the cells of Varchars
 
-pub length-varlens : {ss : List Shape} {cs : List Cell} → Each FitsCell ss cs → length (varlenCells ss cs) ≡ varlens ss
+pub length-varlens : {ss : List Shape} {cs : List Cell} → Forall₂ FitsCell ss cs → length (varlenCells ss cs) ≡ varlens ss
 length-varlens nil = refl
 length-varlens (cons {a = Fixed z a} {xs = ss} r e) = length-varlens e
 length-varlens (cons {a = Varlen} {xs = ss} r e) = rw (varlens-cons Varlen ss) (omega (arith, length-varlens e))
@@ -73,7 +73,7 @@ pub record OfRank (ss : List Shape) (cs : List Cell) (i : ℕ) : Type 0 where
   pub inside : rankOf ss i < length (varlenCells ss cs)
   pub cell : getD (varlenCells ss cs) (rankOf ss i) none ≡ getD cs i none
 
-pub of-rank : {ss : List Shape} {cs : List Cell} (i : ℕ) → Each FitsCell ss cs → i < length ss → getD ss i Varlen ≡ Varlen → OfRank ss cs i
+pub of-rank : {ss : List Shape} {cs : List Cell} (i : ℕ) → Forall₂ FitsCell ss cs → i < length ss → getD ss i Varlen ≡ Varlen → OfRank ss cs i
 of-rank i nil h v = absurd (omega arith)
 of-rank zero (cons {a = Fixed z a} r e) h v = let q : _≡_ {A = ℕ} 0 1 = cc in absurd (omega arith)
 of-rank zero (cons {a = Varlen} r e) h v = record { inside = omega arith; cell = refl }
@@ -85,7 +85,7 @@ of-rank (suc i) (cons {a = Varlen} {b = c} {xs = ss} {ys = cs} r e) h v =
 
 -- ---- the row
 
-module _ (w : ℕ) (h : List ℕ) (four : length h ≡ 4) {ss : List Shape} {cs : List Cell} {bs : List (List ℕ)} (cells : Each FitsCell ss cs) (slots : Each FitsSlot ss bs) where
+module _ (w : ℕ) (h : List ℕ) (four : length h ≡ 4) {ss : List Shape} {cs : List Cell} {bs : List (List ℕ)} (cells : Forall₂ FitsCell ss cs) (slots : Forall₂ FitsSlot ss bs) where
   abbrev n : ℕ
   n = length ss
 
@@ -112,9 +112,9 @@ module _ (w : ℕ) (h : List ℕ) (four : length h ≡ 4) {ss : List Shape} {cs 
   unfolding rowWith
   slot-row i k =
       let at : fixedStart w n (varlens ss) + slotStart true ss i ≡ length front + length (varlenCells ss cs) * w + length (concat (take i bs))
-      = rw (length-front, length-varlens cells, packed-start, length-slots (each-take i slots)) in
-      rw (at, ← drop-drop, past-table, concat-at bs i (rw (each-length slots) k), append-assoc, drop-append-seam, append-assoc)
-      (take-at (getD bs i []) _ (slotSize (getD ss i Varlen)) (each-at i slots))
+      = rw (length-front, length-varlens cells, packed-start, length-slots (forall-take i slots)) in
+      rw (at, ← drop-drop, past-table, concat-at bs i (rw (forall-length slots) k), append-assoc, drop-append-seam, append-assoc)
+      (take-at (getD bs i []) _ (slotSize (getD ss i Varlen)) (forall-at i slots))
 
   -- where the payload of column i stands
   abbrev pub payloadAt : ℕ → ℕ
@@ -142,7 +142,7 @@ module _ (w : ℕ) (h : List ℕ) (four : length h ≡ 4) {ss : List Shape} {cs 
 
 -- ---- the row that is built
 
-pub slots-fit : {ss : List Shape} {cs : List Cell} → Each FitsCell ss cs → Each FitsSlot ss (slotsOf ss cs)
+pub slots-fit : {ss : List Shape} {cs : List Cell} → Forall₂ FitsCell ss cs → Forall₂ FitsSlot ss (slotsOf ss cs)
 slots-fit nil = nil
 slots-fit (cons {a = Fixed z a} {b = none} r e) = cons (length-replicate {A = ℕ} z 0) (slots-fit e)
 slots-fit (cons {a = Fixed z a} {b = some b} r e) = cons r (slots-fit e)

@@ -10,7 +10,7 @@ use lib.ListN.{length, getD, take, drop, length-append, drop-of-length-le}
 use lib.Seq.{drop-drop, take-at, drop-at, drop-append-seam, take-append-seam, getD-at, getD-append-seam, append-snoc, split-at, drop-cons}
 use Rattle.laws.specs.Bytes.{toTable, fromTable, entryAt}
 use Rattle.laws.proofs.Bytes.{Below, length-toTable, length-fromTable, table-from-to, table-entry}
-use Rattle.laws.proofs.Each.{by-cut}
+use Rattle.laws.proofs.Forall.{by-cut}
 use Rattle.row_format.specs.Table.{Cell, bytes, payloads, offset, offsets, base, lay, orElse, firstOffset, rangeEnd, rangeBytes}
 
 -- ---- offsets and payloads
