@@ -5,3 +5,4 @@ pub mod Bytes
 pub mod Forall
 pub mod Parts
 pub mod Bits
+pub mod Table
