@@ -3,7 +3,9 @@ ghost use mathlib.Core.Path.{_≡_};
 ghost use Prim.Native.Nat.{_+_, _≤_};
 ghost use lib.ListN.{length, take, drop, replicate};
 ghost use lib.Seq.{sets};
-ghost use Rattle.laws.specs.Bytes.{toLe, fromLe};
+ghost use mir.Syntax.{w16, w32, w64};
+ghost use mir.Val.{toZ, ofZ};
+ghost use Rattle.laws.specs.Bytes.{toLe, fromLe, sameBytes};
 
 pub fn read_u16(s: &[u8], at: usize) -> u16
     requires { ⌜ at + 2 ≤ length (now s) ⌝ }
@@ -48,6 +50,48 @@ pub fn write_u64(s: &mut [u8], at: usize, x: u64)
 {
     write_u32(s, at, (x % 4294967296) as u32);
     write_u32(s, at + 4, (x / 4294967296) as u32);
+}
+
+pub fn read_i16(s: &[u8], at: usize) -> i16
+    requires { ⌜ at + 2 ≤ length (now s) ⌝ }
+    ensures { λ r. ⌜ r ≡ toZ w16 (fromLe (take 2 (drop at (now (s .entry))))) ⌝ }
+{
+    signed::cast_signed_16(read_u16(s, at))
+}
+
+pub fn read_i32(s: &[u8], at: usize) -> i32
+    requires { ⌜ at + 4 ≤ length (now s) ⌝ }
+    ensures { λ r. ⌜ r ≡ toZ w32 (fromLe (take 4 (drop at (now (s .entry))))) ⌝ }
+{
+    signed::cast_signed_32(read_u32(s, at))
+}
+
+pub fn read_i64(s: &[u8], at: usize) -> i64
+    requires { ⌜ at + 8 ≤ length (now s) ⌝ }
+    ensures { λ r. ⌜ r ≡ toZ w64 (fromLe (take 8 (drop at (now (s .entry))))) ⌝ }
+{
+    signed::cast_signed_64(read_u64(s, at))
+}
+
+pub fn write_i16(s: &mut [u8], at: usize, x: i16)
+    requires { ⌜ at + 2 ≤ length (now s) ⌝ }
+    ensures { λ _. ⌜ now (s .exit) ≡ sets (now (s .entry)) at (toLe 2 (ofZ w16 x)) ⌝ }
+{
+    write_u16(s, at, signed::cast_unsigned_16(x));
+}
+
+pub fn write_i32(s: &mut [u8], at: usize, x: i32)
+    requires { ⌜ at + 4 ≤ length (now s) ⌝ }
+    ensures { λ _. ⌜ now (s .exit) ≡ sets (now (s .entry)) at (toLe 4 (ofZ w32 x)) ⌝ }
+{
+    write_u32(s, at, signed::cast_unsigned_32(x));
+}
+
+pub fn write_i64(s: &mut [u8], at: usize, x: i64)
+    requires { ⌜ at + 8 ≤ length (now s) ⌝ }
+    ensures { λ _. ⌜ now (s .exit) ≡ sets (now (s .entry)) at (toLe 8 (ofZ w64 x)) ⌝ }
+{
+    write_u64(s, at, signed::cast_unsigned_64(x));
 }
 
 pub fn copy(s: &mut [u8], at: usize, src: &[u8])
@@ -106,4 +150,20 @@ pub fn move_within(s: &mut [u8], from: usize, to: usize, n: usize)
     } else {
         move_up(s, from, to, n);
     }
+}
+
+pub fn same_bytes(a: &[u8], b: &[u8]) -> bool
+    ensures { λ r. ⌜ r ≡ sameBytes (now (a .entry)) (now (b .entry)) ⌝ }
+{
+    if a.len() != b.len() {
+        return false;
+    }
+    let mut i = 0;
+    while i < a.len() {
+        if a[i] != b[i] {
+            return false;
+        }
+        i += 1;
+    }
+    true
 }

@@ -6,3 +6,4 @@ pub mod Forall
 pub mod Parts
 pub mod Bits
 pub mod Table
+pub mod Same

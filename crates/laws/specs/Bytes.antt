@@ -1,6 +1,8 @@
 -- Numbers as bytes, tables of numbers, and bytes replaced in a list.
 use Prim.Native.Nat.{ℕ, zero, suc, _+_, _*_, _/_, _%_}
+use mathlib.Core.Bool.{Bool, true, false, _&&_}
 use mathlib.Core.List.{List, [], _∷_, _++_}
+use lib.Dec.{eqb}
 use lib.ListN.{take, drop}
 
 -- x in w bytes, the low byte first ("numbers are little-endian"), and the number that bytes hold
@@ -33,3 +35,10 @@ splice s e new r = take s r ++ (new ++ drop e r)
 abbrev pub concat : List (List ℕ) → List ℕ
 concat [] = []
 concat (b ∷ bs) = b ++ concat bs
+
+-- whether two lists are the same
+abbrev pub sameBytes : List ℕ → List ℕ → Bool
+sameBytes [] [] = true
+sameBytes [] (y ∷ ys) = false
+sameBytes (x ∷ xs) [] = false
+sameBytes (x ∷ xs) (y ∷ ys) = eqb x y && sameBytes xs ys

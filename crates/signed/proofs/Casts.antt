@@ -87,3 +87,12 @@ module _ (w : Width) (z : ℤ) (f : SFits w z) where
 
     pub plain-bits : natAbs (toZ w (ofZ w z)) ≡ ofZ w z
     plain-bits = ap natAbs (read ∙ is-positive) ∙ ap (ofZ w) (sym is-positive)
+
+-- ---- a number handed to a call, and one that a call answered
+
+module _ (w : Width) where
+  pub passed : {r z : ℤ} → SFits w r → r ≡ z → toZ w (ofZ w r) ≡ z
+  passed {r = r} f e = toZ-ofZ w r f ∙ e
+
+  pub handed : (z : ℤ) {n : ℕ} → SFits w z → n ≡ ofZ w (toZ w (ofZ w z)) → n ≡ ofZ w z
+  handed z f e = e ∙ ap (ofZ w) (toZ-ofZ w z f)

@@ -1,0 +1,47 @@
+-- 01, "Schema and value bytes": "Value kinds", and `data_value_matches_type`.
+use Prim.Native.Nat.{ℕ}
+use mathlib.Core.Bool.{Bool}
+use lib.Dec.{eqb}
+use Rattle.datatype.specs.declared.DataType.{DataType}
+use Rattle.datatype.specs.declared.DataType.the-variants as T
+use Rattle.value.specs.declared.DataValue.{DataValue}
+use Rattle.value.specs.declared.DataValue.the-variants as D
+
+-- "0 null", "1 SmallInt", "2 Int", .., "13 Timestamp"
+abbrev pub kindOf : DataValue → ℕ
+kindOf D.Null = 0
+kindOf (D.SmallInt x) = 1
+kindOf (D.Int x) = 2
+kindOf (D.BigInt x) = 3
+kindOf (D.Real x) = 4
+kindOf (D.DoublePrecision x) = 5
+kindOf (D.Numeric n) = 6
+kindOf (D.Bool b) = 7
+kindOf (D.Char r) = 8
+kindOf (D.Varchar r) = 9
+kindOf (D.Date x) = 10
+kindOf (D.Time x) = 11
+kindOf (D.Bit r) = 12
+kindOf (D.Timestamp x) = 13
+
+-- the kind of a type's values
+abbrev pub valueKind : DataType → ℕ
+valueKind T.SmallInt = 1
+valueKind T.Int = 2
+valueKind T.BigInt = 3
+valueKind T.Real = 4
+valueKind T.DoublePrecision = 5
+valueKind (T.Numeric p s) = 6
+valueKind (T.Decimal p s) = 6
+valueKind T.Bool = 7
+valueKind (T.Char n) = 8
+valueKind (T.Character n) = 8
+valueKind (T.Varchar n) = 9
+valueKind T.Date = 10
+valueKind T.Time = 11
+valueKind (T.Bit n) = 12
+valueKind T.Timestamp = 13
+
+-- 11: "value kind does not match the column's type"; null, which every row may hold, matches none
+abbrev pub matches : DataType → DataValue → Bool
+matches t v = eqb (kindOf v) (valueKind t)
