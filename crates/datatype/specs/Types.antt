@@ -60,3 +60,55 @@ isVarlen Timestamp = false
 
 abbrev pub shapeOf : DataType → Shape
 shapeOf t = cond (isVarlen t) Varlen (Fixed (sizeOf t) (alignmentOf t))
+
+-- what a type was declared with: precision, scale and n, 0 where it has none
+abbrev pub precisionOf : DataType → ℕ
+precisionOf SmallInt = 0
+precisionOf Int = 0
+precisionOf BigInt = 0
+precisionOf Real = 0
+precisionOf DoublePrecision = 0
+precisionOf (Numeric p s) = p
+precisionOf (Decimal p s) = p
+precisionOf Boolean = 0
+precisionOf (Char n) = 0
+precisionOf (Character n) = 0
+precisionOf (Varchar n) = 0
+precisionOf Date = 0
+precisionOf Time = 0
+precisionOf (Bit n) = 0
+precisionOf Timestamp = 0
+
+abbrev pub scaleOf : DataType → ℕ
+scaleOf SmallInt = 0
+scaleOf Int = 0
+scaleOf BigInt = 0
+scaleOf Real = 0
+scaleOf DoublePrecision = 0
+scaleOf (Numeric p s) = s
+scaleOf (Decimal p s) = s
+scaleOf Boolean = 0
+scaleOf (Char n) = 0
+scaleOf (Character n) = 0
+scaleOf (Varchar n) = 0
+scaleOf Date = 0
+scaleOf Time = 0
+scaleOf (Bit n) = 0
+scaleOf Timestamp = 0
+
+abbrev pub lengthOf : DataType → ℕ
+lengthOf SmallInt = 0
+lengthOf Int = 0
+lengthOf BigInt = 0
+lengthOf Real = 0
+lengthOf DoublePrecision = 0
+lengthOf (Numeric p s) = 0
+lengthOf (Decimal p s) = 0
+lengthOf Boolean = 0
+lengthOf (Char n) = n
+lengthOf (Character n) = n
+lengthOf (Varchar n) = n
+lengthOf Date = 0
+lengthOf Time = 0
+lengthOf (Bit n) = n
+lengthOf Timestamp = 0

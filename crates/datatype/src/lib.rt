@@ -8,7 +8,7 @@ ghost use Prim.Native.Nat.{_<_, _≤_};
 ghost use lib.ListN.{length};
 ghost use Rattle.row_format.specs.Places.{offsetWidth, rowLimit};
 ghost use Rattle.row_layout.specs.Layout.{Small, Bounded};
-ghost use Rattle.datatype.specs.Types.{sizeOf, alignmentOf, isVarlen, shapeOf};
+ghost use Rattle.datatype.specs.Types.{sizeOf, alignmentOf, isVarlen, shapeOf, precisionOf, scaleOf, lengthOf};
 ghost use Rattle.datatype.specs.Schema.{goodDigits, bodyKind, recordOf, recordAt, schemaOf};
 ghost use Rattle.datatype.specs.Check.{checked, finished, BoundedIn};
 
@@ -113,6 +113,93 @@ impl DataType {
             DataType::Time => false,
             DataType::Bit(_) => false,
             DataType::Timestamp => false,
+        }
+    }
+
+    // The digits of a Numeric or Decimal; 0 for other types.
+    pub fn precision(self) -> u8
+        ensures { λ r. ⌜ r ≡ precisionOf self ⌝ }
+    {
+        match self {
+            DataType::SmallInt => 0,
+            DataType::Int => 0,
+            DataType::BigInt => 0,
+            DataType::Real => 0,
+            DataType::DoublePrecision => 0,
+            DataType::Numeric {
+                precision,
+                scale: _,
+            } => precision,
+            DataType::Decimal {
+                precision,
+                scale: _,
+            } => precision,
+            DataType::Bool => 0,
+            DataType::Char(_) => 0,
+            DataType::Character(_) => 0,
+            DataType::Varchar(_) => 0,
+            DataType::Date => 0,
+            DataType::Time => 0,
+            DataType::Bit(_) => 0,
+            DataType::Timestamp => 0,
+        }
+    }
+
+    // How many of the digits stand after the point; 0 for other types.
+    pub fn scale(self) -> u8
+        ensures { λ r. ⌜ r ≡ scaleOf self ⌝ }
+    {
+        match self {
+            DataType::SmallInt => 0,
+            DataType::Int => 0,
+            DataType::BigInt => 0,
+            DataType::Real => 0,
+            DataType::DoublePrecision => 0,
+            DataType::Numeric {
+                precision: _,
+                scale,
+            } => scale,
+            DataType::Decimal {
+                precision: _,
+                scale,
+            } => scale,
+            DataType::Bool => 0,
+            DataType::Char(_) => 0,
+            DataType::Character(_) => 0,
+            DataType::Varchar(_) => 0,
+            DataType::Date => 0,
+            DataType::Time => 0,
+            DataType::Bit(_) => 0,
+            DataType::Timestamp => 0,
+        }
+    }
+
+    // The n of Char(n), Character(n), Varchar(n) and Bit(n); 0 for other types.
+    pub fn declared_length(self) -> u16
+        ensures { λ r. ⌜ r ≡ lengthOf self ⌝ }
+    {
+        match self {
+            DataType::SmallInt => 0,
+            DataType::Int => 0,
+            DataType::BigInt => 0,
+            DataType::Real => 0,
+            DataType::DoublePrecision => 0,
+            DataType::Numeric {
+                precision: _,
+                scale: _,
+            } => 0,
+            DataType::Decimal {
+                precision: _,
+                scale: _,
+            } => 0,
+            DataType::Bool => 0,
+            DataType::Char(n) => n,
+            DataType::Character(n) => n,
+            DataType::Varchar(n) => n,
+            DataType::Date => 0,
+            DataType::Time => 0,
+            DataType::Bit(n) => n,
+            DataType::Timestamp => 0,
         }
     }
 

@@ -2,6 +2,7 @@
 use datatype::DataType;
 ghost use mathlib.Core.Path.{_≡_};
 ghost use Rattle.value.specs.Kinds.{kindOf, valueKind, matches};
+ghost use Rattle.value.specs.Ranges.{rangeOf};
 
 // An unscaled number of 128 bits in two halves, and its scale.
 pub struct NumericValue {
@@ -53,6 +54,61 @@ impl DataValue {
             DataValue::Time(_) => 11,
             DataValue::Bit(_) => 12,
             DataValue::Timestamp(_) => 13,
+        }
+    }
+
+    // The bytes of a text or a bit string in the area beside it; none for other values.
+    pub fn range(self) -> TextRange
+        ensures { λ r. ⌜ r ≡ rangeOf self ⌝ }
+    {
+        match self {
+            DataValue::Null => TextRange {
+                start: 0,
+                length: 0,
+            },
+            DataValue::SmallInt(_) => TextRange {
+                start: 0,
+                length: 0,
+            },
+            DataValue::Int(_) => TextRange {
+                start: 0,
+                length: 0,
+            },
+            DataValue::BigInt(_) => TextRange {
+                start: 0,
+                length: 0,
+            },
+            DataValue::Real(_) => TextRange {
+                start: 0,
+                length: 0,
+            },
+            DataValue::DoublePrecision(_) => TextRange {
+                start: 0,
+                length: 0,
+            },
+            DataValue::Numeric(_) => TextRange {
+                start: 0,
+                length: 0,
+            },
+            DataValue::Bool(_) => TextRange {
+                start: 0,
+                length: 0,
+            },
+            DataValue::Char(r) => r,
+            DataValue::Varchar(r) => r,
+            DataValue::Date(_) => TextRange {
+                start: 0,
+                length: 0,
+            },
+            DataValue::Time(_) => TextRange {
+                start: 0,
+                length: 0,
+            },
+            DataValue::Bit(r) => r,
+            DataValue::Timestamp(_) => TextRange {
+                start: 0,
+                length: 0,
+            },
         }
     }
 }

@@ -1,0 +1,3 @@
+pub mod Nan
+pub mod ByBits
+pub mod Equivalence
