@@ -5,11 +5,12 @@ use mathlib.Core.List.{List, [], _∷_, _++_}
 use native.Mathlib.Nat.{zero-add, suc-add, zero-mul, mod-lt, div-eq-of-lt, add-mul-div-right, mul-assoc}
 use native.Mathlib.Numerals.{one-add}
 use native.Mathlib.Omega.{arith}
-use lib.ListN.{length, getD, set, take, length-take}
+use lib.ListN.{length, getD, set, take, drop, length-take, length-drop}
 use lib.Pow.{pow-pos, pow-add, mod-pow-add}
-use lib.Seq.{take-all, take-append-add}
+use lib.Seq.{sets, take-all, take-append-add, length-take-le, getD-take, getD-drop}
 use Rattle.laws.specs.Bits.{bitOf}
-use Rattle.laws.proofs.Bytes.{AllBytes}
+use Rattle.laws.proofs.Bytes.{Below, below-drop, below-take}
+use Rattle.laws.proofs.Stores.{sets-self, part-set}
 use Rattle.bit_utils.specs.Bits.{bytesFor, lowBits, byteBits, allBits, packByte, packBytes, packBits, unpackBits}
 
 pack-nil : (w : ℕ) → packByte w [] ≡ 0
@@ -35,34 +36,34 @@ high-packed b k h l =
     let m : b % 256 ≡ b = omega arith in
     sym (rw (e, m) at (first-packed k (8 - k) b))
 
-byte-packed : (b : ℕ) → b < 256 → packByte 8 (byteBits b) ≡ b
+pub byte-packed : (b : ℕ) → b < 256 → packByte 8 (byteBits b) ≡ b
 byte-packed b h = sym (high-packed b 8 h (omega arith)) ∙ omega arith
 
 -- ---- bytes
 
-take-cons : (n m b : ℕ) (bs : List ℕ) → n ≡ 8 + m → take n (allBits (b ∷ bs)) ≡ byteBits b ++ take m (allBits bs)
+pub take-cons : (n m b : ℕ) (bs : List ℕ) → n ≡ 8 + m → take n (allBits (b ∷ bs)) ≡ byteBits b ++ take m (allBits bs)
 take-cons n m b bs e = rw e (take-append-add (byteBits b) (allBits bs) m)
 
 -- whole bytes
-whole : (q : ℕ) (bs : List ℕ) → AllBytes bs → length bs ≡ q → packBytes q (take (q * 8) (allBits bs)) ≡ bs
+whole : (q : ℕ) (bs : List ℕ) → Below 256 bs → length bs ≡ q → packBytes q (take (q * 8) (allBits bs)) ≡ bs
 whole zero [] a h = refl
 whole zero (b ∷ bs) a h = absurd (omega arith)
 whole (suc q) [] a h = absurd (omega arith)
 whole (suc q) (b ∷ bs) a h =
-    ap (packBytes (suc q)) (take-cons (suc q * 8) (q * 8) b bs (omega arith)) ∙ rw (byte-packed b (a 0 .fits), whole q bs (λ k. a (suc k)) (omega arith))
+    ap (packBytes (suc q)) (take-cons (suc q * 8) (q * 8) b bs (omega arith)) ∙ rw (byte-packed b (a .0), whole q bs (a .1) (omega arith))
 
 -- and r bits of one more
-partial : (q r : ℕ) (bs : List ℕ) → AllBytes bs → r < 8 → length bs ≡ suc q
+partial : (q r : ℕ) (bs : List ℕ) → Below 256 bs → r < 8 → length bs ≡ suc q
     → packBytes (suc q) (take (q * 8 + r) (allBits bs)) ≡ set bs q (packByte 8 (take r (byteBits (getD bs q 0))))
 partial q r [] a l h = absurd (omega arith)
 partial zero r (b ∷ []) a l h = rw (zero-add, take-all 8 (take r (byteBits b)) (rw length-take (omega arith)))
 partial zero r (b ∷ c ∷ bs) a l h = absurd (omega arith)
 partial (suc q) r (b ∷ bs) a l h =
-    ap (packBytes (suc (suc q))) (take-cons (suc q * 8 + r) (q * 8 + r) b bs (omega arith)) ∙ rw (byte-packed b (a 0 .fits), partial q r bs (λ k. a (suc k)) l (omega arith))
+    ap (packBytes (suc (suc q))) (take-cons (suc q * 8 + r) (q * 8 + r) b bs (omega arith)) ∙ rw (byte-packed b (a .0), partial q r bs (a .1) l (omega arith))
 
 -- ---- a bit string of n bits in the bytes that it fills
 
-module _ (n : ℕ) (bs : List ℕ) (a : AllBytes bs) (h : length bs ≡ bytesFor n) where
+module _ (n : ℕ) (bs : List ℕ) (a : Below 256 bs) (h : length bs ≡ bytesFor n) where
   pub repacked-part : n / 8 < length bs → set bs (n / 8) (packByte 8 (take (n % 8) (byteBits (getD bs (n / 8) 0)))) ≡ packBits n (unpackBits n bs)
   repacked-part l =
       let q : bytesFor n ≡ suc (n / 8) = omega arith in
@@ -74,3 +75,21 @@ module _ (n : ℕ) (bs : List ℕ) (a : AllBytes bs) (h : length bs ≡ bytesFor
       let q : bytesFor n ≡ n / 8 = omega arith in
       let e : n / 8 * 8 ≡ n = omega arith in
       rw q (sym (rw e at (whole (n / 8) bs a (h ∙ q))))
+
+-- ---- where the bytes stand in others, at `at`
+
+module _ (s : List ℕ) (at n : ℕ) (a : Below 256 s) (h : at + bytesFor n ≤ length s) where
+  length-bytes : length (take (bytesFor n) (drop at s)) ≡ bytesFor n
+  length-bytes = length-take-le (bytesFor n) (drop at s) (rw length-drop (omega arith))
+
+  below : Below 256 (take (bytesFor n) (drop at s))
+  below = below-take 256 (bytesFor n) (drop at s) (below-drop 256 at s a)
+
+  pub cleared : 0 < n % 8 → set s (at + n / 8) (packByte 8 (take (n % 8) (byteBits (getD s (at + n / 8) 0)))) ≡ sets s at (packBits n (unpackBits n (take (bytesFor n) (drop at s))))
+  cleared u =
+      let l : n / 8 < bytesFor n = omega arith in
+      let e : getD s (at + n / 8) 0 ≡ getD (take (bytesFor n) (drop at s)) (n / 8) 0 = sym (getD-take (bytesFor n) (drop at s) (n / 8) 0 l ∙ getD-drop at s (n / 8) 0) in
+      rw e (part-set s at (bytesFor n) h (n / 8) _ l ∙ ap (sets s at) (repacked-part n (take (bytesFor n) (drop at s)) below length-bytes (rw length-bytes l)))
+
+  pub kept : n % 8 ≡ 0 → s ≡ sets s at (packBits n (unpackBits n (take (bytesFor n) (drop at s))))
+  kept u = sym (sets-self s at (bytesFor n) h) ∙ ap (sets s at) (repacked-whole n (take (bytesFor n) (drop at s)) below length-bytes (rw length-bytes (omega arith)))

@@ -28,6 +28,21 @@ abbrev pub Below : ℕ → List ℕ → Type 0
 Below m [] = Unit {0}
 Below m (x ∷ xs) = (x < m) × Below m xs
 
+pub below-drop : (m n : ℕ) (xs : List ℕ) → Below m xs → Below m (drop n xs)
+below-drop m zero xs b = b
+below-drop m (suc n) [] b = tt
+below-drop m (suc n) (x ∷ xs) b = below-drop m n xs (b .1)
+
+pub below-take : (m n : ℕ) (xs : List ℕ) → Below m xs → Below m (take n xs)
+below-take m zero xs b = tt
+below-take m (suc n) [] b = tt
+below-take m (suc n) (x ∷ xs) b = (b .0, below-take m n xs (b .1))
+
+pub below-at : (m : ℕ) (xs : List ℕ) (k : ℕ) → k < length xs → Below m xs → getD xs k 0 < m
+below-at m [] k h b = absurd (omega arith)
+below-at m (x ∷ xs) zero h b = b .0
+below-at m (x ∷ xs) (suc k) h b = below-at m xs k (omega arith) (b .1)
+
 -- what is known of the elements of a `&[u8]`
 abbrev pub AllBytes : List ℕ → Type 0
 AllBytes bs = (k : ℕ) → Fits w8 (getD bs k 0)

@@ -33,6 +33,17 @@ same-lengths (x ∷ xs) (y ∷ ys) n = rw (same-lengths xs ys (λ e. n (ap suc e
     and-no true = refl
     and-no false = refl
 
+-- two parts of equal length each
+pub same-append : (xs ys us vs : List ℕ) → length xs ≡ length ys → sameBytes (xs ++ us) (ys ++ vs) ≡ (sameBytes xs ys && sameBytes us vs)
+same-append [] [] us vs e = refl
+same-append [] (y ∷ ys) us vs e = absurd (omega arith)
+same-append (x ∷ xs) [] us vs e = absurd (omega arith)
+same-append (x ∷ xs) (y ∷ ys) us vs e = rw (same-append xs ys us vs (omega arith)) (and-assoc (eqb x y) (sameBytes xs ys) (sameBytes us vs))
+  where
+    and-assoc : (a b c : Bool) → (a && (b && c)) ≡ ((a && b) && c)
+    and-assoc true b c = refl
+    and-assoc false b c = refl
+
 -- ---- the loop: the lists are the same if what is left of them is
 
 pub record Comparing (xs ys : List ℕ) (i : ℕ) : Type 0 where

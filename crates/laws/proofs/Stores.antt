@@ -5,8 +5,8 @@ use mathlib.Core.List.{List, [], _∷_, _++_, append-assoc}
 use native.Mathlib.Nat.{add-zero, add-suc}
 use native.Mathlib.Numerals.{add-one}
 use native.Mathlib.Omega.{arith}
-use lib.ListN.{length, getD, set, take, drop, replicate, length-drop, drop-of-length-le}
-use lib.Seq.{sets, sets-eq, set-comm, drop-cons, take-suc, drop-set-lt, drop-set-add, take-set-le, getD-drop, length-take-le}
+use lib.ListN.{length, getD, set, take, drop, replicate, length-drop, take-append-drop, length-set, drop-of-length-le}
+use lib.Seq.{sets, sets-eq, set-comm, set-append-left, drop-drop, drop-cons, take-suc, drop-set-lt, drop-set-add, take-set-le, getD-drop, length-take-le}
 use Rattle.laws.specs.Bytes.{splice}
 
 pub sets-append : (l : List ℕ) (i : ℕ) (xs ys : List ℕ) → sets l i (xs ++ ys) ≡ sets (sets l i xs) (i + length xs) ys
@@ -20,6 +20,23 @@ sets-splice l i vs h = sets-eq vs l i h ∙ append-assoc (take i l) vs (drop (i 
 sets-set : (l : List ℕ) (i j v : ℕ) (vs : List ℕ) → i + length vs ≤ j → set (sets l i vs) j v ≡ sets (set l j v) i vs
 sets-set l i j v [] h = refl
 sets-set l i j v (x ∷ vs) h = sets-set (set l i x) (suc i) j v vs (omega arith) ∙ ap (λ (k : List ℕ). sets k (suc i) vs) (set-comm l i j x v (λ e. omega (arith, e)))
+
+-- the m elements from `at` on, stored where they stand; and with one of them changed
+module _ (s : List ℕ) (at m : ℕ) (h : at + m ≤ length s) where
+  part-length : length (take m (drop at s)) ≡ m
+  part-length = length-take-le m (drop at s) (rw length-drop (omega arith))
+
+  pub sets-self : sets s at (take m (drop at s)) ≡ s
+  sets-self =
+      sets-splice s at (take m (drop at s)) (rw part-length h) ∙ rw (part-length, ← drop-drop m at s, take-append-drop m (drop at s)) (take-append-drop at s)
+
+  pub part-set : (k v : ℕ) → k < m → set s (at + k) v ≡ sets s at (set (take m (drop at s)) k v)
+  part-set k v l =
+      let bs : List ℕ = take m (drop at s) in
+      let n : length (set bs k v) ≡ m = length-set bs k v ∙ part-length in
+      let inner : set (drop at s) k v ≡ set bs k v ++ drop (at + m) s
+      = ap (λ (d : List ℕ). set d k v) (sym (take-append-drop m (drop at s))) ∙ set-append-left bs (drop m (drop at s)) k v (rw part-length l) ∙ rw drop-drop in
+      sym (take-append-drop at (set s (at + k) v)) ∙ rw (take-set-le at s (at + k) v (omega arith), drop-set-add, inner) (sym (sets-splice s at (set bs k v) (rw n h) ∙ rw n))
 
 -- the loop that copies s to `at`: what is left of s, stored on what was done
 pub copied : (d s : List ℕ) (at i : ℕ) → i < length s → sets (set d (at + i) (getD s i 0)) (at + (i + 1)) (drop (i + 1) s) ≡ sets d (at + i) (drop i s)

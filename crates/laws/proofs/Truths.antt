@@ -15,6 +15,10 @@ pub and-right : (x y : Bool) → (x && y) ≡ true → y ≡ true
 and-right true y e = e
 and-right false y e = absurd (false≢true e)
 
+pub and-true : (x : Bool) → (x && true) ≡ x
+and-true true = refl
+and-true false = refl
+
 pub or-none : (x y : Bool) → (x || y) ≡ false → (x ≡ false) × (y ≡ false)
 or-none true y e = absurd (false≢true (sym e))
 or-none false y e = (refl, e)

@@ -1,8 +1,13 @@
-use borrow.Author.Needs.{needs}
+use native.Mathlib.Omega.{arith}
+use Rattle.bit_utils.proofs.Packing.{cleared, kept}
+use Rattle.laws.proofs.Bytes.{all-below}
 use denote.Ref.{now}
-use Rattle.bit_utils.proofs.Packing.{repacked-part, repacked-whole}
+use borrow.Author.Needs.{needs}
 use Rattle.bit_utils.proofs.clear_spare_bits.Statement.{statement}
 use Rattle.bit_utils.proofs.clear_spare_bits.Tie as tie
+
+add-last : tie.Need-add-last
+add-last c = search needs
 
 slice-read-high-bits : tie.Need-slice-read-high-bits
 slice-read-high-bits c = search needs
@@ -19,14 +24,21 @@ same-length c = search needs
 returns : tie.Need-returns
 returns c =
     let a = c .before .before .before .before .args in
-    rw (c .high-bits .ensures) (repacked-part (a .n) (now (a .s)) (c .before .before .before .slice-known .given) (c .before .before .before .before .pre) (c .before .before .if1 .taken))
+    rw (c .high-bits .ensures) (cleared (now (a .s)) (a .at) (a .n) (all-below (now (a .s)) (c .before .before .before .slice-known .given)) (c .before .before .before .before .pre) (c .before .before .if1 .taken))
 
 returns-2 : tie.Need-returns-2
 returns-2 c =
     let a = c .before .before .args in
-    repacked-whole (a .n) (now (a .s)) (c .before .slice-known .given) (c .before .before .pre) (c .if1 .left)
+    kept (now (a .s)) (a .at) (a .n) (all-below (now (a .s)) (c .before .slice-known .given)) (c .before .before .pre) (omega arith)
 
 pub clear-spare-bits-spec : {M : Type 1} → statement M
 clear-spare-bits-spec =
     tie.close
-    (tie.spec slice-read-high-bits high-bits-requires slice-write-s same-length returns returns-2)
+    (tie.spec
+    add-last
+    slice-read-high-bits
+    high-bits-requires
+    slice-write-s
+    same-length
+    returns
+    returns-2)
