@@ -11,7 +11,6 @@ use lib.Pow.{pow-pos, pow-add}
 use lib.Seq.{take-append-le, drop-cons, length-take-le}
 use borrow.Author.Tests.{eq-eqb, eqb-true}
 use Rattle.laws.specs.Bytes.{sameBytes}
-use Rattle.laws.specs.Bits.{bitOf}
 use Rattle.laws.proofs.Bytes.{Below, below-take, below-at}
 use Rattle.laws.proofs.Truths.{same, and-true}
 use Rattle.laws.proofs.Same.{same-self, same-eq, same-append}

@@ -1,6 +1,6 @@
 -- Little-endian numbers, over any width; tables of them; bytes replaced.
 use Prim.Native.Nat.{ℕ, zero, suc, _+_, _*_, _/_, _%_, _^_, _≤_, _<_}
-use mathlib.Core.Path.{_≡_, refl, ap, _∙_}
+use mathlib.Core.Path.{_≡_, refl, sym, ap, _∙_}
 use mathlib.Core.List.{List, [], _∷_, _++_, append-assoc}
 use native.Mathlib.Nat.{zero-add, suc-add, zero-mul, pow-suc, pow-succ', one-le-pow, div-div-eq-div-mul}
 use native.Mathlib.Omega.{arith}
@@ -8,8 +8,8 @@ use lib.Arith.{mod-mul}
 use mir.Syntax.{w8}
 use mir.Val.{Fits}
 use lib.ListN.{length, getD, take, drop, length-append, length-drop}
-use lib.Seq.{sets, take-at, drop-at, drop-cons, drop-drop, take-add, length-take-le}
-use Rattle.laws.proofs.Stores.{sets-append}
+use lib.Seq.{sets, length-sets, take-at, drop-at, drop-cons, drop-drop, take-add, length-take-le}
+use Rattle.laws.proofs.Stores.{sets-append, sets-splice}
 use Rattle.laws.specs.Bytes.{toLe, fromLe, toTable, fromTable, entryAt, splice}
 
 -- ---- one number
@@ -127,3 +127,18 @@ table-entry w v t j r h = table-entry-at w v (drop t r) j h ∙ rw drop-drop
 pub splice-at : (p m q new : List ℕ) (s e : ℕ) → length p ≡ s → length p + length m ≡ e → splice s e new (p ++ (m ++ q)) ≡ p ++ (new ++ q)
 splice-at p m q new s e hs he =
     rw (take-at p (m ++ q) s hs, ← append-assoc p m q, drop-at (p ++ m) q e (length-append p m ∙ he))
+
+-- a run read where it was stored, and another of its length stored over it
+module _ (l : List ℕ) (i : ℕ) (xs : List ℕ) (h : i + length xs ≤ length l) where
+  front : length (take i l) ≡ i
+  front = length-take-le i l (omega arith)
+
+  pub part-stored : take (length xs) (drop i (sets l i xs)) ≡ xs
+  part-stored =
+      rw (sets-splice l i xs h, drop-at (take i l) (xs ++ drop (i + length xs) l) i front) (take-at xs (drop (i + length xs) l) (length xs) refl)
+
+  pub sets-over : (ys : List ℕ) → length xs ≡ length ys → sets (sets l i xs) i ys ≡ sets l i ys
+  sets-over ys e =
+      let over : splice i (i + length ys) ys (sets l i xs) ≡ take i l ++ (ys ++ drop (i + length xs) l)
+      = rw (sets-splice l i xs h) (splice-at (take i l) xs (drop (i + length xs) l) ys i (i + length ys) front (rw (front, e))) in
+      sets-splice (sets l i xs) i ys (rw (length-sets, ← e) h) ∙ over ∙ rw e (sym (sets-splice l i ys (rw (← e) h)))

@@ -1,11 +1,11 @@
 -- Truth values, and tests of two numbers.
 use Prim.Native.Nat.{ℕ, _≤_, _<_}
 use mathlib.Core.Path.{_≡_, refl, sym, _∙_}
-use mathlib.Core.Bool.{Bool, true, false, _&&_, _||_, false≢true}
+use mathlib.Core.Bool.{Bool, true, false, cond, _&&_, _||_, false≢true}
 use native.Mathlib.Decide.{decLt}
 use native.Mathlib.Omega.{arith}
-use lib.Dec.{ltb}
-use borrow.Author.Tests.{lt-ltb, le-ltb}
+use lib.Dec.{ltb, leb}
+use borrow.Author.Tests.{lt-ltb, le-ltb, le-leb, lt-leb}
 
 pub and-left : (x y : Bool) → (x && y) ≡ true → x ≡ true
 and-left true y e = refl
@@ -18,6 +18,10 @@ and-right false y e = absurd (false≢true e)
 pub and-true : (x : Bool) → (x && true) ≡ x
 and-true true = refl
 and-true false = refl
+
+pub both : (t u : Bool) → cond t u false ≡ true → (t ≡ true) × (u ≡ true)
+both true u e = (refl, e)
+both false u e = absurd (false≢true e)
 
 pub or-none : (x y : Bool) → (x || y) ≡ false → (x ≡ false) × (y ≡ false)
 or-none true y e = absurd (false≢true (sym e))
@@ -39,3 +43,11 @@ cases a b f g = by-dec a b (decLt a b) f g
 
 pub same-ltb : (a b c d : ℕ) → (a < b → c < d) → (b ≤ a → d ≤ c) → ltb a b ≡ ltb c d
 same-ltb a b c d f g = cases a b (λ h. lt-ltb a b h ∙ sym (lt-ltb c d (f h))) (λ h. le-ltb a b h ∙ sym (le-ltb c d (g h)))
+
+pub same-leb : (a b c d : ℕ) → (a ≤ b → c ≤ d) → (b < a → d < c) → leb a b ≡ leb c d
+same-leb a b c d f g = cases b a (λ h. lt-leb a b h ∙ sym (lt-leb c d (g h))) (λ h. le-leb a b h ∙ sym (le-leb c d (f h)))
+
+-- what holds of either outcome of a test
+pub by-cond : {A : Type 0} (P : A → Type 0) (t : Bool) (x y : A) → (t ≡ true → P x) → (t ≡ false → P y) → P (cond t x y)
+by-cond P true x y f g = f refl
+by-cond P false x y f g = g refl

@@ -94,5 +94,5 @@ module _ (w : Width) where
   pub passed : {r z : ℤ} → SFits w r → r ≡ z → toZ w (ofZ w r) ≡ z
   passed {r = r} f e = toZ-ofZ w r f ∙ e
 
-  pub handed : (z : ℤ) {n : ℕ} → SFits w z → n ≡ ofZ w (toZ w (ofZ w z)) → n ≡ ofZ w z
-  handed z f e = e ∙ ap (ofZ w) (toZ-ofZ w z f)
+  pub handed : {A : Type 0} (g : ℤ → A) (z : ℤ) {r : A} → SFits w z → r ≡ g (toZ w (ofZ w z)) → r ≡ g z
+  handed g z f e = e ∙ ap g (toZ-ofZ w z f)

@@ -2,9 +2,8 @@ use Rattle.laws.proofs.Same.{Comparing, same-lengths, compare-start, compare-mo
 use denote.Ref.{now}
 use lib.ListN.{length}
 use Prim.Native.Nat.{_-_}
-use mathlib.Core.Path.{sym, _≡_}
+use mathlib.Core.Path.{sym}
 use borrow.Author.Needs.{needs}
-use native.Mathlib.Omega.{arith}
 use Rattle.endian.proofs.same_bytes.Statement.{statement}
 use Rattle.endian.proofs.same_bytes.Tie as tie
 

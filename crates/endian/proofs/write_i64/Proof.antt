@@ -1,6 +1,6 @@
 use Rattle.signed.proofs.Casts.{handed}
 use mir.Syntax.{w64}
-use mathlib.Core.Path.{_∙_, ap}
+use mir.Val.{ofZ}
 use borrow.Author.Needs.{needs}
 use Rattle.endian.proofs.write_i64.Statement.{statement}
 use Rattle.endian.proofs.write_i64.Tie as tie
@@ -15,7 +15,7 @@ same-length : tie.Need-same-length
 same-length c = search needs
 
 returns : tie.Need-returns
-returns c = rw (← handed w64 (c .before .before .before .before .before .before .args .x) (c .before .before .before .before .before .before .fits .x) (c .before .before .before .cast-unsigned-64 .ensures)) (c .before .before .write-u64 .ensures)
+returns c = rw (← handed w64 (ofZ w64) (c .before .before .before .before .before .before .args .x) (c .before .before .before .before .before .before .fits .x) (c .before .before .before .cast-unsigned-64 .ensures)) (c .before .before .write-u64 .ensures)
 
 pub write-i64-spec : {M : Type 1} → statement M
 write-i64-spec =

@@ -1,0 +1,27 @@
+use Rattle.value_encode.proofs.Numbers.{sign-read}
+use Rattle.stored_form.specs.Number.{magnitude}
+use Rattle.signed.proofs.Casts.{handed}
+use mir.Syntax.{w64}
+use lib.IntN.{ℤ}
+use borrow.Author.Needs.{needs}
+use Rattle.value_encode.proofs.write_numeric.Statement.{statement}
+use Rattle.value_encode.proofs.write_numeric.Tie as tie
+
+magnitude-requires : tie.Need-magnitude-requires
+magnitude-requires c κs = search needs
+
+encode-numeric-bcd-requires : tie.Need-encode-numeric-bcd-requires
+encode-numeric-bcd-requires c κs = search needs
+
+same-length : tie.Need-same-length
+same-length c = search needs
+
+returns : tie.Need-returns
+returns c =
+    let x = c .before .before .before .before .before .before .before .before .before .args .x in
+    let m = handed w64 (λ (z : ℤ). magnitude z (x .low)) (x .high) (search needs) (c .before .before .before .before .before .before .magnitude .ensures) in
+    rw (← m, ← sign-read (x .high) (search needs)) (c .before .before .encode-numeric-bcd .ensures)
+
+pub write-numeric-spec : {M : Type 1} → statement M
+write-numeric-spec =
+    tie.close (tie.spec magnitude-requires encode-numeric-bcd-requires same-length returns)
