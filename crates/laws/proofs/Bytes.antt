@@ -8,7 +8,7 @@ use lib.Arith.{mod-mul}
 use mir.Syntax.{w8}
 use mir.Val.{Fits}
 use lib.ListN.{length, getD, take, drop, length-append, length-drop}
-use lib.Seq.{sets, length-sets, take-at, drop-at, drop-cons, drop-drop, take-add, length-take-le}
+use lib.Seq.{sets, length-sets, take-at, drop-at, drop-cons, drop-drop, take-add, length-take-le, getD-drop}
 use Rattle.laws.proofs.Stores.{sets-append, sets-splice}
 use Rattle.laws.specs.Bytes.{toLe, fromLe, toTable, fromTable, entryAt, splice}
 
@@ -22,6 +22,10 @@ length-toLe (suc w) x = ap suc (length-toLe w (x / 256))
 pub from-to : (w x : ℕ) → x < 256 ^ w → fromLe (toLe w x) ≡ x
 from-to zero x h = omega arith
 from-to (suc w) x h = let ih : fromLe (toLe w (x / 256)) ≡ x / 256 = from-to w (x / 256) (omega arith) in omega arith
+
+-- where it stands in a list
+pub from-at : (w x : ℕ) (p q : List ℕ) (at : ℕ) → length p ≡ at → x < 256 ^ w → fromLe (take w (drop at (p ++ (toLe w x ++ q)))) ≡ x
+from-at w x p q at e h = rw (drop-at p (toLe w x ++ q) at e, take-at (toLe w x) q w (length-toLe w x)) (from-to w x h)
 
 -- each element is below m
 abbrev pub Below : ℕ → List ℕ → Type 0
@@ -59,6 +63,15 @@ to-from (x ∷ bs) b =
     let low : (x + 256 * fromLe bs) % 256 ≡ x = omega arith in
     let high : (x + 256 * fromLe bs) / 256 ≡ fromLe bs = omega arith in
     rw (low, high, to-from bs (b .1))
+
+-- w bytes, or fewer, hold a number below 256 ^ w
+from-below : (w : ℕ) (bs : List ℕ) → AllBytes bs → fromLe (take w bs) < 256 ^ w
+from-below zero bs a = omega arith
+from-below (suc w) [] a = rw (pow-succ' 256 w) (omega (arith, from-below w [] a))
+from-below (suc w) (b ∷ bs) a = let ih = from-below w bs (λ k. a (suc k)) in rw (pow-succ' 256 w) (omega (arith, a 0 .fits))
+
+pub from-part : (w at : ℕ) (s : List ℕ) → AllBytes s → fromLe (take w (drop at s)) < 256 ^ w
+from-part w at s a = from-below w (drop at s) (λ k. rw getD-drop (a (at + k)))
 
 -- the law over the width: a number of a + b bytes is one of a bytes and one of b
 pub from-append : (xs ys : List ℕ) → fromLe (xs ++ ys) ≡ fromLe xs + 256 ^ length xs * fromLe ys

@@ -13,9 +13,9 @@ pub sets-append : (l : List ℕ) (i : ℕ) (xs ys : List ℕ) → sets l i (xs +
 sets-append l i [] ys = rw add-zero
 sets-append l i (x ∷ xs) ys = let e : suc i + length xs ≡ i + suc (length xs) = omega arith in sets-append (set l i x) (suc i) xs ys ∙ rw e
 
--- two runs stored one after the other
-pub stored-next : (l : List ℕ) (i : ℕ) (xs ys p q : List ℕ) → p ≡ sets l i xs → q ≡ sets p (i + length xs) ys → q ≡ sets l i (xs ++ ys)
-stored-next l i xs ys p q e f = rw (f, e) (sym (sets-append l i xs ys))
+-- two runs of stores, the second where the first ended
+pub sets-then : (l : List ℕ) (i n : ℕ) (xs ys : List ℕ) {p q : List ℕ} → length xs ≡ n → p ≡ sets l i xs → q ≡ sets p (i + n) ys → q ≡ sets l i (xs ++ ys)
+sets-then l i n xs ys e f g = g ∙ rw (f, ← e) (sym (sets-append l i xs ys))
 
 pub sets-splice : (l : List ℕ) (i : ℕ) (vs : List ℕ) → i + length vs ≤ length l → sets l i vs ≡ splice i (i + length vs) vs l
 sets-splice l i vs h = sets-eq vs l i h ∙ append-assoc (take i l) vs (drop (i + length vs) l)

@@ -1,4 +1,6 @@
-use Rattle.laws.proofs.Stores.{stored-next}
+use mathlib.Core.Path.{refl}
+use lib.ListN.{length}
+use Rattle.laws.proofs.Stores.{sets-then}
 use denote.Ref.{now}
 use borrow.Author.Needs.{needs}
 use Rattle.value_encode.proofs.write_char.Statement.{statement}
@@ -22,7 +24,7 @@ same-length c = search needs
 returns : tie.Need-returns
 returns c =
     let a = c .before .before .before .before .before .before .before .before .before .before .args in
-    stored-next (now (a .out)) (a .at) (now (a .text)) _ _ _ (c .before .before .before .before .before .before .copy .ensures) (c .before .before .fill .ensures)
+    sets-then (now (a .out)) (a .at) (length (now (a .text))) (now (a .text)) _ refl (c .before .before .before .before .before .before .copy .ensures) (c .before .before .fill .ensures)
 
 pub write-char-spec : {M : Type 1} → statement M
 write-char-spec =

@@ -1,0 +1,4 @@
+pub mod Sizes
+pub mod Checking
+pub mod Records
+pub mod Lists

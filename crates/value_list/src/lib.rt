@@ -1,0 +1,238 @@
+// The bytes of value lists: a record read, a record written, and the check of a whole list.
+use error::Refusal;
+use value::DataValue;
+use value::NumericValue;
+use value::TextRange;
+ghost use mathlib.Core.Path.{_≡_};
+ghost use Prim.Native.Nat.{_+_, _<_, _≤_};
+ghost use mathlib.Core.List.{[], _∷_};
+ghost use lib.ListN.{length};
+ghost use lib.Seq.{sets};
+ghost use Rattle.row_format.specs.Places.{rowLimit};
+ghost use Rattle.laws.specs.Bytes.{toLe};
+ghost use Rattle.value_list.specs.Records.{bodyLength, numericAt, rangeAt, valueAt, recordAt, numericBytes, rangeBytes, recordOf, NarrowRange, Narrow};
+ghost use Rattle.value_list.specs.Lists.{checked, answer};
+ghost use Rattle.value_list.specs.Sizes.{sizeAt};
+
+// What stands at a place of a value list.
+pub enum ValueRecord {
+    // A value, and the place after its record.
+    Value(DataValue, usize),
+    Refused(Refusal),
+}
+
+pub enum ListCheck {
+    Good,
+    Refused(Refusal),
+}
+
+// The bytes after the byte of kind.
+pub fn body_length(kind: u8) -> usize
+    ensures { λ r. ⌜ (r ≡ bodyLength kind) × (r ≤ 17) ⌝ }
+{
+    match kind {
+        1 => 2,
+        2 => 4,
+        3 => 8,
+        4 => 4,
+        5 => 8,
+        6 => 17,
+        7 => 1,
+        8 => 4,
+        9 => 4,
+        10 => 4,
+        11 => 8,
+        12 => 4,
+        13 => 8,
+        _ => 0,
+    }
+}
+
+// The bytes of the record at a place; 0 where its kind is unknown or it is cut off.
+fn record_size(list: &[u8], at: usize) -> usize
+    requires { ⌜ at < length (now list) ⌝ }
+    ensures { λ r. ⌜ r ≡ sizeAt (now (list .entry)) at ⌝ }
+{
+    let kind = list[at];
+    if 13 < kind {
+        return 0;
+    }
+    let body = body_length(kind);
+    if list.len() - at - 1 < body {
+        return 0;
+    }
+    1 + body
+}
+
+fn numeric_at(list: &[u8], at: usize) -> NumericValue
+    requires { ⌜ at + 17 ≤ length (now list) ⌝ }
+    ensures { λ r. ⌜ r ≡ numericAt (now (list .entry)) at ⌝ }
+{
+    let low = endian::read_u64(list, at);
+    let high = endian::read_i64(list, at + 8);
+    let scale = list[at + 16];
+    NumericValue { high, low, scale }
+}
+
+fn range_at(list: &[u8], at: usize) -> TextRange
+    requires { ⌜ at + 4 ≤ length (now list) ⌝ }
+    ensures { λ r. ⌜ r ≡ rangeAt (now (list .entry)) at ⌝ }
+{
+    let start = endian::read_u16(list, at) as usize;
+    let length = endian::read_u16(list, at + 2) as usize;
+    TextRange { start, length }
+}
+
+// The value whose body stands at a place.
+fn value_at(list: &[u8], at: usize, kind: u8) -> DataValue
+    requires { ⌜ at + bodyLength kind ≤ length (now list) ⌝ }
+    ensures { λ r. ⌜ r ≡ valueAt kind (now (list .entry)) at ⌝ }
+{
+    match kind {
+        1 => DataValue::SmallInt(endian::read_i16(list, at)),
+        2 => DataValue::Int(endian::read_i32(list, at)),
+        3 => DataValue::BigInt(endian::read_i64(list, at)),
+        4 => DataValue::Real(endian::read_u32(list, at)),
+        5 => DataValue::DoublePrecision(endian::read_u64(list, at)),
+        6 => DataValue::Numeric(numeric_at(list, at)),
+        7 => DataValue::Bool(list[at]),
+        8 => DataValue::Char(range_at(list, at)),
+        9 => DataValue::Varchar(range_at(list, at)),
+        10 => DataValue::Date(endian::read_i32(list, at)),
+        11 => DataValue::Time(endian::read_i64(list, at)),
+        12 => DataValue::Bit(range_at(list, at)),
+        13 => DataValue::Timestamp(endian::read_i64(list, at)),
+        _ => DataValue::Null,
+    }
+}
+
+pub fn value_record_at(list: &[u8], at: usize) -> ValueRecord
+    requires { ⌜ at < length (now list) ⌝ }
+    ensures { λ r. ⌜ r ≡ recordAt (now (list .entry)) at ⌝ }
+{
+    let size = record_size(list, at);
+    if size == 0 {
+        return ValueRecord::Refused(Refusal::BadValueList(at));
+    }
+    let kind = list[at];
+    ValueRecord::Value(value_at(list, at + 1, kind), at + size)
+}
+
+// Whether a list has one record a column, beside a text area of `area` bytes. The bodies are not looked at.
+pub fn check_values(list: &[u8], columns: usize, area: usize) -> ListCheck
+    ensures { λ r. ⌜ r ≡ answer (checked rowLimit columns area (now (list .entry))) ⌝ }
+{
+    let mut at = 0;
+    let mut count = 0;
+    while at < list.len() {
+        let size = record_size(list, at);
+        if size == 0 {
+            return ListCheck::Refused(Refusal::BadValueList(at));
+        }
+        at += size;
+        count += 1;
+    }
+    if count != columns {
+        return ListCheck::Refused(Refusal::BadValueList(list.len()));
+    }
+    if 65535 < area {
+        return ListCheck::Refused(Refusal::BadValueList(0));
+    }
+    ListCheck::Good
+}
+
+fn put(out: &mut [u8], at: usize, b: u8)
+    requires { ⌜ at + 1 ≤ length (now out) ⌝ }
+    ensures { λ _. ⌜ now (out .exit) ≡ sets (now (out .entry)) at (b ∷ []) ⌝ }
+{
+    out[at] = b;
+}
+
+// The records by their bodies. Each hands back the place after it.
+fn write_null(out: &mut [u8], at: usize) -> usize
+    requires { ⌜ at + 1 ≤ length (now out) ⌝ }
+    ensures { λ r. ⌜ (r ≡ at + 1) × (now (out .exit) ≡ sets (now (out .entry)) at (0 ∷ [])) ⌝ }
+{
+    put(out, at, 0);
+    at + 1
+}
+
+fn write_8(out: &mut [u8], at: usize, kind: u8, x: u8) -> usize
+    requires { ⌜ at + 2 ≤ length (now out) ⌝ }
+    ensures { λ r. ⌜ (r ≡ at + 2) × (now (out .exit) ≡ sets (now (out .entry)) at (kind ∷ (x ∷ []))) ⌝ }
+{
+    put(out, at, kind);
+    put(out, at + 1, x);
+    at + 2
+}
+
+fn write_16(out: &mut [u8], at: usize, kind: u8, x: u16) -> usize
+    requires { ⌜ at + 3 ≤ length (now out) ⌝ }
+    ensures { λ r. ⌜ (r ≡ at + 3) × (now (out .exit) ≡ sets (now (out .entry)) at (kind ∷ toLe 2 x)) ⌝ }
+{
+    put(out, at, kind);
+    endian::write_u16(out, at + 1, x);
+    at + 3
+}
+
+fn write_32(out: &mut [u8], at: usize, kind: u8, x: u32) -> usize
+    requires { ⌜ at + 5 ≤ length (now out) ⌝ }
+    ensures { λ r. ⌜ (r ≡ at + 5) × (now (out .exit) ≡ sets (now (out .entry)) at (kind ∷ toLe 4 x)) ⌝ }
+{
+    put(out, at, kind);
+    endian::write_u32(out, at + 1, x);
+    at + 5
+}
+
+fn write_64(out: &mut [u8], at: usize, kind: u8, x: u64) -> usize
+    requires { ⌜ at + 9 ≤ length (now out) ⌝ }
+    ensures { λ r. ⌜ (r ≡ at + 9) × (now (out .exit) ≡ sets (now (out .entry)) at (kind ∷ toLe 8 x)) ⌝ }
+{
+    put(out, at, kind);
+    endian::write_u64(out, at + 1, x);
+    at + 9
+}
+
+fn write_numeric(out: &mut [u8], at: usize, n: NumericValue) -> usize
+    requires { ⌜ at + 18 ≤ length (now out) ⌝ }
+    ensures { λ r. ⌜ (r ≡ at + 18) × (now (out .exit) ≡ sets (now (out .entry)) at (6 ∷ numericBytes n)) ⌝ }
+{
+    put(out, at, 6);
+    endian::write_u64(out, at + 1, n.low);
+    endian::write_i64(out, at + 9, n.high);
+    put(out, at + 17, n.scale);
+    at + 18
+}
+
+fn write_range(out: &mut [u8], at: usize, kind: u8, r: TextRange) -> usize
+    requires { ⌜ (at + 5 ≤ length (now out)) × NarrowRange r ⌝ }
+    ensures { λ e. ⌜ (e ≡ at + 5) × (now (out .exit) ≡ sets (now (out .entry)) at (kind ∷ rangeBytes r)) ⌝ }
+{
+    put(out, at, kind);
+    endian::write_u16(out, at + 1, r.start as u16);
+    endian::write_u16(out, at + 3, r.length as u16);
+    at + 5
+}
+
+// The place after the record.
+pub fn write_value_record(out: &mut [u8], at: usize, v: DataValue) -> usize
+    requires { ⌜ (at + length (recordOf v) ≤ length (now out)) × Narrow v ⌝ }
+    ensures { λ r. ⌜ (r ≡ at + length (recordOf v)) × (now (out .exit) ≡ sets (now (out .entry)) at (recordOf v)) ⌝ }
+{
+    match v {
+        DataValue::Null => write_null(out, at),
+        DataValue::SmallInt(x) => write_16(out, at, 1, signed::cast_unsigned_16(x)),
+        DataValue::Int(x) => write_32(out, at, 2, signed::cast_unsigned_32(x)),
+        DataValue::BigInt(x) => write_64(out, at, 3, signed::cast_unsigned_64(x)),
+        DataValue::Real(x) => write_32(out, at, 4, x),
+        DataValue::DoublePrecision(x) => write_64(out, at, 5, x),
+        DataValue::Numeric(n) => write_numeric(out, at, n),
+        DataValue::Bool(b) => write_8(out, at, 7, b),
+        DataValue::Char(r) => write_range(out, at, 8, r),
+        DataValue::Varchar(r) => write_range(out, at, 9, r),
+        DataValue::Date(x) => write_32(out, at, 10, signed::cast_unsigned_32(x)),
+        DataValue::Time(x) => write_64(out, at, 11, signed::cast_unsigned_64(x)),
+        DataValue::Bit(r) => write_range(out, at, 12, r),
+        DataValue::Timestamp(x) => write_64(out, at, 13, signed::cast_unsigned_64(x)),
+    }
+}
