@@ -1,0 +1,103 @@
+//! The calls of document 01 ("01" in all files here) as plain, slow code: a
+//! schema is a list of types, a value list a list of values, a row a
+//! concatenation. Written from 01 alone, to compare faster code with.
+//!
+//! - `schema`: schema bytes to a list of types, refusals 1 and 2;
+//! - `value`: value lists to a list of values, refusal 10, matching;
+//! - `stored`: a value's stored form: which suit, written, read, the same;
+//! - `text`: which text is valid;
+//! - `layout`: where the parts of a row are;
+//! - `read`, `build`, `edit`: the calls.
+//!
+//! An output buffer is changed by a call that answers 0 and by no other, and
+//! then only where the result stands.
+
+#![forbid(unsafe_code)]
+
+pub mod build;
+pub mod edit;
+pub mod layout;
+pub mod read;
+pub mod schema;
+pub mod stored;
+pub mod text;
+pub mod value;
+
+pub use build::{build, fresh};
+pub use edit::{set, set_null};
+pub use read::{is_null, read, same_content, text};
+pub use text::text_valid;
+
+/// The most bytes of a row and of a text area.
+pub const LIMIT: usize = 65_535;
+
+/// The most columns of a schema.
+pub const MAX_COLUMNS: usize = 256;
+
+/// A number of 01's table other than 0, and its place.
+pub type Refusal = (u32, usize);
+
+/// The answer of a call that writes bytes: how many the result has. After a
+/// refusal the length is 0, but that of set and set null is the length passed.
+#[derive(Debug, Clone, Copy, PartialEq, Eq)]
+pub struct RowAnswer {
+    pub number: u32,
+    pub place: usize,
+    pub length: usize,
+}
+
+impl RowAnswer {
+    /// The answer to a call that refuses with this length.
+    fn of(result: Result<usize, Refusal>, refused: usize) -> Self {
+        let (number, place, length) = match result {
+            Ok(length) => (0, 0, length),
+            Err((number, place)) => (number, place, refused),
+        };
+        RowAnswer {
+            number,
+            place,
+            length,
+        }
+    }
+}
+
+/// The answer of a call that tells a flag, 0 or 1; 0 after a refusal.
+#[derive(Debug, Clone, Copy, PartialEq, Eq)]
+pub struct FlagAnswer {
+    pub number: u32,
+    pub place: usize,
+    pub flag: usize,
+}
+
+impl FlagAnswer {
+    fn of(result: Result<bool, Refusal>) -> Self {
+        let (number, place, flag) = match result {
+            Ok(flag) => (0, 0, usize::from(flag)),
+            Err((number, place)) => (number, place, 0),
+        };
+        FlagAnswer {
+            number,
+            place,
+            flag,
+        }
+    }
+}
+
+/// The answer of the text call: the part of the row; 0 and 0 for a null and
+/// after a refusal.
+#[derive(Debug, Clone, Copy, PartialEq, Eq)]
+pub struct TextAnswer {
+    pub number: u32,
+    pub place: usize,
+    pub start: usize,
+    pub length: usize,
+}
+
+/// Puts a result at the start of an output; 14 if it has no room.
+fn put(result: &[u8], out: &mut [u8]) -> Result<usize, Refusal> {
+    if result.len() > out.len() {
+        return Err((14, 0));
+    }
+    out[..result.len()].copy_from_slice(result);
+    Ok(result.len())
+}

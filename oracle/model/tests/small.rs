@@ -1,0 +1,170 @@
+//! The model compared with the Rust on all small rows of some schemas: every
+//! bitmap, every offset up to past the row's end, payloads of three bytes.
+
+mod common;
+mod expected;
+
+use cases::history::Call;
+use cases::schema::write_schema;
+use cases::value::{Record, TextRange, ValueList, is_value};
+use common::{FILL, done, refused, with_output};
+use expected::Refusal;
+use rookdb::types::datatype::DataType;
+
+/// A letter and the two bytes of another.
+const BYTES: [u8; 3] = [b'A', 0xC3, 0xA9];
+
+/// All lists of this length of these members.
+fn lists<T: Copy>(members: &[T], length: usize) -> Vec<Vec<T>> {
+    (0..length).fold(vec![vec![]], |shorter, _| {
+        let longer = |list: &Vec<T>| {
+            let mut lists = Vec::new();
+            for &member in members {
+                lists.push([&list[..], &[member]].concat());
+            }
+            lists
+        };
+        shorter.iter().flat_map(longer).collect()
+    })
+}
+
+/// All rows of up to this many bytes past the offset table.
+fn rows(types: &[DataType], past: usize) -> Vec<Vec<u8>> {
+    let varchars = types.iter().filter(|ty| ty.is_variable_length()).count();
+    let table = 5;
+    let most = table + 2 * varchars + past;
+    let offsets: Vec<u16> = (0..=most as u16 + 1).collect();
+    let mut rows = Vec::new();
+    for flag in [0x80, 0] {
+        for bitmap in 0..1 << types.len() {
+            for offsets in lists(&offsets, varchars) {
+                for length in 0..=past {
+                    for payload in lists(&BYTES, length) {
+                        let mut row = vec![types.len() as u8, 0, varchars as u8, flag, bitmap];
+                        row.extend(offsets.iter().flat_map(|offset| offset.to_le_bytes()));
+                        row.extend(payload);
+                        rows.push(row);
+                    }
+                }
+            }
+        }
+    }
+    rows
+}
+
+fn reads(types: &[DataType], row: &[u8], wanted: &[u16]) {
+    let schema = write_schema(types);
+    let (answer, list) = with_output(99, |out| model::read(&schema, row, wanted, out));
+    let input = || format!("{types:?} {row:X?} {wanted:?}");
+    match expected::read(types, row, wanted) {
+        Ok(values) => {
+            assert_eq!(answer, done(list.len()), "{}", input());
+            let list = ValueList {
+                bytes: list,
+                text: row.to_vec(),
+            };
+            let records = list.records(types.len()).expect("a value list");
+            let mut pairs = records.iter().zip(&values);
+            let same = pairs.all(|(record, value)| is_value(record, row, value.as_ref()));
+            assert!(same, "{} {records:?} {values:?}", input());
+        }
+        Err(refusal) => {
+            let model = Refusal::of((answer.number, answer.place));
+            assert_eq!((model, answer.length), (refusal, 0), "{}", input());
+        }
+    }
+}
+
+fn edits(types: &[DataType], row: &[u8], call: &Call) {
+    let schema = write_schema(types);
+    let mut before = row.to_vec();
+    before.resize(row.len() + 2, FILL);
+    let mut buf = before.clone();
+    let answer = match call {
+        Call::SetNull { column } => model::set_null(&schema, &mut buf, row.len(), *column),
+        Call::Set { column, values } => {
+            let (list, text) = (&values.bytes, &values.text);
+            model::set(&schema, &mut buf, row.len(), *column, list, text)
+        }
+    };
+    let mut after = before;
+    let wanted = match expected::edit(types, row, call) {
+        Ok(new) if new.len() > after.len() => refused(14, 0, row.len()),
+        Ok(new) => {
+            after[..new.len()].copy_from_slice(&new);
+            done(new.len())
+        }
+        Err((number, place)) => refused(number, place, row.len()),
+    };
+    assert_eq!(
+        (answer, buf),
+        (wanted, after),
+        "{types:?} {row:X?} {call:?}"
+    );
+}
+
+/// A set to each short text, and set null.
+fn calls(types: &[DataType]) -> Vec<Call> {
+    let mut calls = Vec::new();
+    for column in 0..=types.len() {
+        calls.push(Call::SetNull { column });
+        for text in [&b""[..], b"B", b"BC", b"BCD", b"\xC3"] {
+            let range = TextRange {
+                start: 0,
+                length: text.len() as u16,
+            };
+            let record = match types.get(column) {
+                Some(DataType::Bool) => Record::Bool(text.len() as u8),
+                _ => Record::Varchar(range),
+            };
+            let values = ValueList::of_records(&[record], text.to_vec());
+            calls.push(Call::Set { column, values });
+        }
+    }
+    calls
+}
+
+/// The number of comparisons made.
+fn compare(types: &[DataType], past: usize) -> usize {
+    let columns: Vec<u16> = (0..types.len() as u16).collect();
+    let calls = calls(types);
+    let rows = rows(types, past);
+    for row in &rows {
+        for &column in &columns {
+            reads(types, row, &[column]);
+        }
+        reads(types, row, &columns);
+        for column in 0..=types.len() {
+            let answer = model::is_null(row, column);
+            let wanted = expected::null_flag(row, column);
+            match answer.number {
+                0 => assert_eq!(Ok(answer.flag == 1), wanted),
+                number => assert_eq!(Err(Refusal::of((number, answer.place))), wanted),
+            }
+        }
+        for call in &calls {
+            edits(types, row, call);
+        }
+    }
+    rows.len() * (2 * columns.len() + 2 + calls.len())
+}
+
+#[test]
+fn all_small_rows() {
+    let varchar = || DataType::Varchar(2);
+    let mut compared = compare(&[varchar()], 4);
+    compared += compare(&[varchar(), DataType::Bool], 3);
+    compared += compare(&[DataType::Varchar(1), varchar()], 2);
+    println!("{compared} comparisons");
+}
+
+#[test]
+#[ignore = "takes minutes"]
+fn all_larger_rows() {
+    let varchar = || DataType::Varchar(2);
+    let mut compared = compare(&[varchar()], 6);
+    compared += compare(&[varchar(), varchar()], 3);
+    compared += compare(&[varchar(), DataType::SmallInt, varchar()], 3);
+    compared += compare(&[varchar(), varchar(), varchar()], 1);
+    println!("{compared} comparisons");
+}
