@@ -1,3 +1,4 @@
+pub mod Bounds
 pub mod Digits
 pub mod Packing
 pub mod Reading
