@@ -3,9 +3,11 @@ use mathlib.Core.Path.{refl}
 use Rattle.row_format.specs.Table.{lay}
 use Rattle.row_format.specs.Row.{header, rowWith}
 use Rattle.datatype.specs.Schema.{schemaOf}
+use Rattle.numeric.specs.Decimal.{digits}
+use Rattle.numeric.specs.Packed.{encodeBcd}
 use Rattle.text.specs.Rfc3629.{octets}
 use Rattle.worked.specs.Cases.{Holds, columns, S, row, table}
 
 pub worked : Holds table
-unfolding table row S columns schemaOf rowWith lay header octets
-worked = (refl, (refl, (refl, (refl, (refl, (refl, tt))))))
+unfolding table row S columns schemaOf rowWith lay header octets digits encodeBcd
+worked = (refl, (refl, (refl, (refl, (refl, (refl, (refl, (refl, (refl, (refl, (refl, (refl, (refl, (refl, tt))))))))))))))

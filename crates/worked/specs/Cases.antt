@@ -13,6 +13,18 @@ use Rattle.row_format.specs.Row.{builtRow}
 use Rattle.datatype.specs.Types.{shapeOf}
 use Rattle.datatype.specs.Schema.{Parsed, types, refused, schemaOf}
 use Rattle.text.specs.Rfc3629.{isText}
+use lib.IntN.{ℤ, pos, negsuc}
+use mir.Syntax.{w32, w64}
+use mir.Val.{ofZ}
+use Rattle.datatype.specs.declared.DataType.{DataType}
+use Rattle.datatype.specs.declared.DataType.the-variants as T
+use Rattle.value.specs.declared.DataValue.the-variants.{Numeric}
+use Rattle.value_list.specs.Records.{recordOf}
+use Rattle.stored_form.specs.declared.SlotRead.{SlotRead}
+use Rattle.stored_form.specs.declared.SlotRead.the-variants.{Value, NoValue}
+use Rattle.stored_form.specs.Number.{numberOf}
+use Rattle.stored_form.specs.Write.{storedForm}
+use Rattle.stored_form.specs.Read.{readSlot}
 
 pub record Case : Type 0 where
   pub computed : List ℕ
@@ -41,6 +53,17 @@ row cells = builtRow offsetWidth S cells
 abbrev pub one : Cell
 one = some (toLe 4 1)
 
+-- 0 and the value's record, or 8
+abbrev pub told : SlotRead → List ℕ
+told (Value v) = 0 ∷ recordOf v
+told NoValue = 8 ∷ []
+
+abbrev pub time : ℤ → List ℕ
+time z = told (readSlot T.Time 0 (toLe 8 (ofZ w64 z)))
+
+abbrev pub date : ℤ → List ℕ
+date z = told (readSlot T.Date 0 (toLe 4 (ofZ w32 z)))
+
 unfoldable pub table : List Case
 unfolding row columns
 table =
@@ -54,6 +77,17 @@ table =
     ∷ record { computed = row (one ∷ none ∷ none ∷ []); stated = 3 ∷ 0 ∷ 1 ∷ 0x80 ∷ 6 ∷ 0 ∷ 0 ∷ 1 ∷ 0 ∷ 0 ∷ 0 ∷ 0 ∷ 0 ∷ [] }
     -- 5. SmallInt, Int: minimum packed, padded
     ∷ record { computed = map (λ p. minimum offsetWidth p (columns (1 ∷ 2 ∷ []))) (true ∷ false ∷ []); stated = 11 ∷ 13 ∷ [] }
+    -- 6. Numeric(4,2) of -12.34, Numeric(3,0) of 7
+    ∷ record { computed = storedForm (T.Numeric 4 2) (Numeric (numberOf true 1234 2)) []; stated = 0x01 ∷ 0x23 ∷ 0x4D ∷ [] }
+    ∷ record { computed = storedForm (T.Numeric 3 0) (Numeric (numberOf false 7 0)) []; stated = 0x00 ∷ 0x7C ∷ [] }
+    -- 7. Time 86,399,999,999 read, as FF 5F D7 1D 14; 86,400,000,000 and -1 give 8; 4,294,967,296,000,000 reads as 0
+    ∷ record { computed = time (pos 86399999999); stated = 0 ∷ 11 ∷ 0xFF ∷ 0x5F ∷ 0xD7 ∷ 0x1D ∷ 0x14 ∷ 0 ∷ 0 ∷ 0 ∷ [] }
+    ∷ record { computed = time (pos 86400000000); stated = 8 ∷ [] }
+    ∷ record { computed = time (negsuc 0); stated = 8 ∷ [] }
+    ∷ record { computed = time (pos 4294967296000000); stated = 0 ∷ 11 ∷ 0 ∷ 0 ∷ 0 ∷ 0 ∷ 0 ∷ 0 ∷ 0 ∷ 0 ∷ [] }
+    -- 8. Date 2,932,896 read, as A0 C0 2C; 2,932,897 gives 8
+    ∷ record { computed = date (pos 2932896); stated = 0 ∷ 10 ∷ 0xA0 ∷ 0xC0 ∷ 0x2C ∷ 0 ∷ [] }
+    ∷ record { computed = date (pos 2932897); stated = 8 ∷ [] }
     -- 9. text ED A0 80, C0 80 and F4 90 80 80 invalid, F4 8F BF BF valid
     ∷ record {
       computed = map (λ s. bitValue (isText s)) ((0xED ∷ 0xA0 ∷ 0x80 ∷ []) ∷ (0xC0 ∷ 0x80 ∷ []) ∷ (0xF4 ∷ 0x90 ∷ 0x80 ∷ 0x80 ∷ []) ∷ (0xF4 ∷ 0x8F ∷ 0xBF ∷ 0xBF ∷ []) ∷ []);
