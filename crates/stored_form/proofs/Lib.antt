@@ -1,2 +1,4 @@
 pub mod Lengths
 pub mod Matched
+pub mod Numbers
+pub mod ReadBack
