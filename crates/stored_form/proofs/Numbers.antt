@@ -12,6 +12,7 @@ use mir.ValLaws.{toZ-ofZ, ofZ-fits}
 use Rattle.laws.specs.Bytes.{toLe, fromLe}
 use Rattle.laws.proofs.Bytes.{from-to}
 use Rattle.numeric.specs.Decimal.{halves}
+use Rattle.numeric.proofs.Digits.{upper-half, lower-half}
 use Rattle.value.specs.declared.NumericValue.{NumericValue}
 use Rattle.stored_form.specs.Number.{isNegative, magnitude, numberOf}
 
@@ -32,12 +33,6 @@ bool-back (suc (suc b)) e = let l : suc (suc b) ≤ 1 = leb-true (suc (suc b)) 1
 -- ---- a number in two halves
 
 module _ (h low : ℕ) (l : low < 2 ^ 64) where
-  upper : (h * 2 ^ 64 + low) / 2 ^ 64 ≡ h
-  upper = omega arith
-
-  lower : (h * 2 ^ 64 + low) % 2 ^ 64 ≡ low
-  lower = omega arith
-
   -- below zero, the magnitude less 1
   less : suc h * 2 ^ 64 - low ≡ suc (h * 2 ^ 64 + (2 ^ 64 - 1 - low))
   less = omega arith
@@ -50,10 +45,10 @@ module _ (h low : ℕ) (l : low < 2 ^ 64) where
 
 -- its sign and its magnitude give the number back
 halves-back : (h : ℤ) (low s : ℕ) → low < 2 ^ 64 → numberOf (isNegative h) (magnitude h low) s ≡ record { high = h; low = low; scale = s }
-halves-back (pos h) low s l = rw (upper h low l, lower h low l)
+halves-back (pos h) low s l = rw (upper-half h low l, lower-half h low l)
 halves-back (negsuc h) low s l =
     let m : ℕ = 2 ^ 64 - 1 - low in
-    rw (less h low l, upper h m (other h low l), lower h m (other h low l), twice h low l)
+    rw (less h low l, upper-half h m (other h low l), lower-half h m (other h low l), twice h low l)
 
 pub number-back : (n : NumericValue) (s : ℕ) → n .low < 2 ^ 64 → n .scale ≡ s
     → (let m = magnitude (n .high) (n .low) in numberOf (isNegative (n .high)) (halves (m / 2 ^ 64) (m % 2 ^ 64)) s) ≡ n

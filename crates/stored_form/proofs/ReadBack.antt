@@ -7,8 +7,8 @@ use borrow.Author.Tests.{eqb-true, ltb-true, le-ltb}
 use lib.Dec.{eqb, ltb}
 use lib.IntN.{ℤ}
 use lib.ListN.{length, replicate}
-use lib.Seq.{take-at, drop-at}
 use mir.Syntax.{w16, w32, w64}
+use Rattle.laws.proofs.Parts.{part-at}
 use Rattle.laws.proofs.Truths.{both}
 use Rattle.text.specs.Rfc3629.{isText}
 use Rattle.text.proofs.Append.{text-append, blanks}
@@ -93,9 +93,6 @@ range-matched t v x start (date z) e f = absurd (false≢true f)
 range-matched t v x start (time z) e f = absurd (false≢true f)
 range-matched t v x start (bit n r) e f = ap (λ (k : ℕ). record { start = start; length = k }) (sym (length-packed (bytesFor n) (unpackBits n x)))
 range-matched t v x start (timestamp z) e f = absurd (false≢true f)
-
-part-at : (us bs vs : List ℕ) (start : ℕ) → length us ≡ start → part (us ++ (bs ++ vs)) (whole start bs) ≡ bs
-part-at us bs vs start e = rw (drop-at us (bs ++ vs) start e) (take-at bs vs (length bs) refl)
 
 -- in any row with the slot at `start`
 pub text-stored : (t : DataType) (v : DataValue) (x us vs : List ℕ) (start : ℕ) → matches t v ≡ true → suits t v x ≡ true → hasText v ≡ true → length us ≡ start

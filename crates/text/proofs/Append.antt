@@ -1,19 +1,15 @@
 -- Text followed by text is text.
 use Prim.Native.Nat.{ℕ, zero, suc}
 use mathlib.Core.Path.{_≡_, refl, sym, _∙_}
-use mathlib.Core.Bool.{Bool, true, false, cond, _||_, false≢true}
+use mathlib.Core.Bool.{Bool, true, false, cond, false≢true}
 use mathlib.Core.List.{List, [], _∷_, _++_}
 use mathlib.Core.Option.{Option, none}
 use lib.ListN.{replicate}
+use Rattle.laws.proofs.Truths.{or-map}
 use Rattle.text.specs.Rfc3629.{Range, Form, within, utf8-char, more, begin, octets, given, isText}
 use Rattle.text.proofs.Grammar.{given-more, given-or}
 
 -- what gives a number still does with another end
-kept-or : (x y : Bool) {p q : Bool} → (x ≡ true → p ≡ true) → (y ≡ true → q ≡ true) → (x || y) ≡ true → (p || q) ≡ true
-kept-or true y f g e = rw (f refl)
-kept-or false y {p = true} f g e = refl
-kept-or false y {p = false} f g e = g e
-
 kept-if : (t : Bool) (x y : Option ℕ) → (given x ≡ true → given y ≡ true) → given (cond t x none) ≡ true → given (cond t y none) ≡ true
 kept-if true x y f e = f e
 kept-if false x y f e = e
@@ -25,7 +21,7 @@ module _ (b : ℕ) (go on : List Range → Option ℕ) (f : (rest : List Range) 
   kept-begin ((r ∷ rest) ∷ forms) e =
       let g : given (more (go rest)) ≡ true → given (more (on rest)) ≡ true = λ h. given-more (on rest) ∙ f rest (sym (given-more (go rest)) ∙ h) in
       given-or (cond (within r b) (more (on rest)) none) (begin forms b on)
-      ∙ kept-or (given (cond (within r b) (more (go rest)) none)) (given (begin forms b go)) (kept-if (within r b) (more (go rest)) (more (on rest)) g) (kept-begin forms)
+      ∙ or-map (given (cond (within r b) (more (go rest)) none)) (given (begin forms b go)) (kept-if (within r b) (more (go rest)) (more (on rest)) g) (kept-begin forms)
       (sym (given-or (cond (within r b) (more (go rest)) none) (begin forms b go)) ∙ e)
 
 module _ (y : List ℕ) (f : isText y ≡ true) where
