@@ -1,10 +1,10 @@
--- A part `&s[at..]` of a slice, as the borrow checker hands it on.
+-- A part of a list: `&s[at..]`, as the borrow checker hands it on, and one that is known by its place.
 use Prim.Native.Nat.{ℕ, _-_}
-use mathlib.Core.Path.{_≡_}
-use mathlib.Core.List.{List, []}
+use mathlib.Core.Path.{_≡_, refl}
+use mathlib.Core.List.{List, [], _++_}
 use native.Mathlib.Omega.{arith}
 use lib.ListN.{length, take, drop, length-drop, drop-of-length-le}
-use lib.Seq.{take-all}
+use lib.Seq.{take-all, take-at, drop-at}
 
 -- all that follows `at`
 pub part-all : (s : List ℕ) (at : ℕ) → take (length s - at) (drop at s) ≡ drop at s
@@ -13,3 +13,7 @@ part-all s at = take-all (length s - at) (drop at s) (simp length-drop (omega ar
 -- and nothing after it
 pub part-none : (s : List ℕ) (at : ℕ) → drop (length s - at) (drop at s) ≡ []
 part-none s at = drop-of-length-le (drop at s) {i = length s - at} (simp length-drop (omega arith))
+
+-- what stands between others
+pub part-at : (us bs vs : List ℕ) (at : ℕ) → length us ≡ at → take (length bs) (drop at (us ++ (bs ++ vs))) ≡ bs
+part-at us bs vs at e = rw (drop-at us (bs ++ vs) at e) (take-at bs vs (length bs) refl)

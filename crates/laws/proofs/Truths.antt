@@ -27,6 +27,11 @@ pub or-none : (x y : Bool) → (x || y) ≡ false → (x ≡ false) × (y ≡ fa
 or-none true y e = absurd (false≢true (sym e))
 or-none false y e = (refl, e)
 
+pub or-map : (x y : Bool) {p q : Bool} → (x ≡ true → p ≡ true) → (y ≡ true → q ≡ true) → (x || y) ≡ true → (p || q) ≡ true
+or-map true y f g e = rw (f refl)
+or-map false y {p = true} f g e = refl
+or-map false y {p = false} f g e = g e
+
 -- two that hold together
 pub same : {x y : Bool} → (x ≡ true → y ≡ true) → (y ≡ true → x ≡ true) → x ≡ y
 same {x = true} f g = sym (f refl)

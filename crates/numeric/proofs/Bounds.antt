@@ -24,8 +24,8 @@ denote-below (d ∷ ds) e =
     rw (pow-suc 10 (length ds)) (omega (arith, mul-le-mul-right (10 ^ length ds) l))
 
 -- 38 digits do not reach 2 ^ 127
-upper-half : (x n : ℕ) → x < 10 ^ n → n ≤ 38 → x / 2 ^ 64 < 2 ^ 63
-upper-half x n h l = div-lt-iff-lt-mul {k = 2 ^ 64} {x = x} {y = 2 ^ 63} (omega arith) .1 (lt-of-lt-of-le (lt-of-lt-of-le h (pow-le-pow-right (omega arith) l)) (leb-true (10 ^ 38) (2 ^ 63 * 2 ^ 64) refl))
+below-signed : (x n : ℕ) → x < 10 ^ n → n ≤ 38 → x / 2 ^ 64 < 2 ^ 63
+below-signed x n h l = div-lt-iff-lt-mul {k = 2 ^ 64} {x = x} {y = 2 ^ 63} (omega arith) .1 (lt-of-lt-of-le (lt-of-lt-of-le h (pow-le-pow-right (omega arith) l)) (leb-true (10 ^ 38) (2 ^ 63 * 2 ^ 64) refl))
 
 abbrev pub Signable : Decoded → Type 0
 Signable (D.Value negative high low) = high < 2 ^ 63
@@ -38,7 +38,7 @@ signable p bs h =
     let s = getD (nibbles bs) (frontSize p + p) 0 in
     by-cond (λ m. Signable (signed s m)) (allDigits ds) (M.Number (denote ds / 2 ^ 64) (denote ds % 2 ^ 64)) M.Broken
     (λ e.
-    let l : denote ds / 2 ^ 64 < 2 ^ 63 = upper-half (denote ds) (length ds) (denote-below ds e) (rw length-take (omega arith)) in
+    let l : denote ds / 2 ^ 64 < 2 ^ 63 = below-signed (denote ds) (length ds) (denote-below ds e) (rw length-take (omega arith)) in
     by-cond Signable (eqb s 0xC) (D.Value false (denote ds / 2 ^ 64) (denote ds % 2 ^ 64)) _ (λ _. l)
     (λ _. by-cond Signable (eqb s 0xD) (D.Value true (denote ds / 2 ^ 64) (denote ds % 2 ^ 64)) D.Broken (λ _. l) (λ _. tt)))
     (λ _. tt)

@@ -15,6 +15,14 @@ use Rattle.numeric.specs.Decimal.{halves, digits, denote}
 pub no-high : (high low : ℕ) → high ≡ 0 → low ≡ halves high low
 no-high high low h = omega arith
 
+-- the halves of a number in halves
+module _ (high low : ℕ) (l : low < 2 ^ 64) where
+  pub upper-half : halves high low / 2 ^ 64 ≡ high
+  upper-half = omega arith
+
+  pub lower-half : halves high low % 2 ^ 64 ≡ low
+  lower-half = omega arith
+
 -- the order of two numbers in halves, of which the second is given whole
 module _ (high low x : ℕ) where
   pub high-below : low < 2 ^ 64 → high < x / 2 ^ 64 → halves high low < x

@@ -13,6 +13,7 @@ use lib.Seq.{take-suc, take-length, split-at, getD-take, getD-drop}
 use Rattle.numeric.specs.declared.Magnitude.the-variants.{Number, Broken}
 use Rattle.numeric.specs.Decimal.{halves, denote}
 use Rattle.numeric.specs.Packed.{nibbles, allDigits, magnitudeOf}
+use Rattle.numeric.proofs.Digits.{upper-half, lower-half}
 
 -- ---- the nibbles of bytes
 
@@ -101,10 +102,7 @@ one-half n k h l =
     rw (x, y)
 
 two-halves : (high low : ℕ) → low < 2 ^ 64 → Number high low ≡ Number (halves high low / 2 ^ 64) (halves high low % 2 ^ 64)
-two-halves high low h =
-    let x : halves high low / 2 ^ 64 ≡ high = omega arith in
-    let y : halves high low % 2 ^ 64 ≡ low = omega arith in
-    rw (x, y)
+two-halves high low h = rw (upper-half high low h, lower-half high low h)
 
 -- ---- the same of p nibbles, after the first `front`
 

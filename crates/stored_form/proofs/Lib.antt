@@ -1,2 +1,5 @@
 pub mod Lengths
 pub mod Within
+pub mod Matched
+pub mod Numbers
+pub mod ReadBack

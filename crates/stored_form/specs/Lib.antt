@@ -1,3 +1,4 @@
 pub mod Number
 pub mod Write
 pub mod Read
+pub mod ReadBack

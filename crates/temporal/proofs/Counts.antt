@@ -1,17 +1,17 @@
 -- Signed counts, compared and divided. A machine's number is known by its bits, so an operation on z reads `toZ w (ofZ w z)`, which is z.
 use Prim.Native.Nat.{ℕ, zero, suc, _+_, _*_, _/_, _%_, _^_, _≤_, _<_, zero-le}
 use mathlib.Core.Path.{_≡_, refl, ap, _∙_, subst}
-use mathlib.Core.Bool.{true, false}
+use mathlib.Core.Bool.{true, false, false≢true}
 use native.Mathlib.Nat.{div-le-self, le-of-suc-le-suc, lt-of-le-of-lt, mod-lt}
 use native.Mathlib.Omega.{arith}
 use lib.IntN.{ℤ, pos, negsuc, negℤ, natAbs}
 use lib.Signed.{ltZ, leZ, mag, quotZ, remZ, nonNeg, mag-rem}
-use lib.Dec.{T, leb}
+use lib.Dec.{T, leb, ltb}
 use mir.Syntax.{Width, w64}
 use mir.Val.{SFits, Fits, toZ, ofZ}
 use mir.ValLaws.{toZ-ofZ, toZ-pos}
-use borrow.Author.Tests.{le-leb, lt-leb}
-use Rattle.temporal.specs.Ranges.{within}
+use borrow.Author.Tests.{le-leb, lt-leb, le-ltb, leb-true}
+use Rattle.temporal.specs.Ranges.{within, isTime}
 use Rattle.temporal.specs.Time.{modZ, timeOf}
 use Rattle.temporal.specs.declared.TimeOfDay.the-variants.{Micros, OutOfRange}
 
@@ -99,3 +99,16 @@ module _ (z : ℤ) (f : SFits w64 z) where
         in-day l =
             let t : leb 86400 (modZ (quotZ z (pos 1000000)) (2 ^ 32)) ≡ false = rw q at (lt-leb 86400 s l) in
             rw (k, t, ← q, ← e) (ap Micros (toZ-pos w64 (s * 1000000 + natAbs r) (count-signed l .sfits)))
+
+-- ---- a time that may be written is read as itself
+
+time-pos : (n : ℕ) → n ≤ 86399999999 → timeOf (pos n) ≡ Micros (pos n)
+time-pos n h =
+    let rest : ltb (n % 1000000) 0 ≡ false = le-ltb (n % 1000000) 0 (omega arith) in
+    let day : leb 86400 (n / 1000000 % 2 ^ 32) ≡ false = lt-leb 86400 (n / 1000000 % 2 ^ 32) (omega arith) in
+    let e : n / 1000000 % 2 ^ 32 * 1000000 + n % 1000000 ≡ n = omega arith in
+    rw (rest, day, e)
+
+pub time-read : (z : ℤ) → isTime z ≡ true → timeOf z ≡ Micros z
+time-read (pos n) e = let z : ltb n 0 ≡ false = le-ltb n 0 (omega arith) in time-pos n (leb-true n 86399999999 (rw z at e))
+time-read (negsuc n) e = absurd (false≢true e)

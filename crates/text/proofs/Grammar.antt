@@ -21,11 +21,11 @@ inside lo hi b e = record { low = leb-true lo b (and-left (leb lo b) (leb b hi) 
 
 -- ---- whether there is a number
 
-given-more : (x : Option ℕ) → given (more x) ≡ given x
+pub given-more : (x : Option ℕ) → given (more x) ≡ given x
 given-more none = refl
 given-more (some n) = refl
 
-given-or : (x y : Option ℕ) → given (orElse x y) ≡ (given x || given y)
+pub given-or : (x y : Option ℕ) → given (orElse x y) ≡ (given x || given y)
 given-or none y = refl
 given-or (some n) y = refl
 

@@ -1,5 +1,5 @@
 -- Numbers made of a sign and a magnitude in two halves, and numbers that fill a slot.
-use Prim.Native.Nat.{ℕ, suc, _-_, _/_, _%_, _^_, _<_}
+use Prim.Native.Nat.{ℕ, suc, _-_, _^_, _<_}
 use mathlib.Core.Path.{_≡_, ap}
 use mathlib.Core.Bool.{true, false}
 use mathlib.Core.List.{List}
@@ -12,27 +12,22 @@ use mir.Val.{toZ}
 use mir.ValLaws.{toZ-ofZ, toZ-pos}
 use Rattle.laws.specs.Bytes.{fromLe}
 use Rattle.numeric.specs.Decimal.{halves}
+use Rattle.numeric.proofs.Digits.{upper-half, lower-half}
 use Rattle.stored_form.specs.Number.{numberOf}
 
 pub slot-taken : (w : ℕ) (bs : List ℕ) → length bs ≡ w → fromLe (take w bs) ≡ fromLe bs
 slot-taken w bs e = ap fromLe (take-all w bs (omega arith))
 
 module _ (q r : ℕ) (l : r < 2 ^ 64) where
-  upper : halves q r / 2 ^ 64 ≡ q
-  upper = omega arith
-
-  lower : halves q r % 2 ^ 64 ≡ r
-  lower = omega arith
-
   pub positive : (z : ℤ) (s : ℕ) → q < 2 ^ 63 → z ≡ toZ w64 q → record { high = z; low = r; scale = s } ≡ numberOf false (halves q r) s
-  positive z s h e = rw (upper, lower, e, toZ-pos w64 q h)
+  positive z s h e = rw (upper-half q r l, lower-half q r l, e, toZ-pos w64 q h)
 
   complement : q < 2 ^ 63 → toZ w64 (2 ^ 64 - 1 - q) ≡ negsuc q
   complement h = let e : 2 ^ 64 - 1 - q ≡ 2 ^ 64 - suc q = omega arith in rw e (toZ-ofZ w64 (negsuc q) (record { sfits = h }))
 
   -- one more than the halves say, below zero
   negative : (m : ℕ) (z : ℤ) (s : ℕ) → m ≡ suc (halves q r) → q < 2 ^ 63 → z ≡ toZ w64 (2 ^ 64 - 1 - q) → record { high = z; low = 2 ^ 64 - 1 - r; scale = s } ≡ numberOf true m s
-  negative m z s e h f = rw (e, upper, lower, f, complement h)
+  negative m z s e h f = rw (e, upper-half q r l, lower-half q r l, f, complement h)
 
 pub no-number : (h l s : ℕ) → l ≡ 0 → h ≡ 0 → record { high = pos 0; low = 0; scale = s } ≡ numberOf true (halves h l) s
 no-number h l s e f = rw (e, f)
