@@ -21,6 +21,7 @@ use Rattle.value.specs.declared.DataValue.the-variants as D
 use Rattle.value.specs.declared.NumericValue.{NumericValue}
 use Rattle.value.specs.declared.TextRange.{TextRange}
 use Rattle.value.specs.Kinds.{kindOf}
+use Rattle.value.specs.Ranges.{rangeOf as textRange}
 use Rattle.value_list.specs.declared.ValueRecord.the-variants.{Value, Refused}
 use Rattle.value_list.specs.Records.{bodyLength, numberAt, numericAt, rangeAt, valueAt, recordOfKind, recordAt, numericBytes, rangeBytes, bodyOf, recordOf, NarrowRange, SizedNumeric, Narrow, Sized}
 use Rattle.value_list.proofs.Sizes.{whole-of}
@@ -216,3 +217,36 @@ sized-narrow (D.Date x) f = tt
 sized-narrow (D.Time x) f = tt
 sized-narrow (D.Bit r) f = f
 sized-narrow (D.Timestamp x) f = tt
+
+pub record-short : (v : DataValue) → length (recordOf v) ≤ 18
+record-short D.Null = omega arith
+record-short (D.SmallInt x) = omega arith
+record-short (D.Int x) = omega arith
+record-short (D.BigInt x) = omega arith
+record-short (D.Real x) = omega arith
+record-short (D.DoublePrecision x) = omega arith
+record-short (D.Numeric x) = omega arith
+record-short (D.Bool x) = omega arith
+record-short (D.Char x) = omega arith
+record-short (D.Varchar x) = omega arith
+record-short (D.Date x) = omega arith
+record-short (D.Time x) = omega arith
+record-short (D.Bit x) = omega arith
+record-short (D.Timestamp x) = omega arith
+
+-- a range inside 65,535 bytes is narrow
+pub inside-narrow : (v : DataValue) → textRange v .start + textRange v .length ≤ 65535 → Narrow v
+inside-narrow D.Null h = tt
+inside-narrow (D.SmallInt x) h = tt
+inside-narrow (D.Int x) h = tt
+inside-narrow (D.BigInt x) h = tt
+inside-narrow (D.Real x) h = tt
+inside-narrow (D.DoublePrecision x) h = tt
+inside-narrow (D.Numeric x) h = tt
+inside-narrow (D.Bool x) h = tt
+inside-narrow (D.Char x) h = record { start = omega arith; size = omega arith }
+inside-narrow (D.Varchar x) h = record { start = omega arith; size = omega arith }
+inside-narrow (D.Date x) h = tt
+inside-narrow (D.Time x) h = tt
+inside-narrow (D.Bit x) h = record { start = omega arith; size = omega arith }
+inside-narrow (D.Timestamp x) h = tt

@@ -1,0 +1,42 @@
+-- For the proofs: the wanted columns marked in a list of flags, and what the inner functions hand on.
+use Prim.Native.Nat.{ℕ, _+_, _≤_}
+use mathlib.Core.Bool.{Bool, cond}
+use mathlib.Core.List.{List, [], _∷_}
+use mathlib.Core.Path.{_≡_}
+use lib.Dec.{eqb, ltb}
+use lib.ListN.{length, getD, set, take}
+use lib.Seq.{sets}
+use Rattle.error.specs.declared.Refusal.the-variants.{NoRoom}
+use Rattle.value_list.specs.Records.{recordOf}
+use Rattle.value_list.specs.Lists.{Values, values, refused, listOf}
+use Rattle.row_column.specs.declared.ColumnRead.{ColumnRead}
+use Rattle.row_column.specs.declared.ColumnRead.the-variants.{Value, Refused}
+use Rattle.row_decode.specs.declared.ReadAnswer.{ReadAnswer}
+use Rattle.row_decode.specs.declared.ReadAnswer.the-variants as Answer
+use Rattle.row_decode.specs.Read.{Outcome}
+
+abbrev pub marked : List ℕ → List ℕ → List ℕ
+marked m [] = m
+marked m (w ∷ ws) = marked (set m w 1) ws
+
+abbrev pub isMarked : List ℕ → ℕ → Bool
+isMarked m i = eqb (getD m i 0) 1
+
+-- a column's record written at `end`
+abbrev pub stepped : List ℕ → ℕ → ColumnRead → Outcome
+stepped buf end (Value v) = (Answer.Done (end + length (recordOf v)), sets buf end (recordOf v))
+stepped buf end (Refused e) = (Answer.Refused e, buf)
+
+-- all records written at the front of a buffer; after a refusal it may hold anything
+abbrev pub Filled : Values → List ℕ → ReadAnswer → List ℕ → Type 0
+Filled (values vs) buf r after = (r ≡ Answer.Done (length (listOf vs))) × ((after ≡ sets buf 0 (listOf vs)) × (length (listOf vs) ≤ length buf))
+Filled (refused e) buf r after = r ≡ Answer.Refused e
+
+-- and copied from there
+abbrev pub Held : ReadAnswer → List ℕ → Type 0
+Held (Answer.Done n) buf = n ≤ length buf
+Held (Answer.Refused e) buf = Unit {0}
+
+abbrev pub copiedOut : ReadAnswer → List ℕ → List ℕ → Outcome
+copiedOut (Answer.Done n) buf out = cond (ltb (length out) n) (Answer.Refused NoRoom, out) (Answer.Done n, sets out 0 (take n buf))
+copiedOut (Answer.Refused e) buf out = (Answer.Refused e, out)

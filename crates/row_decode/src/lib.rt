@@ -1,0 +1,82 @@
+// row.rs, `RowDecoder::decode` after `only`: the values of the wanted columns of a row, as a value list in the lent output.
+// The records are written to a local buffer first, so that a refusal finds the output as it was.
+use datatype::DataType;
+use datatype::Record;
+use datatype::SchemaCheck;
+use error::Refusal;
+use row_column::ColumnRead;
+use row_column::Frame;
+use row_layout::RowLayout;
+use value::DataValue;
+ghost use mathlib.Core.Path.{_≡_};
+ghost use Prim.Native.Nat.{_+_, _<_, _≤_};
+ghost use lib.ListN.{length, set};
+ghost use Rattle.row_format.specs.Places.{offsetWidth, rowLimit};
+ghost use Rattle.row_layout.specs.Layout.{noColumns};
+ghost use Rattle.row_column.specs.Column.{columnValue, Reachable, InRow};
+ghost use Rattle.row_decode.specs.Read.{wantedValue, readFrom, readRow, readCall};
+ghost use Rattle.row_decode.specs.Marks.{marked, isMarked, stepped, Filled, Held, copiedOut};
+
+pub enum ReadAnswer {
+    // The bytes of the value list.
+    Done(usize),
+    Refused(Refusal),
+}
+
+fn mark(marks: &mut [u8], column: usize)
+    ensures { λ _. ⌜ now (marks .exit) ≡ set (now (marks .entry)) column 1 ⌝ }
+{
+    if column < marks.len() {
+        marks[column] = 1;
+    }
+}
+
+// A 1 for each wanted column that the marks reach.
+fn mark_wanted(marks: &mut [u8], wanted: &[u16])
+    ensures { λ _. ⌜ now (marks .exit) ≡ marked (now (marks .entry)) (now (wanted .entry)) ⌝ }
+{
+    let mut k = 0;
+    while k < wanted.len() {
+        mark(marks, wanted[k] as usize);
+        k += 1;
+    }
+}
+
+// An unwanted column is null, whatever its bytes are.
+fn read_wanted(layout: RowLayout, packed: bool, before: RowLayout, ty: DataType, row: &[u8], marks: &[u8]) -> ColumnRead
+    requires { ⌜ Reachable layout packed before ty (now row) × (before .«num_columns» < length (now marks)) ⌝ }
+    ensures { λ r. ⌜ (r ≡ wantedValue (isMarked (now (marks .entry)) (before .«num_columns»)) (columnValue layout packed before ty (now (row .entry)))) × InRow (length (now (row .entry))) r ⌝ }
+{
+    let i = before.num_columns;
+    if marks[i] == 1 {
+        return row_column::read_column(layout, packed, before, ty, row);
+    }
+    ColumnRead::Value(DataValue::Null)
+}
+
+fn write_column(buf: &mut [u8], end: usize, column: ColumnRead) -> ReadAnswer
+    requires { ⌜ (end + 18 ≤ length (now buf)) × InRow 65535 column ⌝ }
+    ensures { λ r. ⌜ (r, now (buf .exit)) ≡ stepped (now (buf .entry)) end column ⌝ }
+{
+    match column {
+        ColumnRead::Value(v) => ReadAnswer::Done(value_list::write_value_record(buf, end, v)),
+        ColumnRead::Refused(e) => ReadAnswer::Refused(e),
+    }
+}
+
+// The n bytes of a result, copied from the buffer.
+fn hand_out(answer: ReadAnswer, buf: &[u8], out: &mut [u8]) -> ReadAnswer
+    requires { ⌜ Held answer (now buf) ⌝ }
+    ensures { λ r. ⌜ (r, now (out .exit)) ≡ copiedOut answer (now (buf .entry)) (now (out .entry)) ⌝ }
+{
+    match answer {
+        ReadAnswer::Refused(e) => ReadAnswer::Refused(e),
+        ReadAnswer::Done(n) => {
+            if out.len() < n {
+                return ReadAnswer::Refused(Refusal::NoRoom);
+            }
+            endian::copy(out, 0, &buf[..n]);
+            ReadAnswer::Done(n)
+        }
+    }
+}

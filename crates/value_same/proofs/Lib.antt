@@ -1,0 +1,5 @@
+pub mod Rows
+pub mod Widths
+pub mod Cases
+pub mod Stored
+pub mod Read
