@@ -1,6 +1,6 @@
 -- The walk over a schema's records: the layout of the columns so far, and what the records that are left add to it.
 use Prim.Native.Nat.{ℕ, zero, suc, _+_, _-_, _≤_, _<_}
-use mathlib.Core.Path.{_≡_, refl, sym, ap, _∙_}
+use mathlib.Core.Path.{_≡_, refl, sym, ap, _∙_, subst}
 use mathlib.Core.Bool.{Bool, true, false, cond}
 use mathlib.Core.List.{List, [], _∷_, map}
 use native.Mathlib.Nat.{add-zero}
@@ -19,10 +19,10 @@ use Rattle.datatype.specs.declared.SchemaCheck.{SchemaCheck}
 use Rattle.datatype.specs.declared.SchemaCheck.the-variants as Check
 use Rattle.datatype.specs.Types.{shapeOf}
 use Rattle.datatype.specs.Schema.{Parsed, types, refused, before, records, recordAt, limited, schemaOf}
-use Rattle.datatype.specs.Check.{checked, finished}
+use Rattle.datatype.specs.Check.{checked, finished, columnsOf}
 
 -- the columns ts after those of l
-abbrev extended : RowLayout → List DataType → RowLayout
+abbrev pub extended : RowLayout → List DataType → RowLayout
 extended l [] = l
 extended l (t ∷ ts) = extended (withColumn l (shapeOf t)) ts
 
@@ -44,7 +44,7 @@ extended-is l (t ∷ ts) =
     let e : length ts + (l .«num_columns» + 1) ≡ suc (length ts) + l .«num_columns» = omega arith in
     extended-is (withColumn l (shapeOf t)) ts ∙ rw e
 
-extended-all : (ts : List DataType) → extended noColumns ts ≡ layoutOf (map shapeOf ts)
+pub extended-all : (ts : List DataType) → extended noColumns ts ≡ layoutOf (map shapeOf ts)
 extended-all ts = extended-is noColumns ts ∙ rw (add-zero, length-map ts shapeOf)
 
 checked-cond : (t : Bool) (r : Refusal) (ts : List DataType) → checked (cond t (refused r) (types ts)) ≡ cond t (Check.Refused r) (Check.Good (layoutOf (map shapeOf ts)))
@@ -96,3 +96,48 @@ module _ {s : List ℕ} {l : RowLayout} {at : ℕ} (w : Walking s l at) where
     pub walk-more : {t : DataType} {next : ℕ} → recordAt s at ≡ Column t next → Bounded (withColumn l (shapeOf t)) → Walking s (withColumn l (shapeOf t)) next
     walk-more {t} {next} e b =
         record { bounded = b; whole = sym (rw (lt-ltb at (length s) h, e) (rest-before (length s) l t (records (256 - (l .«num_columns» + 1)) s next))) ∙ rw left at (w .whole) }
+
+-- ---- a schema that was accepted, walked again
+
+no-types : {ts : List DataType} {r : Refusal} → refused r ≡ types ts → ⊥
+no-types {ts} e = subst (λ (p : Parsed). IsRefused p) e tt
+  where
+    IsRefused : Parsed → Type 0
+    IsRefused (types us) = ⊥
+    IsRefused (refused q) = Unit {0}
+
+-- the first of the records that are left
+pub record First (n : ℕ) (s : List ℕ) (next : ℕ) (t : DataType) (ts : List DataType) : Type 0 where
+  pub tail : List DataType
+  pub split : ts ≡ t ∷ tail
+  pub ahead : records n s next ≡ types tail
+
+first-of : (n : ℕ) (s : List ℕ) (next : ℕ) (t : DataType) {ts : List DataType} (p : Parsed) → records n s next ≡ p → before t p ≡ types ts → First n s next t ts
+first-of n s next t (types us) e f = record { tail = us; split = ap columnsOf (sym f); ahead = e }
+first-of n s next t (refused r) e f = absurd (no-types f)
+
+module _ (s : List ℕ) (at n : ℕ) {ts : List DataType} (e : records n s at ≡ types ts) where
+  pub none-left : length s ≤ at → ts ≡ []
+  none-left h = ap columnsOf (sym e ∙ empty n)
+    where
+      empty : (k : ℕ) → records k s at ≡ types []
+      empty zero = rw (le-ltb at (length s) h)
+      empty (suc k) = rw (le-ltb at (length s) h)
+
+  module _ (h : at < length s) where
+    pub some-left : 0 < n
+    some-left = by-fuel n e
+      where
+        by-fuel : (k : ℕ) → records k s at ≡ types ts → 0 < k
+        by-fuel zero f = absurd (no-types (rw (lt-ltb at (length s) h) at f))
+        by-fuel (suc k) f = omega arith
+
+    pub not-refused : {r : Refusal} → recordAt s at ≡ Refused r → ⊥
+    not-refused f = by-fuel n e
+      where
+        by-fuel : (k : ℕ) → records k s at ≡ types ts → ⊥
+        by-fuel zero g = no-types (rw (lt-ltb at (length s) h) at g)
+        by-fuel (suc k) g = no-types (rw (lt-ltb at (length s) h, f) at g)
+
+    pub first-left : {t : DataType} {next : ℕ} (k : ℕ) → n ≡ suc k → recordAt s at ≡ Column t next → First k s next t ts
+    first-left {t} {next} k f g = first-of k s next t (records k s next) refl (sym (rw (f, lt-ltb at (length s) h, g)) ∙ e)

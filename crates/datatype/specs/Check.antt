@@ -1,7 +1,7 @@
 -- What the check of a schema hands back.
 use Prim.Native.Nat.{ℕ, _≤_}
 use mathlib.Core.Bool.{false, cond}
-use mathlib.Core.List.{map}
+use mathlib.Core.List.{List, [], map}
 use lib.Dec.{ltb}
 use Rattle.error.specs.declared.Refusal.the-variants.{BadSchema}
 use Rattle.row_format.specs.Places.{rowLimit}
@@ -9,6 +9,7 @@ use Rattle.row_layout.specs.declared.RowLayout.{RowLayout}
 use Rattle.row_layout.specs.Layout.{Bounded, layoutOf, minimumOf}
 use Rattle.datatype.specs.declared.SchemaCheck.{SchemaCheck}
 use Rattle.datatype.specs.declared.SchemaCheck.the-variants.{Good, Refused}
+use Rattle.datatype.specs.declared.DataType.{DataType}
 use Rattle.datatype.specs.Types.{shapeOf}
 use Rattle.datatype.specs.Schema.{Parsed, types, refused}
 
@@ -29,3 +30,8 @@ pub record Limited (l : RowLayout) : Type 0 where
 abbrev pub BoundedIn : SchemaCheck → Type 0
 BoundedIn (Good l) = Limited l
 BoundedIn (Refused r) = Unit {0}
+
+-- the columns that records say, none where they are refused
+abbrev pub columnsOf : Parsed → List DataType
+columnsOf (types ts) = ts
+columnsOf (refused r) = []

@@ -1,12 +1,17 @@
 -- For the proofs: the wanted columns marked in a list of flags, and what the inner functions hand on.
-use Prim.Native.Nat.{ℕ, _+_, _≤_}
+use Prim.Native.Nat.{ℕ, _+_, _*_, _≤_}
 use mathlib.Core.Bool.{Bool, cond}
-use mathlib.Core.List.{List, [], _∷_}
+use mathlib.Core.List.{List, [], _∷_, map}
 use mathlib.Core.Path.{_≡_}
 use lib.Dec.{eqb, ltb}
 use lib.ListN.{length, getD, set, take}
 use lib.Seq.{sets}
 use Rattle.error.specs.declared.Refusal.the-variants.{NoRoom}
+use Rattle.row_layout.specs.declared.RowLayout.{RowLayout}
+use Rattle.row_layout.specs.Layout.{Bounded, layoutOf, minimumOf}
+use Rattle.datatype.specs.Types.{shapeOf}
+use Rattle.datatype.specs.Schema.{types, records}
+use Rattle.datatype.specs.Check.{columnsOf}
 use Rattle.value_list.specs.Records.{recordOf}
 use Rattle.value_list.specs.Lists.{Values, values, refused, listOf}
 use Rattle.row_column.specs.declared.ColumnRead.{ColumnRead}
@@ -40,3 +45,13 @@ Held (Answer.Refused e) buf = Unit {0}
 abbrev pub copiedOut : ReadAnswer → List ℕ → List ℕ → Outcome
 copiedOut (Answer.Done n) buf out = cond (ltb (length out) n) (Answer.Refused NoRoom, out) (Answer.Done n, sets out 0 (take n buf))
 copiedOut (Answer.Refused e) buf out = (Answer.Refused e, out)
+
+-- what the walk over the columns may rely on: a schema that was accepted, a row with a good header, marks for all columns, and room for 18 bytes a column
+pub record Decodable (s : List ℕ) (l : RowLayout) (p : Bool) (r marks buf : List ℕ) : Type 0 where
+  pub schema : records 256 s 0 ≡ types (columnsOf (records 256 s 0))
+  pub layout : layoutOf (map shapeOf (columnsOf (records 256 s 0))) ≡ l
+  pub bounded : Bounded l
+  pub long : minimumOf l p ≤ length r
+  pub short : length r ≤ 65535
+  pub flags : length marks ≡ 256
+  pub room : 18 * l .«num_columns» ≤ length buf

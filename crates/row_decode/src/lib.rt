@@ -11,11 +11,12 @@ use value::DataValue;
 ghost use mathlib.Core.Path.{_≡_};
 ghost use Prim.Native.Nat.{_+_, _<_, _≤_};
 ghost use lib.ListN.{length, set};
-ghost use Rattle.row_format.specs.Places.{offsetWidth, rowLimit};
 ghost use Rattle.row_layout.specs.Layout.{noColumns};
 ghost use Rattle.row_column.specs.Column.{columnValue, Reachable, InRow};
-ghost use Rattle.row_decode.specs.Read.{wantedValue, readFrom, readRow, readCall};
-ghost use Rattle.row_decode.specs.Marks.{marked, isMarked, stepped, Filled, Held, copiedOut};
+ghost use Rattle.row_decode.specs.Read.{wantedValue, readFrom};
+ghost use Rattle.row_decode.specs.Marks.{marked, isMarked, stepped, Decodable, Filled, Held, copiedOut};
+ghost use Rattle.datatype.specs.Schema.{records};
+ghost use Rattle.datatype.specs.Check.{columnsOf};
 
 pub enum ReadAnswer {
     // The bytes of the value list.
@@ -43,7 +44,14 @@ fn mark_wanted(marks: &mut [u8], wanted: &[u16])
 }
 
 // An unwanted column is null, whatever its bytes are.
-fn read_wanted(layout: RowLayout, packed: bool, before: RowLayout, ty: DataType, row: &[u8], marks: &[u8]) -> ColumnRead
+fn read_wanted(
+    layout: RowLayout,
+    packed: bool,
+    before: RowLayout,
+    ty: DataType,
+    row: &[u8],
+    marks: &[u8],
+) -> ColumnRead
     requires { ⌜ Reachable layout packed before ty (now row) × (before .«num_columns» < length (now marks)) ⌝ }
     ensures { λ r. ⌜ (r ≡ wantedValue (isMarked (now (marks .entry)) (before .«num_columns»)) (columnValue layout packed before ty (now (row .entry)))) × InRow (length (now (row .entry))) r ⌝ }
 {
@@ -79,4 +87,58 @@ fn hand_out(answer: ReadAnswer, buf: &[u8], out: &mut [u8]) -> ReadAnswer
             ReadAnswer::Done(n)
         }
     }
+}
+
+fn decode_column(
+    layout: RowLayout,
+    packed: bool,
+    before: RowLayout,
+    ty: DataType,
+    row: &[u8],
+    marks: &[u8],
+    buf: &mut [u8],
+    end: usize,
+) -> ReadAnswer
+    requires { ⌜ Reachable layout packed before ty (now row) × ((before .«num_columns» < length (now marks)) × ((length (now row) ≤ 65535) × (end + 18 ≤ length (now buf)))) ⌝ }
+    ensures { λ r. ⌜ (r, now (buf .exit)) ≡ stepped (now (buf .entry)) end (wantedValue (isMarked (now (marks .entry)) (before .«num_columns»)) (columnValue layout packed before ty (now (row .entry)))) ⌝ }
+{
+    let column = read_wanted(layout, packed, before, ty, row, marks);
+    write_column(buf, end, column)
+}
+
+// The records of all columns, at the front of the buffer. The schema was checked, so that no record of it is refused here.
+fn decode_columns(
+    schema: &[u8],
+    layout: RowLayout,
+    packed: bool,
+    row: &[u8],
+    marks: &[u8],
+    buf: &mut [u8],
+) -> ReadAnswer
+    requires { ⌜ Decodable (now schema) layout packed (now row) (now marks) (now buf) ⌝ }
+    ensures { λ r. ⌜ Filled (readFrom layout packed (isMarked (now (marks .entry))) (now (row .entry)) noColumns (columnsOf (records 256 (now (schema .entry)) 0))) (now (buf .entry)) r (now (buf .exit)) ⌝ }
+{
+    let mut before = RowLayout::new();
+    let mut at = 0;
+    let mut end = 0;
+    while at < schema.len() {
+        match datatype::record_at(schema, at) {
+            Record::Refused(e) => {
+                return ReadAnswer::Refused(e);
+            }
+            Record::Column(ty, next) => {
+                match decode_column(layout, packed, before, ty, row, marks, buf, end) {
+                    ReadAnswer::Refused(e) => {
+                        return ReadAnswer::Refused(e);
+                    }
+                    ReadAnswer::Done(n) => {
+                        before = before.with_column(ty.shape());
+                        at = next;
+                        end = n;
+                    }
+                }
+            }
+        }
+    }
+    ReadAnswer::Done(end)
 }

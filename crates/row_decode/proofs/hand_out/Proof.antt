@@ -1,8 +1,7 @@
 use borrow.Author.Tests.{lt-ltb, le-ltb}
 use lib.Seq.{length-take-le}
 use denote.Ref.{now}
-use native.Mathlib.Omega.{arith}
-use mathlib.Core.Path.{_≡_, sym, ap, _∙_}
+use mathlib.Core.Path.{sym}
 use borrow.Author.Needs.{needs}
 use Rattle.row_decode.proofs.hand_out.Statement.{statement}
 use Rattle.row_decode.proofs.hand_out.Tie as tie

@@ -1,7 +1,5 @@
 use Rattle.value_list.proofs.Records.{record-short, inside-narrow}
-use denote.Ref.{now}
 use native.Mathlib.Omega.{arith}
-use mathlib.Core.Path.{_≡_, sym, ap, _∙_}
 use borrow.Author.Needs.{needs}
 use Rattle.row_decode.proofs.write_column.Statement.{statement}
 use Rattle.row_decode.proofs.write_column.Tie as tie
