@@ -19,7 +19,7 @@ use rookdb::types::value::DataValue;
 use std::hint::black_box;
 
 /// The bytes that a call hands back, or its refusal's number.
-type Handed = Result<Vec<u8>, u32>;
+pub type Handed = Result<Vec<u8>, u32>;
 
 /// Who says what is wanted.
 #[derive(Debug, Clone, Copy, PartialEq, Eq)]
@@ -196,7 +196,7 @@ fn model_type(ty: &DataType) -> Type {
 // ---- a value stored
 
 #[derive(Debug, Clone, Copy, PartialEq, Eq)]
-enum StoreSort {
+pub enum StoreSort {
     Suitable,
     Unsuitable,
     OtherKind,
@@ -241,7 +241,7 @@ fn bad_list(rng: &mut Rng, mut list: ValueList) -> ValueList {
 }
 
 /// A list for a column.
-fn any_list(rng: &mut Rng, ty: &DataType) -> (StoreSort, ValueList) {
+pub fn any_list(rng: &mut Rng, ty: &DataType) -> (StoreSort, ValueList) {
     let mut area = TextArea::default();
     if rng.one_in(4) {
         suitable(rng, &DataType::Varchar(40), &mut area);
@@ -294,7 +294,7 @@ fn model_form(ty: &DataType, list: &ValueList) -> Handed {
 
 /// What the Rust says of it; `None` outside its domain. The test of the kind is
 /// part of its building, which gives `Internal` there.
-fn rust_form(ty: &DataType, list: &ValueList) -> Option<Handed> {
+pub fn rust_form(ty: &DataType, list: &ValueList) -> Option<Handed> {
     let record = list.records(1).ok()?[0];
     let value = to_rust(ty, &record, &list.text).ok()??;
     Some(stored(ty, &value))
@@ -356,7 +356,7 @@ pub fn store(rng: &mut Rng) -> Compared {
 // ---- bytes read
 
 #[derive(Debug, Clone, Copy, PartialEq, Eq)]
-enum SlotSort {
+pub enum SlotSort {
     /// The stored form of a suitable value.
     Stored,
     /// Such a form with one bit changed.
@@ -391,7 +391,7 @@ fn bad_payload(rng: &mut Rng, n: u16) -> Vec<u8> {
 }
 
 /// Bytes for a column.
-fn any_slot(rng: &mut Rng, ty: &DataType) -> (SlotSort, Vec<u8>) {
+pub fn any_slot(rng: &mut Rng, ty: &DataType) -> (SlotSort, Vec<u8>) {
     let size = ty.fixed_size().map(|size| size as usize);
     match rng.below(16) {
         0..=4 => (SlotSort::Stored, good_form(rng, ty)),
@@ -432,7 +432,7 @@ fn model_record(ty: &DataType, bytes: &[u8], start: usize) -> Handed {
 }
 
 /// What the Rust says of them; `None` where it reads a date that 01 does not.
-fn rust_record(ty: &DataType, bytes: &[u8], start: usize) -> Option<Handed> {
+pub fn rust_record(ty: &DataType, bytes: &[u8], start: usize) -> Option<Handed> {
     match rust::call(|| DataValue::from_bytes(ty, bytes)) {
         Outcome::Ok(value) if in_domain(&value) => Some(Ok(record_of(value, bytes, start))),
         Outcome::Ok(_) => None,
@@ -467,7 +467,7 @@ fn record_of(value: DataValue, bytes: &[u8], start: usize) -> Vec<u8> {
 
 /// What the probe refuses before it reads: 4 for numbers that a record does not
 /// hold, 3 for a slot of another length, 14 for room for less than any record.
-fn refused_slot(ty: &DataType, bytes: &[u8], start: usize, room: usize) -> Option<u32> {
+pub fn refused_slot(ty: &DataType, bytes: &[u8], start: usize, room: usize) -> Option<u32> {
     if start > LIMIT || bytes.len() > LIMIT {
         return Some(4);
     }
@@ -480,15 +480,20 @@ fn refused_slot(ty: &DataType, bytes: &[u8], start: usize, room: usize) -> Optio
     (room < 18).then_some(14)
 }
 
+/// Where bytes stand in a row.
+pub fn any_start(rng: &mut Rng) -> usize {
+    match rng.below(8) {
+        0 => LIMIT - rng.below(2),
+        1 => 0,
+        _ => rng.below(1000),
+    }
+}
+
 pub fn slot(rng: &mut Rng) -> Compared {
     let ty = any_column(rng);
     let (mut sort, bytes) = any_slot(rng, &ty);
     let mut schema = write_schema(std::slice::from_ref(&ty));
-    let mut start = match rng.below(8) {
-        0 => LIMIT - rng.below(2),
-        1 => 0,
-        _ => rng.below(1000),
-    };
+    let mut start = any_start(rng);
     match rng.below(32) {
         0 => {
             sort = SlotSort::BadSchema;
