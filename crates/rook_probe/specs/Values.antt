@@ -59,14 +59,15 @@ hand bs out = (record { number = 0; length = length bs }, sets out 0 bs)
 
 -- ---- a value stored
 
--- 14
+-- 14: too little room
 abbrev pub placed : List ℕ → List ℕ → ValueProbe × List ℕ
 placed bs out = cond (ltb (length out) (length bs)) (refuse 14 out) (hand bs out)
 
--- 11, 12
+-- 11: another kind; 12: the value does not suit
 abbrev pub storedValue : DataType → DataValue → List ℕ → List ℕ → ValueProbe × List ℕ
 storedValue t v area out = cond (matches t v) (cond (accepted t v area) (placed (storedForm t v (textOf area v)) out) (refuse 12 out)) (refuse 11 out)
 
+-- 10: no list of one value
 abbrev pub storedOne : DataType → OneValue → List ℕ → List ℕ → ValueProbe × List ℕ
 storedOne t (One.Only v) area out = storedValue t v area out
 storedOne t One.Bad area out = refuse 10 out
@@ -80,12 +81,12 @@ storedAs (Bad n) list area out = refuse n out
 
 -- ---- bytes read
 
--- 8
+-- 8: no value of the type
 abbrev pub handValue : SlotRead → List ℕ → ValueProbe × List ℕ
 handValue (Value v) out = hand (recordOf v) out
 handValue NoValue out = refuse 8 out
 
--- a Varchar's bytes are as many as they are
+-- whether n bytes fill the slot; a payload may have any number
 abbrev pub fitsSlot : DataType → ℕ → Bool
 fitsSlot t n = cond (isVarlen t) true (eqb n (sizeOf t))
 
@@ -93,7 +94,7 @@ fitsSlot t n = cond (isVarlen t) true (eqb n (sizeOf t))
 abbrev pub placedRead : SlotRead → List ℕ → ValueProbe × List ℕ
 placedRead r out = cond (ltb (length out) 18) (refuse 14 out) (handValue r out)
 
--- 4, 3
+-- 4: more than a record's two bytes tell; 3: a slot of another length
 abbrev pub readValue : DataType → List ℕ → ℕ → List ℕ → ValueProbe × List ℕ
 readValue t bs start out =
     cond (ltb rowLimit start) (refuse 4 out)

@@ -531,8 +531,11 @@ pub fn slot(rng: &mut Rng) -> Compared {
 
 #[cfg(test)]
 mod tests {
-    use super::{After, GUARD, Handed, called, judged, left};
+    use super::{After, GUARD, Handed, any_column, called, judged, left};
     use crate::probe::ValueProbe;
+    use cases::rng::Rng;
+    use cases::schema::write_schema;
+    use std::collections::BTreeSet;
 
     const OUTPUT: [u8; 4 + 2 * GUARD] = [0xAA; 4 + 2 * GUARD];
 
@@ -559,6 +562,24 @@ mod tests {
         assert!(differs(answer(12, 0, &[7]), Err(12)));
         assert!(differs(answer(11, 0, &[]), Err(12)));
         assert!(differs(answer(12, 1, &[]), Err(12)));
+    }
+
+    /// All kinds of types, all precisions with all scales, and n from 0 on.
+    #[test]
+    fn every_type_is_met() {
+        let mut rng = Rng::new(1);
+        let met: BTreeSet<Vec<u8>> = (0..300_000)
+            .map(|_| write_schema(&[any_column(&mut rng)]))
+            .collect();
+        assert!((1..=15).all(|kind| met.iter().any(|record| record[0] == kind)));
+        for kind in [6, 7] {
+            for precision in 1..=38 {
+                assert!((0..=precision).all(|scale| met.contains(&vec![kind, precision, scale])));
+            }
+        }
+        for kind in [9, 10, 11, 14] {
+            assert!((0..=40).all(|n| met.contains(&vec![kind, n, 0])));
+        }
     }
 
     #[test]
