@@ -14,6 +14,10 @@ const NULL_FLAG: u8 = 2;
 
 const LAYOUT: u8 = 3;
 
+const STORED: u8 = 4;
+
+const SLOT: u8 = 5;
+
 const PLANTED: u8 = 128;
 
 // The answers to one call. Of the planted ones, which are wrong, `found` were told apart.
@@ -28,6 +32,8 @@ struct Tallies {
     text: Tally,
     null_flag: Tally,
     layout: Tally,
+    stored: Tally,
+    slot: Tally,
     unknown: u64,
     done: bool,
 }
@@ -137,6 +143,40 @@ fn same_layout(schema: &[u8], answer: &[u8]) -> bool {
     }
 }
 
+// An answer's variant, then the bytes that were handed back.
+fn same_handed(number: u32, n: usize, out: &[u8], answer: &[u8]) -> bool {
+    if answer.len() == 0 {
+        return false;
+    }
+    if number != 0 {
+        return answer.len() == 1 && answer[0] == variant(number);
+    }
+    if out.len() < n {
+        return false;
+    }
+    answer[0] == 0 && endian::same_bytes(&out[0..n], &answer[1..])
+}
+
+fn same_stored(schema: &[u8], list: &[u8], area: &[u8], answer: &[u8]) -> bool {
+    let mut out = [0; 2048];
+    let r = rook_probe::rook_probe_store(schema, list, area, &mut out);
+    same_handed(r.number, r.length, &out, answer)
+}
+
+fn same_slot(schema: &[u8], bytes: &[u8], start: &[u8], answer: &[u8]) -> bool {
+    if start.len() != 8 {
+        return false;
+    }
+    let mut out = [0; 18];
+    let r = rook_probe::rook_probe_slot(
+        schema,
+        bytes,
+        endian::read_u64(start, 0) as usize,
+        &mut out,
+    );
+    same_handed(r.number, r.length, &out, answer)
+}
+
 // A record's kind is its first byte, then come its fields. An empty one fills a block up.
 fn run(tallies: Tallies, record: &[u8]) -> Tallies {
     let mut next = tallies;
@@ -158,6 +198,14 @@ fn run(tallies: Tallies, record: &[u8]) -> Tallies {
         next.null_flag = counted(next.null_flag, same, planted);
     } else if kind == LAYOUT {
         next.layout = counted(next.layout, same_layout(input, answer), planted);
+    } else if kind == STORED {
+        let rest = after(more);
+        let same = same_stored(input, answer, field(rest), field(after(rest)));
+        next.stored = counted(next.stored, same, planted);
+    } else if kind == SLOT {
+        let rest = after(more);
+        let same = same_slot(input, answer, field(rest), field(after(rest)));
+        next.slot = counted(next.slot, same, planted);
     } else {
         next.unknown = one_more(next.unknown);
     }
@@ -205,6 +253,8 @@ fn run_all(buffer: &mut [u8]) -> Tallies {
         text: no_tally(),
         null_flag: no_tally(),
         layout: no_tally(),
+        stored: no_tally(),
+        slot: no_tally(),
         unknown: 0,
         done: false,
     };
@@ -222,6 +272,8 @@ fn main() {
     say_tally(b"text: ", tallies.text);
     say_tally(b"null flag: ", tallies.null_flag);
     say_tally(b"schema and layout: ", tallies.layout);
+    say_tally(b"value stored: ", tallies.stored);
+    say_tally(b"slot read: ", tallies.slot);
     say(b"records not understood: ");
     io::print_decimal(STDOUT_FILENO, tallies.unknown);
     say(b"\n");

@@ -1,10 +1,25 @@
 // Inner functions, exported for the comparison with the Rust alone. This is no part of the library that is delivered.
+use datatype::DataType;
+use datatype::Record;
 use datatype::SchemaCheck;
+use stored_form::SlotRead;
+use value::DataValue;
+use value_list::ListCheck;
+use value_list::ValueRecord;
 ghost use mathlib.Core.Path.{_≡_};
+ghost use mathlib.Core.Bool.{true};
+ghost use Prim.Native.Nat.{_≤_};
+ghost use lib.ListN.{length};
 ghost use Rattle.row_format.specs.Places.{offsetWidth, rowLimit};
+ghost use Rattle.datatype.specs.Types.{precisionOf};
 ghost use Rattle.datatype.specs.Schema.{schemaOf};
 ghost use Rattle.datatype.specs.Check.{checked};
+ghost use Rattle.value.specs.Ranges.{textOf};
+ghost use Rattle.value_list.specs.Lists.{checked as checkedList};
+ghost use Rattle.stored_form.specs.Write.{accepted, storedForm};
+ghost use Rattle.stored_form.specs.Read.{readSlot};
 ghost use Rattle.rook_probe.specs.Probes.{layoutProbe};
+ghost use Rattle.rook_probe.specs.Values.{onlyType, Precise, onlyValue, formLength, placed, storedValue, storedList, storedAs, fitsSlot, placedRead, readValue, readAs};
 
 #[repr(C)]
 pub struct LayoutProbe {
@@ -38,5 +53,193 @@ pub extern "C" fn rook_probe_layout(schema: &[u8]) -> LayoutProbe
             packed: 0,
             padded: 0,
         },
+    }
+}
+
+// The number of an answer, and how many bytes it put at the front of `out`.
+#[repr(C)]
+pub struct ValueProbe {
+    pub number: u32,
+    pub length: usize,
+}
+
+pub enum OneType {
+    Only(DataType),
+    // 1 or 2.
+    Bad(u32),
+}
+
+pub enum OneValue {
+    Only(DataValue),
+    Bad,
+}
+
+fn refused(number: u32) -> ValueProbe
+    ensures { λ r. ⌜ r ≡ record { number = number; length = 0 } ⌝ }
+{
+    ValueProbe { number, length: 0 }
+}
+
+// The type of a schema that is exactly one record.
+fn one_type(schema: &[u8]) -> OneType
+    ensures { λ r. ⌜ (r ≡ onlyType (now (schema .entry))) × Precise r ⌝ }
+{
+    if schema.len() == 0 {
+        return OneType::Bad(1);
+    }
+    match datatype::record_at(schema, 0) {
+        Record::Column(t, next) => {
+            if next == schema.len() {
+                return OneType::Only(t);
+            }
+            OneType::Bad(2)
+        }
+        Record::Refused(r) => OneType::Bad(r.number()),
+    }
+}
+
+// The value of a list that is exactly one record, beside a text area of `area` bytes.
+fn one_value(list: &[u8], area: usize) -> OneValue
+    ensures { λ r. ⌜ r ≡ onlyValue (checkedList rowLimit 1 area (now (list .entry))) ⌝ }
+{
+    match value_list::check_values(list, 1, area) {
+        ListCheck::Good => match value_list::value_record_at(list, 0) {
+            ValueRecord::Value(v, _) => OneValue::Only(v),
+            ValueRecord::Refused(_) => OneValue::Bad,
+        },
+        ListCheck::Refused(_) => OneValue::Bad,
+    }
+}
+
+fn form_length(ty: DataType, value: DataValue) -> usize
+    ensures { λ r. ⌜ r ≡ formLength ty value ⌝ }
+{
+    let n = ty.declared_length() as usize;
+    let p = ty.precision() as usize;
+    match value {
+        DataValue::Null => 0,
+        DataValue::SmallInt(_) => 2,
+        DataValue::Int(_) => 4,
+        DataValue::BigInt(_) => 8,
+        DataValue::Real(_) => 4,
+        DataValue::DoublePrecision(_) => 8,
+        DataValue::Numeric(_) => (p + 2) / 2,
+        DataValue::Bool(_) => 1,
+        DataValue::Char(_) => n,
+        DataValue::Varchar(r) => r.length,
+        DataValue::Date(_) => 4,
+        DataValue::Time(_) => 8,
+        DataValue::Bit(_) => (n + 7) / 8,
+        DataValue::Timestamp(_) => 8,
+    }
+}
+
+// The stored form of a value that the type holds.
+fn place_value(ty: DataType, value: DataValue, area: &[u8], out: &mut [u8]) -> ValueProbe
+    requires { ⌜ (precisionOf ty ≤ 38) × (accepted ty value (now area) ≡ true) ⌝ }
+    ensures { λ r. ⌜ (r, now (out .exit)) ≡ placed (storedForm ty value (textOf (now (area .entry)) value)) (now (out .entry)) ⌝ }
+{
+    let length = form_length(ty, value);
+    if out.len() < length {
+        return refused(14);
+    }
+    value_encode::to_bytes_for_type(out, 0, ty, value, area);
+    ValueProbe { number: 0, length }
+}
+
+fn store_value(ty: DataType, value: DataValue, area: &[u8], out: &mut [u8]) -> ValueProbe
+    requires { ⌜ precisionOf ty ≤ 38 ⌝ }
+    ensures { λ r. ⌜ (r, now (out .exit)) ≡ storedValue ty value (now (area .entry)) (now (out .entry)) ⌝ }
+{
+    if value::data_value_matches_type(ty, value) {
+        if value_encode::suits(ty, value, area) {
+            return place_value(ty, value, area, out);
+        }
+        return refused(12);
+    }
+    refused(11)
+}
+
+fn store_list(ty: DataType, list: &[u8], area: &[u8], out: &mut [u8]) -> ValueProbe
+    requires { ⌜ precisionOf ty ≤ 38 ⌝ }
+    ensures { λ r. ⌜ (r, now (out .exit)) ≡ storedList ty (now (list .entry)) (now (area .entry)) (now (out .entry)) ⌝ }
+{
+    match one_value(list, area.len()) {
+        OneValue::Only(v) => store_value(ty, v, area, out),
+        OneValue::Bad => refused(10),
+    }
+}
+
+// The stored form of a list's one value under a schema's one type.
+#[no_mangle]
+pub extern "C" fn rook_probe_store(
+    schema: &[u8],
+    list: &[u8],
+    area: &[u8],
+    out: &mut [u8],
+) -> ValueProbe
+    ensures { λ r. ⌜ (r, now (out .exit)) ≡ storedAs (onlyType (now (schema .entry))) (now (list .entry)) (now (area .entry)) (now (out .entry)) ⌝ }
+{
+    match one_type(schema) {
+        OneType::Only(t) => store_list(t, list, area, out),
+        OneType::Bad(number) => refused(number),
+    }
+}
+
+fn fits_slot(ty: DataType, length: usize) -> bool
+    ensures { λ r. ⌜ r ≡ fitsSlot ty length ⌝ }
+{
+    if ty.is_variable_length() {
+        return true;
+    }
+    length == ty.fixed_size()
+}
+
+// What the bytes of a slot, or of a payload, read as.
+fn place_read(ty: DataType, bytes: &[u8], start: usize, out: &mut [u8]) -> ValueProbe
+    requires { ⌜ (precisionOf ty ≤ 38) × ((fitsSlot ty (length (now bytes)) ≡ true) × ((start ≤ 65535) × (length (now bytes) ≤ 65535))) ⌝ }
+    ensures { λ r. ⌜ (r, now (out .exit)) ≡ placedRead (readSlot ty start (now (bytes .entry))) (now (out .entry)) ⌝ }
+{
+    if out.len() < 18 {
+        return refused(14);
+    }
+    match value_decode::from_bytes(ty, bytes, start) {
+        SlotRead::Value(v) => {
+            let length = value_list::write_value_record(out, 0, v);
+            ValueProbe { number: 0, length }
+        }
+        SlotRead::NoValue => refused(8),
+    }
+}
+
+fn read_value(ty: DataType, bytes: &[u8], start: usize, out: &mut [u8]) -> ValueProbe
+    requires { ⌜ precisionOf ty ≤ 38 ⌝ }
+    ensures { λ r. ⌜ (r, now (out .exit)) ≡ readValue ty (now (bytes .entry)) start (now (out .entry)) ⌝ }
+{
+    if 65535 < start {
+        return refused(4);
+    }
+    if 65535 < bytes.len() {
+        return refused(4);
+    }
+    if fits_slot(ty, bytes.len()) {
+        return place_read(ty, bytes, start, out);
+    }
+    refused(3)
+}
+
+// What bytes that stand at `start` of a row read as under a schema's one type: a value record, whose text area is the row.
+#[no_mangle]
+pub extern "C" fn rook_probe_slot(
+    schema: &[u8],
+    bytes: &[u8],
+    start: usize,
+    out: &mut [u8],
+) -> ValueProbe
+    ensures { λ r. ⌜ (r, now (out .exit)) ≡ readAs (onlyType (now (schema .entry))) (now (bytes .entry)) start (now (out .entry)) ⌝ }
+{
+    match one_type(schema) {
+        OneType::Only(t) => read_value(t, bytes, start, out),
+        OneType::Bad(number) => refused(number),
     }
 }

@@ -10,21 +10,26 @@
 //! | 1 | text; answer 1 or 0 |
 //! | 2 | row, column (8 bytes); answer: variant, flag |
 //! | 3 | schema; answer: columns, Varchars, fixed bytes packed and padded (4 bytes each) |
+//! | 4 | schema of one column, value list, text area; answer: variant, stored form |
+//! | 5 | schema of one column, its bytes, their place (8 bytes); answer: variant, value record |
 //!
 //! A variant is 0 for `Ok`, 1 for `Internal`, 2 for `TypeMismatch`. 128 added to
 //! a kind says that the answer was changed by hand: a run must find it wrong.
 
+use crate::compare::value::{self, Handed};
 use crate::compare::{layout, null_flag, text};
 use cases::LIMIT;
 use cases::generate::schema::any_schema;
 use cases::rng::Rng;
 use cases::rust::{self, Outcome};
-use cases::schema::read_schema;
+use cases::schema::{read_schema, write_schema};
 
 const NOTE: u8 = 0;
 const TEXT: u8 = 1;
 const NULL_FLAG: u8 = 2;
 const LAYOUT: u8 = 3;
+const STORED: u8 = 4;
+const SLOT: u8 = 5;
 const PLANTED: u8 = 128;
 
 /// The seed that the file is made from.
@@ -106,6 +111,42 @@ fn layout(rng: &mut Rng) -> Option<Record> {
     })
 }
 
+/// The record of a call that hands bytes back, if it is short.
+fn handed(kind: u8, inputs: Vec<Vec<u8>>, handed: Handed) -> Option<Record> {
+    let answer = match handed {
+        Ok(bytes) => [vec![0], bytes].concat(),
+        Err(11) => vec![1],
+        Err(8 | 12) => vec![2],
+        Err(_) => return None,
+    };
+    let length: usize = inputs.iter().map(Vec::len).sum();
+    (length + answer.len() <= LONGEST).then_some(Record {
+        kind,
+        inputs,
+        answer,
+    })
+}
+
+fn value_stored(rng: &mut Rng) -> Option<Record> {
+    let ty = value::any_column(rng);
+    let (_, list) = value::any_list(rng, &ty);
+    let answer = value::rust_form(&ty, &list)?;
+    let inputs = vec![write_schema(&[ty]), list.bytes, list.text];
+    handed(STORED, inputs, answer)
+}
+
+fn slot_read(rng: &mut Rng) -> Option<Record> {
+    let ty = value::any_column(rng);
+    let (_, bytes) = value::any_slot(rng, &ty);
+    let start = value::any_start(rng);
+    if value::refused_slot(&ty, &bytes, start, LONGEST).is_some() {
+        return None;
+    }
+    let answer = value::rust_record(&ty, &bytes, start)?;
+    let place = (start as u64).to_le_bytes().to_vec();
+    handed(SLOT, vec![write_schema(&[ty]), bytes, place], answer)
+}
+
 /// So many records, and one with a wrong answer.
 fn samples(rng: &mut Rng, make: fn(&mut Rng) -> Option<Record>, count: usize, out: &mut Vec<u8>) {
     for number in 0..=count {
@@ -137,5 +178,7 @@ pub fn file() -> Vec<u8> {
     samples(&mut rng, text, 800, &mut out);
     samples(&mut rng, null_flag, 600, &mut out);
     samples(&mut rng, layout, 200, &mut out);
+    samples(&mut rng, value_stored, 400, &mut out);
+    samples(&mut rng, slot_read, 400, &mut out);
     out
 }

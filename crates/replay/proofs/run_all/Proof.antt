@@ -19,6 +19,12 @@ no-tally-requires-2 c κs = search needs
 no-tally-requires-3 : tie.Need-no-tally-requires-3 Inv-loop μ-loop
 no-tally-requires-3 c κs = search needs
 
+no-tally-requires-4 : tie.Need-no-tally-requires-4 Inv-loop μ-loop
+no-tally-requires-4 c κs = search needs
+
+no-tally-requires-5 : tie.Need-no-tally-requires-5 Inv-loop μ-loop
+no-tally-requires-5 c κs = search needs
+
 loop-holds : tie.Need-loop-holds Inv-loop μ-loop
 loop-holds c = refl
 
@@ -55,6 +61,8 @@ run-all-spec =
     no-tally-requires
     no-tally-requires-2
     no-tally-requires-3
+    no-tally-requires-4
+    no-tally-requires-5
     loop-holds
     step-requires
     sub-turns

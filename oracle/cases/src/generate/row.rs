@@ -249,7 +249,7 @@ fn stored(rng: &mut Rng, types: &[DataType]) -> Option<Vec<u8>> {
 }
 
 /// Bytes of a slot: at the edge of the type, or no value of it.
-fn stored_form(rng: &mut Rng, ty: &DataType, size: usize) -> Vec<u8> {
+pub fn stored_form(rng: &mut Rng, ty: &DataType, size: usize) -> Vec<u8> {
     match ty {
         DataType::Bool => vec![rng.pick(&[0, 1, 2, 128, 255])],
         DataType::Date => rng.pick(&STORED_DATES).to_le_bytes().to_vec(),
