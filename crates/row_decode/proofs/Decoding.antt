@@ -133,8 +133,8 @@ module _ {s : List ℕ} {l : RowLayout} {p : Bool} {r marks buf : List ℕ} wher
       record {
         bounded = record { few = omega arith; ranked = omega arith; tight = omega arith; wide = omega arith };
         left = columnsOf (records 256 s 0);
-        ahead = d .schema;
-        whole = extended-all (columnsOf (records 256 s 0)) ∙ d .layout;
+        ahead = d .framed .schema;
+        whole = extended-all (columnsOf (records 256 s 0)) ∙ d .framed .layout;
         done = [];
         rest = front (readFrom l p (isMarked marks) r noColumns (columnsOf (records 256 s 0)));
         written = refl;
@@ -190,13 +190,13 @@ module _ {s : List ℕ} {l : RowLayout} {p : Bool} {r marks buf₀ buf : List �
       pub decode-reach : Reachable l p b t r
       decode-reach =
           record {
-            whole = d .bounded;
+            whole = d .framed .bounded;
             before = k .bounded;
             digits = few-digits s at e;
             column = omega (arith, grows .columns);
-            table = omega (arith, d .long);
+            table = omega (arith, d .framed .long);
             rank = λ f. omega (arith, rw f at (grows .varlens));
-            slot = λ f. omega (arith, d .long, rw (f, size-with) at (size-grown grows p));
+            slot = λ f. omega (arith, d .framed .long, rw (f, size-with) at (size-grown grows p));
           }
 
       pub decode-room : end + 18 ≤ length buf

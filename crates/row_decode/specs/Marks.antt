@@ -47,11 +47,19 @@ copiedOut (Answer.Done n) buf out = cond (ltb (length out) n) (Answer.Refused No
 copiedOut (Answer.Refused e) buf out = (Answer.Refused e, out)
 
 -- what the walk over the columns may rely on: a schema that was accepted, a row with a good header, marks for all columns, and room for 18 bytes a column
-pub record Decodable (s : List ℕ) (l : RowLayout) (p : Bool) (r marks buf : List ℕ) : Type 0 where
+pub record Accepted (s : List ℕ) (l : RowLayout) : Type 0 where
+  pub schema : records 256 s 0 ≡ types (columnsOf (records 256 s 0))
+  pub layout : layoutOf (map shapeOf (columnsOf (records 256 s 0))) ≡ l
+  pub bounded : Bounded l
+
+pub record Framed (s : List ℕ) (l : RowLayout) (p : Bool) (r : List ℕ) : Type 0 where
   pub schema : records 256 s 0 ≡ types (columnsOf (records 256 s 0))
   pub layout : layoutOf (map shapeOf (columnsOf (records 256 s 0))) ≡ l
   pub bounded : Bounded l
   pub long : minimumOf l p ≤ length r
   pub short : length r ≤ 65535
+
+pub record Decodable (s : List ℕ) (l : RowLayout) (p : Bool) (r marks buf : List ℕ) : Type 0 where
+  pub framed : Framed s l p r
   pub flags : length marks ≡ 256
   pub room : 18 * l .«num_columns» ≤ length buf

@@ -11,10 +11,11 @@ use value::DataValue;
 ghost use mathlib.Core.Path.{_≡_};
 ghost use Prim.Native.Nat.{_+_, _<_, _≤_};
 ghost use lib.ListN.{length, set};
+ghost use Rattle.row_format.specs.Places.{offsetWidth, rowLimit};
 ghost use Rattle.row_layout.specs.Layout.{noColumns};
 ghost use Rattle.row_column.specs.Column.{columnValue, Reachable, InRow};
-ghost use Rattle.row_decode.specs.Read.{wantedValue, readFrom};
-ghost use Rattle.row_decode.specs.Marks.{marked, isMarked, stepped, Decodable, Filled, Held, copiedOut};
+ghost use Rattle.row_decode.specs.Read.{isWanted, wantedValue, readFrom, handOut, readRow, readCall};
+ghost use Rattle.row_decode.specs.Marks.{marked, isMarked, stepped, Accepted, Framed, Decodable, Filled, Held, copiedOut};
 ghost use Rattle.datatype.specs.Schema.{records};
 ghost use Rattle.datatype.specs.Check.{columnsOf};
 
@@ -141,4 +142,82 @@ fn decode_columns(
         }
     }
     ReadAnswer::Done(end)
+}
+
+fn decode_short(
+    schema: &[u8],
+    layout: RowLayout,
+    packed: bool,
+    row: &[u8],
+    marks: &[u8],
+    out: &mut [u8],
+) -> ReadAnswer
+    requires { ⌜ Framed (now schema) layout packed (now row) × ((length (now marks) ≡ 256) × (layout .«num_columns» ≤ 32)) ⌝ }
+    ensures { λ r. ⌜ (r, now (out .exit)) ≡ handOut (now (out .entry)) (readFrom layout packed (isMarked (now (marks .entry))) (now (row .entry)) noColumns (columnsOf (records 256 (now (schema .entry)) 0))) ⌝ }
+{
+    let mut buf = [0; 576];
+    let answer = decode_columns(schema, layout, packed, row, marks, &mut buf);
+    hand_out(answer, &buf, out)
+}
+
+fn decode_long(
+    schema: &[u8],
+    layout: RowLayout,
+    packed: bool,
+    row: &[u8],
+    marks: &[u8],
+    out: &mut [u8],
+) -> ReadAnswer
+    requires { ⌜ Framed (now schema) layout packed (now row) × ((length (now marks) ≡ 256) × (layout .«num_columns» ≤ 256)) ⌝ }
+    ensures { λ r. ⌜ (r, now (out .exit)) ≡ handOut (now (out .entry)) (readFrom layout packed (isMarked (now (marks .entry))) (now (row .entry)) noColumns (columnsOf (records 256 (now (schema .entry)) 0))) ⌝ }
+{
+    let mut buf = [0; 4608];
+    let answer = decode_columns(schema, layout, packed, row, marks, &mut buf);
+    hand_out(answer, &buf, out)
+}
+
+// The row's header is good. Up to 32 columns a small buffer does.
+fn decode_values(
+    schema: &[u8],
+    layout: RowLayout,
+    packed: bool,
+    row: &[u8],
+    wanted: &[u16],
+    out: &mut [u8],
+) -> ReadAnswer
+    requires { ⌜ Framed (now schema) layout packed (now row) ⌝ }
+    ensures { λ r. ⌜ (r, now (out .exit)) ≡ handOut (now (out .entry)) (readFrom layout packed (isWanted (now (wanted .entry))) (now (row .entry)) noColumns (columnsOf (records 256 (now (schema .entry)) 0))) ⌝ }
+{
+    let mut marks = [0; 256];
+    mark_wanted(&mut marks, wanted);
+    if layout.num_columns <= 32 {
+        return decode_short(schema, layout, packed, row, &marks, out);
+    }
+    decode_long(schema, layout, packed, row, &marks, out)
+}
+
+fn decode_row(
+    schema: &[u8],
+    layout: RowLayout,
+    row: &[u8],
+    wanted: &[u16],
+    out: &mut [u8],
+) -> ReadAnswer
+    requires { ⌜ Accepted (now schema) layout ⌝ }
+    ensures { λ r. ⌜ (r, now (out .exit)) ≡ readRow rowLimit (columnsOf (records 256 (now (schema .entry)) 0)) (now (row .entry)) (now (wanted .entry)) (now (out .entry)) ⌝ }
+{
+    match row_column::check_frame(layout, row) {
+        Frame::Refused(e) => ReadAnswer::Refused(e),
+        Frame::Good(packed) => decode_values(schema, layout, packed, row, wanted, out),
+    }
+}
+
+// The wanted columns of a row, by their numbers in any order; unknown numbers are ignored, and the other columns read as null.
+pub fn decode(schema: &[u8], row: &[u8], wanted: &[u16], out: &mut [u8]) -> ReadAnswer
+    ensures { λ r. ⌜ (r, now (out .exit)) ≡ readCall offsetWidth rowLimit (now (schema .entry)) (now (row .entry)) (now (wanted .entry)) (now (out .entry)) ⌝ }
+{
+    match datatype::check_schema(schema) {
+        SchemaCheck::Refused(e) => ReadAnswer::Refused(e),
+        SchemaCheck::Good(layout) => decode_row(schema, layout, row, wanted, out),
+    }
 }

@@ -41,7 +41,7 @@ decode-column-requires c κs =
     let k = c .before .before .before .before .before .before .loop .inv in
     let h = c .before .before .before .before .before .loop-test .taken in
     let e = sym (c .before .before .before .before .record-at .ensures) ∙ c .before .before .ty .given .1 in
-    (decode-reach d k h e, (rw (d .flags) (decode-few d k h), (d .short, decode-room d k h e)))
+    (decode-reach d k h e, (rw (d .flags) (decode-few d k h), (d .framed .short, decode-room d k h e)))
 
 enum-known-e-2 : tie.Need-enum-known-e-2 Inv-loop μ-loop
 enum-known-e-2 c = search needs

@@ -1,0 +1,45 @@
+use Rattle.row_decode.specs.Marks.{isMarked}
+use Rattle.row_decode.specs.Read.{readFrom}
+use Rattle.datatype.specs.Check.{columnsOf}
+use Rattle.datatype.specs.Schema.{records}
+use Rattle.row_layout.specs.Layout.{noColumns}
+use lib.ListN.{replicate}
+use Rattle.row_decode.proofs.Handing.{filled-held, filled-out}
+use denote.Ref.{now}
+use mathlib.Core.Path.{_∙_}
+use borrow.Author.Needs.{needs}
+use Rattle.row_decode.proofs.decode_long.Statement.{statement}
+use Rattle.row_decode.proofs.decode_long.Tie as tie
+
+slice-aggregate-decode-columns : tie.Need-slice-aggregate-decode-columns
+slice-aggregate-decode-columns c = search needs
+
+decode-columns-requires : tie.Need-decode-columns-requires
+decode-columns-requires c κs = search needs
+
+slice-aggregate-hand-out : tie.Need-slice-aggregate-hand-out
+slice-aggregate-hand-out c = search needs
+
+hand-out-requires : tie.Need-hand-out-requires
+hand-out-requires c κs =
+    let a = c .before .before .before .before .before .before .before .before .before .args in
+    filled-held (replicate 4608 0) _ (c .before .before .before .decode-columns .result) (readFrom (a .layout) (a .packed) (isMarked (now (a .marks))) (now (a .row)) noColumns (columnsOf (records 256 (now (a .schema)) 0))) (c .before .before .before .decode-columns .ensures)
+
+same-length : tie.Need-same-length
+same-length c = search needs
+
+returns : tie.Need-returns
+returns c =
+    let a = c .before .before .before .before .before .before .before .before .before .before .before .before .args in
+    c .before .before .hand-out .ensures ∙ filled-out (replicate 4608 0) _ (c .before .before .before .before .before .before .decode-columns .result) (readFrom (a .layout) (a .packed) (isMarked (now (a .marks))) (now (a .row)) noColumns (columnsOf (records 256 (now (a .schema)) 0))) (c .before .before .before .before .before .before .decode-columns .ensures) (now (a .out))
+
+pub decode-long-spec : {M : Type 1} → statement M
+decode-long-spec =
+    tie.close
+    (tie.spec
+    slice-aggregate-decode-columns
+    decode-columns-requires
+    slice-aggregate-hand-out
+    hand-out-requires
+    same-length
+    returns)

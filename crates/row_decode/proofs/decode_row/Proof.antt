@@ -1,0 +1,46 @@
+use Rattle.datatype.specs.Check.{columnsOf}
+use Rattle.datatype.specs.Schema.{records}
+use Rattle.row_format.specs.Places.{rowLimit}
+use Rattle.row_decode.proofs.Opening.{framed, row-refused, row-good}
+use denote.Ref.{now}
+use mathlib.Core.Path.{sym, _∙_}
+use borrow.Author.Needs.{needs}
+use Rattle.row_decode.proofs.decode_row.Statement.{statement}
+use Rattle.row_decode.proofs.decode_row.Tie as tie
+
+check-frame-requires : tie.Need-check-frame-requires
+check-frame-requires c κs = c .before .before .before .before .pre .bounded
+
+enum-known-e : tie.Need-enum-known-e
+enum-known-e c = search needs
+
+enum-known-packed : tie.Need-enum-known-packed
+enum-known-packed c = search needs
+
+decode-values-requires : tie.Need-decode-values-requires
+decode-values-requires c κs = framed (c .before .before .before .before .before .before .before .before .before .pre) (sym (c .before .before .before .before .check-frame .ensures) ∙ c .before .before .packed .given .1)
+
+returns : tie.Need-returns
+returns c =
+    let a = c .before .before .before .before .before .before .before .before .args in
+    row-refused rowLimit (columnsOf (records 256 (now (a .schema)) 0)) (a .layout) (now (a .row)) (now (a .wanted)) (now (a .out)) (c .before .before .before .before .before .before .before .before .pre .layout) (sym (c .before .before .before .check-frame .ensures) ∙ c .before .e .given .1)
+
+same-length : tie.Need-same-length
+same-length c = search needs
+
+returns-2 : tie.Need-returns-2
+returns-2 c =
+    let a = c .before .before .before .before .before .before .before .before .before .before .before .before .args in
+    c .before .before .decode-values .ensures ∙ row-good rowLimit (columnsOf (records 256 (now (a .schema)) 0)) (a .layout) (now (a .row)) (now (a .wanted)) (now (a .out)) (c .before .before .before .before .before .before .before .before .before .before .before .before .pre .layout) (sym (c .before .before .before .before .before .before .before .check-frame .ensures) ∙ c .before .before .before .before .before .packed .given .1)
+
+pub decode-row-spec : {M : Type 1} → statement M
+decode-row-spec =
+    tie.close
+    (tie.spec
+    check-frame-requires
+    enum-known-e
+    enum-known-packed
+    decode-values-requires
+    returns
+    same-length
+    returns-2)
