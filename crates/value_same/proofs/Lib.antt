@@ -3,3 +3,4 @@ pub mod Widths
 pub mod Cases
 pub mod Stored
 pub mod Read
+pub mod Equal
