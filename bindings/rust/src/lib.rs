@@ -3,6 +3,10 @@
 //! ```
 //! // Document 01's row 2: columns 1, "AB" and null.
 //! let row = [3, 0, 1, 0x80, 4, 0x0D, 0, 1, 0, 0, 0, 0, 0, 0x41, 0x42];
+//! let schema = [2, 11, 5, 0, 1];
+//! let mut out = [0; 54];
+//! assert_eq!(rook_row::read(&schema, &row, &[0, 1, 2], &mut out), Ok(11));
+//! assert_eq!(out[..11], [2, 1, 0, 0, 0, 9, 13, 0, 2, 0, 0]);
 //! assert_eq!(rook_row::is_null(&row, 1), Ok(false));
 //! assert_eq!(rook_row::is_null(&row, 2), Ok(true));
 //! assert_eq!(rook_row::is_null(&row, 3).unwrap_err().number, 9);
@@ -26,6 +30,13 @@ impl fmt::Display for Refusal {
 impl std::error::Error for Refusal {}
 
 #[repr(C)]
+struct RowAnswer {
+    number: u32,
+    place: usize,
+    length: usize,
+}
+
+#[repr(C)]
 struct FlagAnswer {
     number: u32,
     place: usize,
@@ -33,21 +44,48 @@ struct FlagAnswer {
 }
 
 extern "C" {
+    fn rook_row_read(
+        schema: *const u8,
+        schema_length: usize,
+        row: *const u8,
+        row_length: usize,
+        wanted: *const u16,
+        wanted_count: usize,
+        out: *mut u8,
+        out_length: usize,
+    ) -> RowAnswer;
     fn rook_row_is_null(row: *const u8, row_length: usize, column: usize) -> FlagAnswer;
     fn rook_text_valid(text: *const u8, text_length: usize) -> u32;
+}
+
+fn refusal(number: u32, place: usize) -> Option<Refusal> {
+    (number != 0).then_some(Refusal { number, place })
+}
+
+/// The wanted columns of a row as a value list at the front of `out`; hands back its length. A record for each column of
+/// the schema, null for an unwanted one; texts are ranges of the row. 18 bytes a column are always enough.
+pub fn read(schema: &[u8], row: &[u8], wanted: &[u16], out: &mut [u8]) -> Result<usize, Refusal> {
+    // SAFETY: pointers and lengths are those of slices; `out` is borrowed alone, the others are only read.
+    let answer = unsafe {
+        rook_row_read(
+            schema.as_ptr(),
+            schema.len(),
+            row.as_ptr(),
+            row.len(),
+            wanted.as_ptr(),
+            wanted.len(),
+            out.as_mut_ptr(),
+            out.len(),
+        )
+    };
+    refusal(answer.number, answer.place).map_or(Ok(answer.length), Err)
 }
 
 /// Whether a column of a row is null, by the row's own header and bitmap.
 pub fn is_null(row: &[u8], column: usize) -> Result<bool, Refusal> {
     // SAFETY: pointer and length are those of a slice, which the function only reads.
     let answer = unsafe { rook_row_is_null(row.as_ptr(), row.len(), column) };
-    match answer.number {
-        0 => Ok(answer.flag == 1),
-        number => Err(Refusal {
-            number,
-            place: answer.place,
-        }),
-    }
+    refusal(answer.number, answer.place).map_or(Ok(answer.flag == 1), Err)
 }
 
 /// Whether bytes are text by RFC 3629 (UTF-8).

@@ -1,2 +1,4 @@
 pub mod Records
 pub mod Walk
+pub mod Accept
+pub mod Again

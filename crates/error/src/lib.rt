@@ -1,4 +1,5 @@
 // error.rs: why a call refused. Document 01's table has a number for each case, and the place that goes with it.
+// And the answers of the calls: a length written, or a flag.
 ghost use mathlib.Core.Path.{_≡_};
 ghost use Rattle.error.specs.Refusal.{numberOf, placeOf};
 
@@ -25,6 +26,18 @@ pub enum Refusal {
     RowLimit,
     NoRoom,
     NotSound,
+}
+
+// The answer of a call that writes to a lent output: the bytes of the result, or why there is none.
+pub enum Answer {
+    Done(usize),
+    Refused(Refusal),
+}
+
+// The answer of a call that asks whether something is so.
+pub enum Flag {
+    Is(bool),
+    Refused(Refusal),
 }
 
 impl Refusal {

@@ -7,3 +7,4 @@ pub mod Parts
 pub mod Bits
 pub mod Table
 pub mod Same
+pub mod Maps

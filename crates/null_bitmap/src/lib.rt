@@ -1,4 +1,5 @@
 // null_bitmap.rs: a column's bit in lent bytes, low bit first, set for null. Where the Rust asserts, the answer is 9.
+use error::Flag;
 use error::Refusal;
 ghost use mathlib.Core.Path.{_≡_};
 ghost use Prim.Native.Nat.{_+_, _/_, _<_};
@@ -7,11 +8,6 @@ ghost use lib.ListN.{length};
 ghost use Rattle.laws.specs.Bits.{bitValue, putBit, bitAt};
 ghost use Rattle.row_format.specs.Places.{rowLimit};
 ghost use Rattle.null_bitmap.specs.Bitmap.{flagIn, flagPut, nullFlag};
-
-pub enum NullFlag {
-    Is(bool),
-    Refused(Refusal),
-}
 
 pub enum BitAnswer {
     Done,
@@ -38,16 +34,16 @@ pub fn bit_is_set(bits: &[u8], i: usize) -> bool
 }
 
 // Whether column i of n is null.
-pub fn is_null(bits: &[u8], n: usize, i: usize) -> NullFlag
+pub fn is_null(bits: &[u8], n: usize, i: usize) -> Flag
     ensures { λ r. ⌜ r ≡ flagIn n i (now (bits .entry)) ⌝ }
 {
     if n <= i {
-        return NullFlag::Refused(Refusal::NoSuchColumn);
+        return Flag::Refused(Refusal::NoSuchColumn);
     }
     if bits.len() <= i / 8 {
-        return NullFlag::Refused(Refusal::NoSuchColumn);
+        return Flag::Refused(Refusal::NoSuchColumn);
     }
-    NullFlag::Is(bit_is_set(bits, i))
+    Flag::Is(bit_is_set(bits, i))
 }
 
 // Column i of n marked null, or not null.
@@ -77,21 +73,21 @@ pub fn clear_null(bits: &mut [u8], n: usize, i: usize) -> BitAnswer
 }
 
 // Whether a column of a row is null, by the row's own header and bitmap.
-pub fn is_column_null_in_row(row: &[u8], column: usize) -> NullFlag
+pub fn is_column_null_in_row(row: &[u8], column: usize) -> Flag
     ensures { λ r. ⌜ r ≡ nullFlag rowLimit (now (row .entry)) column ⌝ }
 {
     if 65535 < row.len() {
-        return NullFlag::Refused(Refusal::RowTooLong);
+        return Flag::Refused(Refusal::RowTooLong);
     }
     if row.len() < 4 {
-        return NullFlag::Refused(Refusal::RowTooShort);
+        return Flag::Refused(Refusal::RowTooShort);
     }
     let n = endian::read_u16(row, 0) as usize;
     if n <= column {
-        return NullFlag::Refused(Refusal::NoSuchColumn);
+        return Flag::Refused(Refusal::NoSuchColumn);
     }
     if row.len() < 4 + (n + 7) / 8 {
-        return NullFlag::Refused(Refusal::RowTooShort);
+        return Flag::Refused(Refusal::RowTooShort);
     }
-    NullFlag::Is(bit_is_set(&row[4..], column))
+    Flag::Is(bit_is_set(&row[4..], column))
 }

@@ -1,8 +1,8 @@
 // Runs the library on recorded inputs and compares with what the Rust answered there.
 // oracle/differential/src/recorded.rs describes the records on standard input, and writes them.
 use datatype::SchemaCheck;
+use error::Flag;
 use libc::STDOUT_FILENO;
-use null_bitmap::NullFlag;
 ghost use Prim.Native.Nat.{_+_, _≤_};
 ghost use lib.ListN.{length};
 
@@ -112,8 +112,8 @@ fn same_null_flag(row: &[u8], column: &[u8], answer: &[u8]) -> bool {
     let outcome = answer[0];
     let flag = answer[1];
     match null_bitmap::is_column_null_in_row(row, endian::read_u64(column, 0) as usize) {
-        NullFlag::Is(null) => outcome == 0 && flag == null as u8,
-        NullFlag::Refused(r) => outcome == variant(r.number()) && flag == 0,
+        Flag::Is(null) => outcome == 0 && flag == null as u8,
+        Flag::Refused(r) => outcome == variant(r.number()) && flag == 0,
     }
 }
 

@@ -1,10 +1,24 @@
 -- Answers as numbers, as they cross the C interface. With number 0 the place is 0; after a refusal what the call hands out is 0.
+use Prim.Native.Nat.{ℕ}
+use mathlib.Core.List.{List}
+use Rattle.error.specs.declared.Answer.{Answer}
+use Rattle.error.specs.declared.Answer.the-variants.{Done, Refused}
+use Rattle.error.specs.declared.Flag.{Flag}
+use Rattle.error.specs.declared.Flag.the-variants as Flag
+use Rattle.error.specs.Answer.{Outcome}
 use Rattle.error.specs.Refusal.{numberOf, placeOf}
 use Rattle.laws.specs.Bits.{bitValue}
-use Rattle.null_bitmap.specs.declared.NullFlag.{NullFlag}
-use Rattle.null_bitmap.specs.declared.NullFlag.the-variants.{Is, Refused}
+use Rattle.rook_row.specs.declared.RowAnswer.{RowAnswer}
 use Rattle.rook_row.specs.declared.FlagAnswer.{FlagAnswer}
 
-abbrev pub flagAnswer : NullFlag → FlagAnswer
-flagAnswer (Is b) = record { number = 0; place = 0; flag = bitValue b }
-flagAnswer (Refused r) = record { number = numberOf r; place = placeOf r; flag = 0 }
+abbrev pub rowAnswer : Answer → RowAnswer
+rowAnswer (Done n) = record { number = 0; place = 0; length = n }
+rowAnswer (Refused e) = record { number = numberOf e; place = placeOf e; length = 0 }
+
+-- with the bytes of the output
+abbrev pub rowOutcome : Outcome → RowAnswer × List ℕ
+rowOutcome o = (rowAnswer (o .0), o .1)
+
+abbrev pub flagAnswer : Flag → FlagAnswer
+flagAnswer (Flag.Is b) = record { number = 0; place = 0; flag = bitValue b }
+flagAnswer (Flag.Refused e) = record { number = numberOf e; place = placeOf e; flag = 0 }

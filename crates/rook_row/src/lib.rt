@@ -1,12 +1,21 @@
 // The exported calls: the C interface of the row codec. include/rook_row.h declares them.
 // An enum does not cross that border, so an answer is a struct of numbers: document 01's number and place, and what the call hands out.
-use null_bitmap::NullFlag;
+use error::Answer;
+use error::Flag;
 ghost use mathlib.Core.Path.{_≡_};
-ghost use Rattle.row_format.specs.Places.{rowLimit};
+ghost use Rattle.row_format.specs.Places.{offsetWidth, rowLimit};
 ghost use Rattle.laws.specs.Bits.{bitValue};
 ghost use Rattle.null_bitmap.specs.Bitmap.{nullFlag};
+ghost use Rattle.row_decode.specs.Read.{readCall};
 ghost use Rattle.text.specs.Rfc3629.{isText};
-ghost use Rattle.rook_row.specs.Answers.{flagAnswer};
+ghost use Rattle.rook_row.specs.Answers.{rowAnswer, rowOutcome, flagAnswer};
+
+#[repr(C)]
+pub struct RowAnswer {
+    pub number: u32,
+    pub place: usize,
+    pub length: usize,
+}
 
 #[repr(C)]
 pub struct FlagAnswer {
@@ -15,23 +24,59 @@ pub struct FlagAnswer {
     pub flag: usize,
 }
 
+fn row_answer(answer: Answer) -> RowAnswer
+    ensures { λ r. ⌜ r ≡ rowAnswer answer ⌝ }
+{
+    match answer {
+        Answer::Done(n) => RowAnswer {
+            number: 0,
+            place: 0,
+            length: n,
+        },
+        Answer::Refused(e) => RowAnswer {
+            number: e.number(),
+            place: e.place(),
+            length: 0,
+        },
+    }
+}
+
+fn flag_answer(answer: Flag) -> FlagAnswer
+    ensures { λ r. ⌜ r ≡ flagAnswer answer ⌝ }
+{
+    match answer {
+        Flag::Is(b) => FlagAnswer {
+            number: 0,
+            place: 0,
+            flag: b as usize,
+        },
+        Flag::Refused(e) => FlagAnswer {
+            number: e.number(),
+            place: e.place(),
+            flag: 0,
+        },
+    }
+}
+
+// The wanted columns of a row as a value list at the front of `out`; `length` is its length. The list's text area is the row.
+#[no_mangle]
+pub extern "C" fn rook_row_read(
+    schema: &[u8],
+    row: &[u8],
+    wanted: &[u16],
+    out: &mut [u8],
+) -> RowAnswer
+    ensures { λ r. ⌜ (r, now (out .exit)) ≡ rowOutcome (readCall offsetWidth rowLimit (now (schema .entry)) (now (row .entry)) (now (wanted .entry)) (now (out .entry))) ⌝ }
+{
+    row_answer(row_decode::decode(schema, row, wanted, out))
+}
+
 // Whether a column of a row is null: 1 or 0 in `flag`.
 #[no_mangle]
 pub extern "C" fn rook_row_is_null(row: &[u8], column: usize) -> FlagAnswer
     ensures { λ r. ⌜ r ≡ flagAnswer (nullFlag rowLimit (now (row .entry)) column) ⌝ }
 {
-    match null_bitmap::is_column_null_in_row(row, column) {
-        NullFlag::Is(null) => FlagAnswer {
-            number: 0,
-            place: 0,
-            flag: null as usize,
-        },
-        NullFlag::Refused(r) => FlagAnswer {
-            number: r.number(),
-            place: r.place(),
-            flag: 0,
-        },
-    }
+    flag_answer(null_bitmap::is_column_null_in_row(row, column))
 }
 
 // Whether bytes are text: 1 or 0.

@@ -2,24 +2,24 @@
 use Prim.Native.Nat.{ℕ, _+_, _≤_, _<_}
 use mathlib.Core.Path.{_≡_, refl, ap}
 use mathlib.Core.Bool.{Bool}
-use mathlib.Core.List.{List, [], _∷_, map}
+use mathlib.Core.List.{List, [], _∷_}
 use native.Mathlib.Omega.{arith}
-use lib.ListN.{length, take, length-map}
+use lib.ListN.{length, take}
 use lib.Seq.{sets, length-sets}
+use Rattle.error.specs.declared.Answer.{Answer}
 use Rattle.laws.proofs.Bytes.{part-stored}
 use Rattle.row_layout.specs.declared.RowLayout.{RowLayout}
 use Rattle.row_layout.specs.Layout.{noColumns, withColumn}
 use Rattle.datatype.specs.declared.DataType.{DataType}
 use Rattle.datatype.specs.Types.{shapeOf}
-use Rattle.datatype.specs.Schema.{records}
-use Rattle.datatype.specs.Check.{columnsOf}
+use Rattle.datatype.specs.Check.{typesIn, Accepted}
 use Rattle.value_list.specs.Lists.{Values, values, refused, listOf}
 use Rattle.row_column.specs.Column.{columnValue}
-use Rattle.row_decode.specs.declared.ReadAnswer.{ReadAnswer}
+use Rattle.row_column.proofs.Reach.{columns-all}
 use Rattle.row_decode.specs.Read.{wantedValue, onColumn, readFrom, handOut}
-use Rattle.row_decode.specs.Marks.{Framed, Filled, Held, copiedOut}
+use Rattle.row_decode.specs.Marks.{Filled, Held, copiedOut}
 
-module _ (buf after : List ℕ) (res : ReadAnswer) where
+module _ (buf after : List ℕ) (res : Answer) where
   pub filled-held : (vs : Values) → Filled vs buf res after → Held res after
   filled-held (values vs) f = rw (f .0, f .1 .0, length-sets) (f .1 .1)
   filled-held (refused e) f = rw f tt
@@ -37,8 +37,5 @@ same-flags l p r f g m e b [] h = refl
 same-flags l p r f g m e b (t ∷ ts) h =
     rw (e (b .«num_columns») (omega arith)) (ap (onColumn (wantedValue (g (b .«num_columns»)) (columnValue l p b t r))) (same-flags l p r f g m e (withColumn b (shapeOf t)) ts (omega arith)))
 
-pub few-columns : {s : List ℕ} {l : RowLayout} {p : Bool} {r : List ℕ} → Framed s l p r → noColumns .«num_columns» + length (columnsOf (records 256 s 0)) ≤ 256
-few-columns {s} {l} f =
-    let e : length (map shapeOf (columnsOf (records 256 s 0))) ≡ l .«num_columns» = ap (λ (k : RowLayout). k .«num_columns») (f .layout) in
-    let n : length (map shapeOf (columnsOf (records 256 s 0))) ≡ length (columnsOf (records 256 s 0)) = length-map (columnsOf (records 256 s 0)) shapeOf in
-    omega (arith, e, n, f .bounded .few)
+pub few-columns : {s : List ℕ} {l : RowLayout} → Accepted s l → noColumns .«num_columns» + length (typesIn s) ≤ 256
+few-columns a = omega (arith, columns-all a, a .bounded .few)

@@ -1,4 +1,3 @@
 pub mod Marking
 pub mod Decoding
 pub mod Handing
-pub mod Opening

@@ -1,24 +1,21 @@
 -- For the proofs: the wanted columns marked in a list of flags, and what the inner functions hand on.
 use Prim.Native.Nat.{ℕ, _+_, _*_, _≤_}
 use mathlib.Core.Bool.{Bool, cond}
-use mathlib.Core.List.{List, [], _∷_, map}
+use mathlib.Core.List.{List, [], _∷_}
 use mathlib.Core.Path.{_≡_}
 use lib.Dec.{eqb, ltb}
 use lib.ListN.{length, getD, set, take}
 use lib.Seq.{sets}
 use Rattle.error.specs.declared.Refusal.the-variants.{NoRoom}
+use Rattle.error.specs.declared.Answer.{Answer}
+use Rattle.error.specs.declared.Answer.the-variants as Answer
+use Rattle.error.specs.Answer.{Outcome}
 use Rattle.row_layout.specs.declared.RowLayout.{RowLayout}
-use Rattle.row_layout.specs.Layout.{Bounded, layoutOf, minimumOf}
-use Rattle.datatype.specs.Types.{shapeOf}
-use Rattle.datatype.specs.Schema.{types, records}
-use Rattle.datatype.specs.Check.{columnsOf}
 use Rattle.value_list.specs.Records.{recordOf}
 use Rattle.value_list.specs.Lists.{Values, values, refused, listOf}
 use Rattle.row_column.specs.declared.ColumnRead.{ColumnRead}
 use Rattle.row_column.specs.declared.ColumnRead.the-variants.{Value, Refused}
-use Rattle.row_decode.specs.declared.ReadAnswer.{ReadAnswer}
-use Rattle.row_decode.specs.declared.ReadAnswer.the-variants as Answer
-use Rattle.row_decode.specs.Read.{Outcome}
+use Rattle.row_column.specs.Frame.{Framed}
 
 abbrev pub marked : List ℕ → List ℕ → List ℕ
 marked m [] = m
@@ -33,32 +30,20 @@ stepped buf end (Value v) = (Answer.Done (end + length (recordOf v)), sets buf e
 stepped buf end (Refused e) = (Answer.Refused e, buf)
 
 -- all records written at the front of a buffer; after a refusal it may hold anything
-abbrev pub Filled : Values → List ℕ → ReadAnswer → List ℕ → Type 0
+abbrev pub Filled : Values → List ℕ → Answer → List ℕ → Type 0
 Filled (values vs) buf r after = (r ≡ Answer.Done (length (listOf vs))) × ((after ≡ sets buf 0 (listOf vs)) × (length (listOf vs) ≤ length buf))
 Filled (refused e) buf r after = r ≡ Answer.Refused e
 
 -- and copied from there
-abbrev pub Held : ReadAnswer → List ℕ → Type 0
+abbrev pub Held : Answer → List ℕ → Type 0
 Held (Answer.Done n) buf = n ≤ length buf
 Held (Answer.Refused e) buf = Unit {0}
 
-abbrev pub copiedOut : ReadAnswer → List ℕ → List ℕ → Outcome
+abbrev pub copiedOut : Answer → List ℕ → List ℕ → Outcome
 copiedOut (Answer.Done n) buf out = cond (ltb (length out) n) (Answer.Refused NoRoom, out) (Answer.Done n, sets out 0 (take n buf))
 copiedOut (Answer.Refused e) buf out = (Answer.Refused e, out)
 
 -- what the walk over the columns may rely on: a schema that was accepted, a row with a good header, marks for all columns, and room for 18 bytes a column
-pub record Accepted (s : List ℕ) (l : RowLayout) : Type 0 where
-  pub schema : records 256 s 0 ≡ types (columnsOf (records 256 s 0))
-  pub layout : layoutOf (map shapeOf (columnsOf (records 256 s 0))) ≡ l
-  pub bounded : Bounded l
-
-pub record Framed (s : List ℕ) (l : RowLayout) (p : Bool) (r : List ℕ) : Type 0 where
-  pub schema : records 256 s 0 ≡ types (columnsOf (records 256 s 0))
-  pub layout : layoutOf (map shapeOf (columnsOf (records 256 s 0))) ≡ l
-  pub bounded : Bounded l
-  pub long : minimumOf l p ≤ length r
-  pub short : length r ≤ 65535
-
 pub record Decodable (s : List ℕ) (l : RowLayout) (p : Bool) (r marks buf : List ℕ) : Type 0 where
   pub framed : Framed s l p r
   pub flags : length marks ≡ 256

@@ -3,6 +3,7 @@
 use datatype::DataType;
 use datatype::Record;
 use datatype::SchemaCheck;
+use error::Answer;
 use error::Refusal;
 use row_column::ColumnRead;
 use row_column::Frame;
@@ -15,15 +16,9 @@ ghost use Rattle.row_format.specs.Places.{offsetWidth, rowLimit};
 ghost use Rattle.row_layout.specs.Layout.{noColumns};
 ghost use Rattle.row_column.specs.Column.{columnValue, Reachable, InRow};
 ghost use Rattle.row_decode.specs.Read.{isWanted, wantedValue, readFrom, handOut, readRow, readCall};
-ghost use Rattle.row_decode.specs.Marks.{marked, isMarked, stepped, Accepted, Framed, Decodable, Filled, Held, copiedOut};
-ghost use Rattle.datatype.specs.Schema.{records};
-ghost use Rattle.datatype.specs.Check.{columnsOf};
-
-pub enum ReadAnswer {
-    // The bytes of the value list.
-    Done(usize),
-    Refused(Refusal),
-}
+ghost use Rattle.row_decode.specs.Marks.{marked, isMarked, stepped, Decodable, Filled, Held, copiedOut};
+ghost use Rattle.datatype.specs.Check.{typesIn, Accepted};
+ghost use Rattle.row_column.specs.Frame.{Framed};
 
 fn mark(marks: &mut [u8], column: usize)
     ensures { λ _. ⌜ now (marks .exit) ≡ set (now (marks .entry)) column 1 ⌝ }
@@ -63,29 +58,29 @@ fn read_wanted(
     ColumnRead::Value(DataValue::Null)
 }
 
-fn write_column(buf: &mut [u8], end: usize, column: ColumnRead) -> ReadAnswer
+fn write_column(buf: &mut [u8], end: usize, column: ColumnRead) -> Answer
     requires { ⌜ (end + 18 ≤ length (now buf)) × InRow 65535 column ⌝ }
     ensures { λ r. ⌜ (r, now (buf .exit)) ≡ stepped (now (buf .entry)) end column ⌝ }
 {
     match column {
-        ColumnRead::Value(v) => ReadAnswer::Done(value_list::write_value_record(buf, end, v)),
-        ColumnRead::Refused(e) => ReadAnswer::Refused(e),
+        ColumnRead::Value(v) => Answer::Done(value_list::write_value_record(buf, end, v)),
+        ColumnRead::Refused(e) => Answer::Refused(e),
     }
 }
 
 // The n bytes of a result, copied from the buffer.
-fn hand_out(answer: ReadAnswer, buf: &[u8], out: &mut [u8]) -> ReadAnswer
+fn hand_out(answer: Answer, buf: &[u8], out: &mut [u8]) -> Answer
     requires { ⌜ Held answer (now buf) ⌝ }
     ensures { λ r. ⌜ (r, now (out .exit)) ≡ copiedOut answer (now (buf .entry)) (now (out .entry)) ⌝ }
 {
     match answer {
-        ReadAnswer::Refused(e) => ReadAnswer::Refused(e),
-        ReadAnswer::Done(n) => {
+        Answer::Refused(e) => Answer::Refused(e),
+        Answer::Done(n) => {
             if out.len() < n {
-                return ReadAnswer::Refused(Refusal::NoRoom);
+                return Answer::Refused(Refusal::NoRoom);
             }
             endian::copy(out, 0, &buf[..n]);
-            ReadAnswer::Done(n)
+            Answer::Done(n)
         }
     }
 }
@@ -99,7 +94,7 @@ fn decode_column(
     marks: &[u8],
     buf: &mut [u8],
     end: usize,
-) -> ReadAnswer
+) -> Answer
     requires { ⌜ Reachable layout packed before ty (now row) × ((before .«num_columns» < length (now marks)) × ((length (now row) ≤ 65535) × (end + 18 ≤ length (now buf)))) ⌝ }
     ensures { λ r. ⌜ (r, now (buf .exit)) ≡ stepped (now (buf .entry)) end (wantedValue (isMarked (now (marks .entry)) (before .«num_columns»)) (columnValue layout packed before ty (now (row .entry)))) ⌝ }
 {
@@ -115,9 +110,9 @@ fn decode_columns(
     row: &[u8],
     marks: &[u8],
     buf: &mut [u8],
-) -> ReadAnswer
+) -> Answer
     requires { ⌜ Decodable (now schema) layout packed (now row) (now marks) (now buf) ⌝ }
-    ensures { λ r. ⌜ Filled (readFrom layout packed (isMarked (now (marks .entry))) (now (row .entry)) noColumns (columnsOf (records 256 (now (schema .entry)) 0))) (now (buf .entry)) r (now (buf .exit)) ⌝ }
+    ensures { λ r. ⌜ Filled (readFrom layout packed (isMarked (now (marks .entry))) (now (row .entry)) noColumns (typesIn (now (schema .entry)))) (now (buf .entry)) r (now (buf .exit)) ⌝ }
 {
     let mut before = RowLayout::new();
     let mut at = 0;
@@ -125,14 +120,14 @@ fn decode_columns(
     while at < schema.len() {
         match datatype::record_at(schema, at) {
             Record::Refused(e) => {
-                return ReadAnswer::Refused(e);
+                return Answer::Refused(e);
             }
             Record::Column(ty, next) => {
                 match decode_column(layout, packed, before, ty, row, marks, buf, end) {
-                    ReadAnswer::Refused(e) => {
-                        return ReadAnswer::Refused(e);
+                    Answer::Refused(e) => {
+                        return Answer::Refused(e);
                     }
-                    ReadAnswer::Done(n) => {
+                    Answer::Done(n) => {
                         before = before.with_column(ty.shape());
                         at = next;
                         end = n;
@@ -141,7 +136,7 @@ fn decode_columns(
             }
         }
     }
-    ReadAnswer::Done(end)
+    Answer::Done(end)
 }
 
 fn decode_short(
@@ -151,9 +146,9 @@ fn decode_short(
     row: &[u8],
     marks: &[u8],
     out: &mut [u8],
-) -> ReadAnswer
+) -> Answer
     requires { ⌜ Framed (now schema) layout packed (now row) × ((length (now marks) ≡ 256) × (layout .«num_columns» ≤ 32)) ⌝ }
-    ensures { λ r. ⌜ (r, now (out .exit)) ≡ handOut (now (out .entry)) (readFrom layout packed (isMarked (now (marks .entry))) (now (row .entry)) noColumns (columnsOf (records 256 (now (schema .entry)) 0))) ⌝ }
+    ensures { λ r. ⌜ (r, now (out .exit)) ≡ handOut (now (out .entry)) (readFrom layout packed (isMarked (now (marks .entry))) (now (row .entry)) noColumns (typesIn (now (schema .entry)))) ⌝ }
 {
     let mut buf = [0; 576];
     let answer = decode_columns(schema, layout, packed, row, marks, &mut buf);
@@ -167,9 +162,9 @@ fn decode_long(
     row: &[u8],
     marks: &[u8],
     out: &mut [u8],
-) -> ReadAnswer
+) -> Answer
     requires { ⌜ Framed (now schema) layout packed (now row) × ((length (now marks) ≡ 256) × (layout .«num_columns» ≤ 256)) ⌝ }
-    ensures { λ r. ⌜ (r, now (out .exit)) ≡ handOut (now (out .entry)) (readFrom layout packed (isMarked (now (marks .entry))) (now (row .entry)) noColumns (columnsOf (records 256 (now (schema .entry)) 0))) ⌝ }
+    ensures { λ r. ⌜ (r, now (out .exit)) ≡ handOut (now (out .entry)) (readFrom layout packed (isMarked (now (marks .entry))) (now (row .entry)) noColumns (typesIn (now (schema .entry)))) ⌝ }
 {
     let mut buf = [0; 4608];
     let answer = decode_columns(schema, layout, packed, row, marks, &mut buf);
@@ -184,9 +179,9 @@ fn decode_values(
     row: &[u8],
     wanted: &[u16],
     out: &mut [u8],
-) -> ReadAnswer
+) -> Answer
     requires { ⌜ Framed (now schema) layout packed (now row) ⌝ }
-    ensures { λ r. ⌜ (r, now (out .exit)) ≡ handOut (now (out .entry)) (readFrom layout packed (isWanted (now (wanted .entry))) (now (row .entry)) noColumns (columnsOf (records 256 (now (schema .entry)) 0))) ⌝ }
+    ensures { λ r. ⌜ (r, now (out .exit)) ≡ handOut (now (out .entry)) (readFrom layout packed (isWanted (now (wanted .entry))) (now (row .entry)) noColumns (typesIn (now (schema .entry)))) ⌝ }
 {
     let mut marks = [0; 256];
     mark_wanted(&mut marks, wanted);
@@ -202,22 +197,22 @@ fn decode_row(
     row: &[u8],
     wanted: &[u16],
     out: &mut [u8],
-) -> ReadAnswer
+) -> Answer
     requires { ⌜ Accepted (now schema) layout ⌝ }
-    ensures { λ r. ⌜ (r, now (out .exit)) ≡ readRow rowLimit (columnsOf (records 256 (now (schema .entry)) 0)) (now (row .entry)) (now (wanted .entry)) (now (out .entry)) ⌝ }
+    ensures { λ r. ⌜ (r, now (out .exit)) ≡ readRow rowLimit (typesIn (now (schema .entry))) (now (row .entry)) (now (wanted .entry)) (now (out .entry)) ⌝ }
 {
     match row_column::check_frame(layout, row) {
-        Frame::Refused(e) => ReadAnswer::Refused(e),
+        Frame::Refused(e) => Answer::Refused(e),
         Frame::Good(packed) => decode_values(schema, layout, packed, row, wanted, out),
     }
 }
 
 // The wanted columns of a row, by their numbers in any order; unknown numbers are ignored, and the other columns read as null.
-pub fn decode(schema: &[u8], row: &[u8], wanted: &[u16], out: &mut [u8]) -> ReadAnswer
+pub fn decode(schema: &[u8], row: &[u8], wanted: &[u16], out: &mut [u8]) -> Answer
     ensures { λ r. ⌜ (r, now (out .exit)) ≡ readCall offsetWidth rowLimit (now (schema .entry)) (now (row .entry)) (now (wanted .entry)) (now (out .entry)) ⌝ }
 {
     match datatype::check_schema(schema) {
-        SchemaCheck::Refused(e) => ReadAnswer::Refused(e),
+        SchemaCheck::Refused(e) => Answer::Refused(e),
         SchemaCheck::Good(layout) => decode_row(schema, layout, row, wanted, out),
     }
 }

@@ -1,4 +1,4 @@
-use Rattle.row_decode.proofs.Opening.{accepted, on-good, on-refused}
+use Rattle.datatype.proofs.Accept.{accepted, on-good, on-refused}
 use Rattle.datatype.specs.Schema.{schemaOf}
 use Rattle.row_format.specs.Places.{offsetWidth, rowLimit}
 use denote.Ref.{now}
@@ -20,13 +20,13 @@ decode-row-requires : tie.Need-decode-row-requires
 decode-row-requires c κs = accepted (now (c .before .before .before .before .before .before .before .before .before .args .schema)) (sym (c .before .before .before .before .check-schema .ensures .0) ∙ c .before .before .layout .given .1) ((rw (c .before .before .layout .given .1) at (c .before .before .before .before .check-schema .ensures .1)) .bounded)
 
 returns : tie.Need-returns
-returns c = on-refused (schemaOf offsetWidth rowLimit (now (c .before .before .before .before .before .before .before .before .args .schema))) _ (now (c .before .before .before .before .before .before .before .before .args .out)) (sym (c .before .before .before .check-schema .ensures .0) ∙ c .before .e .given .1)
+returns c = on-refused (schemaOf offsetWidth rowLimit (now (c .before .before .before .before .before .before .before .before .args .schema))) _ _ (sym (c .before .before .before .check-schema .ensures .0) ∙ c .before .e .given .1)
 
 same-length : tie.Need-same-length
 same-length c = search needs
 
 returns-2 : tie.Need-returns-2
-returns-2 c = c .before .before .decode-row .ensures ∙ on-good (now (c .before .before .before .before .before .before .before .before .before .before .before .before .args .schema)) (sym (c .before .before .before .before .before .before .before .check-schema .ensures .0) ∙ c .before .before .before .before .before .layout .given .1) _ (now (c .before .before .before .before .before .before .before .before .before .before .before .before .args .out))
+returns-2 c = c .before .before .decode-row .ensures ∙ on-good (now (c .before .before .before .before .before .before .before .before .before .before .before .before .args .schema)) (sym (c .before .before .before .before .before .before .before .check-schema .ensures .0) ∙ c .before .before .before .before .before .layout .given .1) _ _
 
 pub decode-spec : {M : Type 1} → statement M
 decode-spec =

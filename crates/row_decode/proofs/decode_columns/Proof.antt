@@ -1,5 +1,6 @@
-use Rattle.row_decode.proofs.Decoding.{Decoding, decode-start, decode-end, decode-few, decode-reach, decode-room, decode-more, decode-bad, decode-size}
-use Rattle.datatype.proofs.Walk.{not-refused}
+use Rattle.row_decode.proofs.Decoding.{Decoding, decode-start, decode-end, decode-room, decode-more, decode-bad, decode-size}
+use Rattle.datatype.proofs.Again.{ahead-few, ahead-good}
+use Rattle.row_column.proofs.Reach.{reach-next}
 use denote.Ref.{now}
 use native.Mathlib.Omega.{arith}
 use mathlib.Core.Path.{refl, sym, _∙_}
@@ -30,7 +31,7 @@ same-length : tie.Need-same-length Inv-loop μ-loop
 same-length c = decode-size (c .before .before .before .before .before .before .before .before .before .before .before .pre) (c .before .before .before .before .before .loop .inv)
 
 returns : tie.Need-returns Inv-loop μ-loop
-returns c = absurd (not-refused (now (c .before .before .before .before .before .before .before .before .before .before .before .args .schema)) (c .before .before .before .before .before .loop .at) (256 - c .before .before .before .before .before .loop .before .«num_columns») (c .before .before .before .before .before .loop .inv .ahead) (c .before .before .before .before .loop-test .taken) (sym (c .before .before .before .record-at .ensures) ∙ c .before .e .given .1))
+returns c = absurd (ahead-good (c .before .before .before .before .before .loop .inv .walk) (c .before .before .before .before .loop-test .taken) (sym (c .before .before .before .record-at .ensures) ∙ c .before .e .given .1))
 
 enum-known-ty : tie.Need-enum-known-ty Inv-loop μ-loop
 enum-known-ty c = search needs
@@ -41,7 +42,7 @@ decode-column-requires c κs =
     let k = c .before .before .before .before .before .before .loop .inv in
     let h = c .before .before .before .before .before .loop-test .taken in
     let e = sym (c .before .before .before .before .record-at .ensures) ∙ c .before .before .ty .given .1 in
-    (decode-reach d k h e, (rw (d .flags) (decode-few d k h), (d .framed .short, decode-room d k h e)))
+    (reach-next (d .framed) (k .walk) h e, (rw (d .flags) (ahead-few (k .walk) h), (d .framed .short, decode-room d k h e)))
 
 enum-known-e-2 : tie.Need-enum-known-e-2 Inv-loop μ-loop
 enum-known-e-2 c = search needs
@@ -61,11 +62,11 @@ shape-requires : tie.Need-shape-requires Inv-loop μ-loop
 shape-requires c κs = search needs
 
 with-column-requires : tie.Need-with-column-requires Inv-loop μ-loop
-with-column-requires c κs = (decode-few (c .before .before .before .before .before .before .before .before .before .before .before .before .before .before .before .before .before .before .before .pre) (c .before .before .before .before .before .before .before .before .before .before .before .before .before .loop .inv) (c .before .before .before .before .before .before .before .before .before .before .before .before .loop-test .taken), (c .before .before .before .before .before .before .before .before .before .before .before .before .before .loop .inv .bounded, c .shape .ensures .1))
+with-column-requires c κs = (ahead-few (c .before .before .before .before .before .before .before .before .before .before .before .before .before .loop .inv .walk) (c .before .before .before .before .before .before .before .before .before .before .before .before .loop-test .taken), (c .before .before .before .before .before .before .before .before .before .before .before .before .before .loop .inv .walk .bounded, c .shape .ensures .1))
 
 loop-less : tie.Need-loop-less Inv-loop μ-loop
 loop-less c =
-    let f = decode-few (c .before .before .before .before .before .before .before .before .before .before .before .before .before .before .before .before .before .before .before .before .pre) (c .before .before .before .before .before .before .before .before .before .before .before .before .before .before .loop .inv) (c .before .before .before .before .before .before .before .before .before .before .before .before .before .loop-test .taken) in
+    let f = ahead-few (c .before .before .before .before .before .before .before .before .before .before .before .before .before .before .loop .inv .walk) (c .before .before .before .before .before .before .before .before .before .before .before .before .before .loop-test .taken) in
     rw (c .with-column .ensures .0) (omega arith)
 
 loop-again : tie.Need-loop-again Inv-loop μ-loop

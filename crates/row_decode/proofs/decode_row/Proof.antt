@@ -1,7 +1,9 @@
-use Rattle.datatype.specs.Check.{columnsOf}
-use Rattle.datatype.specs.Schema.{records}
+use Rattle.datatype.specs.Check.{typesIn}
+use Rattle.error.specs.Answer.{unchanged}
+use Rattle.row_layout.specs.Layout.{noColumns}
+use Rattle.row_decode.specs.Read.{isWanted, readFrom, handOut}
 use Rattle.row_format.specs.Places.{rowLimit}
-use Rattle.row_decode.proofs.Opening.{framed, row-refused, row-good}
+use Rattle.row_column.proofs.Framing.{framed, frame-refused, frame-good}
 use denote.Ref.{now}
 use mathlib.Core.Path.{sym, _∙_}
 use borrow.Author.Needs.{needs}
@@ -23,7 +25,7 @@ decode-values-requires c κs = framed (c .before .before .before .before .before
 returns : tie.Need-returns
 returns c =
     let a = c .before .before .before .before .before .before .before .before .args in
-    row-refused rowLimit (columnsOf (records 256 (now (a .schema)) 0)) (a .layout) (now (a .row)) (now (a .wanted)) (now (a .out)) (c .before .before .before .before .before .before .before .before .pre .layout) (sym (c .before .before .before .check-frame .ensures) ∙ c .before .e .given .1)
+    frame-refused rowLimit (now (a .row)) (c .before .before .before .before .before .before .before .before .pre .layout) (unchanged (now (a .out))) (λ l p. handOut (now (a .out)) (readFrom l p (isWanted (now (a .wanted))) (now (a .row)) noColumns (typesIn (now (a .schema))))) (sym (c .before .before .before .check-frame .ensures) ∙ c .before .e .given .1)
 
 same-length : tie.Need-same-length
 same-length c = search needs
@@ -31,7 +33,7 @@ same-length c = search needs
 returns-2 : tie.Need-returns-2
 returns-2 c =
     let a = c .before .before .before .before .before .before .before .before .before .before .before .before .args in
-    c .before .before .decode-values .ensures ∙ row-good rowLimit (columnsOf (records 256 (now (a .schema)) 0)) (a .layout) (now (a .row)) (now (a .wanted)) (now (a .out)) (c .before .before .before .before .before .before .before .before .before .before .before .before .pre .layout) (sym (c .before .before .before .before .before .before .before .check-frame .ensures) ∙ c .before .before .before .before .before .packed .given .1)
+    c .before .before .decode-values .ensures ∙ frame-good rowLimit (now (a .row)) (c .before .before .before .before .before .before .before .before .before .before .before .before .pre .layout) (unchanged (now (a .out))) (λ l p. handOut (now (a .out)) (readFrom l p (isWanted (now (a .wanted))) (now (a .row)) noColumns (typesIn (now (a .schema))))) (sym (c .before .before .before .before .before .before .before .check-frame .ensures) ∙ c .before .before .before .before .before .packed .given .1)
 
 pub decode-row-spec : {M : Type 1} → statement M
 decode-row-spec =

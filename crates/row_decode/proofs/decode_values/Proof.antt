@@ -1,8 +1,7 @@
 use Rattle.row_decode.proofs.Handing.{same-flags, few-columns}
 use Rattle.row_decode.proofs.Marking.{marks-tell}
 use Rattle.row_decode.specs.Read.{isWanted, handOut}
-use Rattle.datatype.specs.Check.{columnsOf}
-use Rattle.datatype.specs.Schema.{records}
+use Rattle.datatype.specs.Check.{typesIn}
 use Rattle.row_layout.specs.Layout.{noColumns}
 use denote.Ref.{now}
 use mathlib.Core.Path.{_∙_, ap}
@@ -29,7 +28,7 @@ returns : tie.Need-returns
 returns c =
     let a = c .before .before .before .before .before .before .before .before .before .before .before .before .before .before .args in
     let w = now (a .wanted) in
-    c .before .before .decode-short .ensures ∙ ap (handOut (now (a .out))) (same-flags (a .layout) (a .packed) (now (a .row)) _ (isWanted w) 256 (λ i h. rw (c .before .before .before .before .before .before .before .before .mark-wanted .ensures) (marks-tell 256 w i h)) noColumns (columnsOf (records 256 (now (a .schema)) 0)) (few-columns (c .before .before .before .before .before .before .before .before .before .before .before .before .before .before .pre)))
+    c .before .before .decode-short .ensures ∙ ap (handOut (now (a .out))) (same-flags (a .layout) (a .packed) (now (a .row)) _ (isWanted w) 256 (λ i h. rw (c .before .before .before .before .before .before .before .before .mark-wanted .ensures) (marks-tell 256 w i h)) noColumns (typesIn (now (a .schema))) (few-columns (c .before .before .before .before .before .before .before .before .before .before .before .before .before .before .pre .accepted)))
 
 slice-aggregate-decode-long : tie.Need-slice-aggregate-decode-long
 slice-aggregate-decode-long c = search needs
@@ -44,7 +43,7 @@ returns-2 : tie.Need-returns-2
 returns-2 c =
     let a = c .before .before .before .before .before .before .before .before .before .before .before .before .before .before .args in
     let w = now (a .wanted) in
-    c .before .before .decode-long .ensures ∙ ap (handOut (now (a .out))) (same-flags (a .layout) (a .packed) (now (a .row)) _ (isWanted w) 256 (λ i h. rw (c .before .before .before .before .before .before .before .before .mark-wanted .ensures) (marks-tell 256 w i h)) noColumns (columnsOf (records 256 (now (a .schema)) 0)) (few-columns (c .before .before .before .before .before .before .before .before .before .before .before .before .before .before .pre)))
+    c .before .before .decode-long .ensures ∙ ap (handOut (now (a .out))) (same-flags (a .layout) (a .packed) (now (a .row)) _ (isWanted w) 256 (λ i h. rw (c .before .before .before .before .before .before .before .before .mark-wanted .ensures) (marks-tell 256 w i h)) noColumns (typesIn (now (a .schema))) (few-columns (c .before .before .before .before .before .before .before .before .before .before .before .before .before .before .pre .accepted)))
 
 pub decode-values-spec : {M : Type 1} → statement M
 decode-values-spec =

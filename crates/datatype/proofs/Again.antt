@@ -1,0 +1,135 @@
+-- A schema that was accepted, walked again: its columns by their numbers, and the layout of those before.
+use Prim.Native.Nat.{ℕ, suc, _+_, _-_, _≤_, _<_}
+use mathlib.Core.Path.{_≡_, refl, sym, ap, _∙_, subst}
+use mathlib.Core.Bool.{Bool, true, false}
+use mathlib.Core.List.{List, [], _∷_, map}
+use native.Mathlib.Numerals.{add-one}
+use native.Mathlib.Omega.{arith}
+use lib.ListN.{length, getD, take, drop, length-drop, length-map}
+use lib.Seq.{drop-cons, length-take-le}
+use Rattle.error.specs.declared.Refusal.{Refusal}
+use Rattle.laws.proofs.Maps.{take-map, at-map}
+use Rattle.row_format.specs.declared.Shape.{Shape}
+use Rattle.row_format.specs.declared.Shape.the-variants.{Fixed, Varlen}
+use Rattle.row_format.specs.Places.{through, rankAfter, varlens}
+use Rattle.row_format.proofs.Places.{Aligned, All, none, more, through-split, size-take}
+use Rattle.row_layout.specs.declared.RowLayout.{RowLayout}
+use Rattle.row_layout.specs.Layout.{Bounded, layoutOf, noColumns, withColumn, sizeIn}
+use Rattle.row_layout.proofs.Columns.{layout-next}
+use Rattle.datatype.specs.declared.DataType.{DataType}
+use Rattle.datatype.specs.declared.DataType.the-variants as T
+use Rattle.datatype.specs.declared.Record.the-variants.{Column, Refused}
+use Rattle.datatype.specs.Types.{shapeOf}
+use Rattle.datatype.specs.Schema.{types, records, recordAt}
+use Rattle.datatype.specs.Check.{typeAt, layoutFor, layoutBefore, typesIn}
+use Rattle.datatype.proofs.Walk.{First, none-left, some-left, not-refused, first-left}
+
+-- ---- the layout of the columns before one
+
+pub before-next : (ts : List DataType) (i : ℕ) → i < length ts → layoutBefore ts (i + 1) ≡ withColumn (layoutBefore ts i) (shapeOf (typeAt ts i))
+before-next ts i h =
+    rw (add-one i, ← take-map shapeOf (suc i) ts, ← take-map shapeOf i ts, ← at-map shapeOf i ts (T.Varchar 0))
+    (layout-next (map shapeOf ts) i (rw (length-map ts shapeOf) h))
+
+aligned : (t : DataType) → Aligned (shapeOf t)
+aligned T.SmallInt = omega arith
+aligned T.Int = omega arith
+aligned T.BigInt = omega arith
+aligned T.Real = omega arith
+aligned T.DoublePrecision = omega arith
+aligned (T.Numeric p s) = omega arith
+aligned (T.Decimal p s) = omega arith
+aligned T.Bool = omega arith
+aligned (T.Char n) = omega arith
+aligned (T.Character n) = omega arith
+aligned (T.Varchar n) = tt
+aligned T.Date = omega arith
+aligned T.Time = omega arith
+aligned (T.Bit n) = omega arith
+aligned T.Timestamp = omega arith
+
+-- ---- layouts only grow
+
+pub record Grown (b l : RowLayout) : Type 0 where
+  pub columns : b .«num_columns» ≤ l .«num_columns»
+  pub varlens : b .«num_varlen_cols» ≤ l .«num_varlen_cols»
+  pub packed : b .«packed_size» ≤ l .«packed_size»
+  pub padded : b .«padded_size» ≤ l .«padded_size»
+
+rank-ge : (s : Shape) (k : ℕ) → k ≤ rankAfter s k
+rank-ge (Fixed z a) k = omega arith
+rank-ge Varlen k = omega arith
+
+ranks-ge : (ss : List Shape) (k : ℕ) → k ≤ through rankAfter k ss
+ranks-ge [] k = omega arith
+ranks-ge (s ∷ ss) k = omega (arith, rank-ge s k, ranks-ge ss (rankAfter s k))
+
+all-aligned : (ts : List DataType) → All (map shapeOf ts)
+all-aligned [] = none
+all-aligned (t ∷ ts) = more (aligned t) (all-aligned ts)
+
+pub grown : (ts : List DataType) (i : ℕ) → i ≤ length ts → Grown (layoutBefore ts i) (layoutFor ts)
+grown ts i h =
+    record {
+      columns = rw (length-map (take i ts) shapeOf, length-map ts shapeOf, length-take-le i ts h) h;
+      varlens = rw (← take-map shapeOf i ts, through-split rankAfter (map shapeOf ts) i 0) (ranks-ge (drop i (map shapeOf ts)) (varlens (take i (map shapeOf ts))));
+      packed = rw (← take-map shapeOf i ts) (size-take true (map shapeOf ts) i (all-aligned ts));
+      padded = rw (← take-map shapeOf i ts) (size-take false (map shapeOf ts) i (all-aligned ts));
+    }
+
+pub size-grown : {b l : RowLayout} → Grown b l → (p : Bool) → sizeIn b p ≤ sizeIn l p
+size-grown g true = g .packed
+size-grown g false = g .padded
+
+-- ---- the walk: the columns before a place of the schema, and the records that are left
+
+pub record Ahead (s : List ℕ) (b : RowLayout) (at : ℕ) : Type 0 where
+  pub bounded : Bounded b
+  pub within : b .«num_columns» ≤ length (typesIn s)
+  pub so-far : b ≡ layoutBefore (typesIn s) (b .«num_columns»)
+  pub ahead : records (256 - b .«num_columns») s at ≡ types (drop (b .«num_columns») (typesIn s))
+
+pub ahead-start : {s : List ℕ} → records 256 s 0 ≡ types (typesIn s) → Ahead s noColumns 0
+ahead-start e = record { bounded = record { few = omega arith; ranked = omega arith; tight = omega arith; wide = omega arith }; within = omega arith; so-far = refl; ahead = e }
+
+module _ {s : List ℕ} {b : RowLayout} {at : ℕ} (w : Ahead s b at) where
+  pub ahead-end : length s ≤ at → b .«num_columns» ≡ length (typesIn s)
+  ahead-end h =
+      let none : length (drop (b .«num_columns») (typesIn s)) ≡ 0 = ap length (none-left s at (256 - b .«num_columns») (w .ahead) h) in
+      let gone = rw (length-drop (b .«num_columns») (typesIn s)) at none in
+      omega (arith, gone, w .within)
+
+  module _ (h : at < length s) where
+    pub ahead-few : b .«num_columns» < 256
+    ahead-few = omega (arith, some-left s at (256 - b .«num_columns») (w .ahead) h)
+
+    pub ahead-good : {r : Refusal} → recordAt s at ≡ Refused r → ⊥
+    ahead-good f = not-refused s at (256 - b .«num_columns») (w .ahead) h f
+
+    module _ {t : DataType} {next : ℕ} (e : recordAt s at ≡ Column t next) where
+      first : First (256 - (b .«num_columns» + 1)) s next t (drop (b .«num_columns») (typesIn s))
+      first = first-left s at (256 - b .«num_columns») (w .ahead) h (256 - (b .«num_columns» + 1)) (omega (arith, ahead-few)) e
+
+      pub ahead-inside : b .«num_columns» < length (typesIn s)
+      ahead-inside =
+          let f : length (drop (b .«num_columns») (typesIn s)) ≡ suc (length (first .tail)) = ap length (first .split) in
+          let g = rw (length-drop (b .«num_columns») (typesIn s)) at f in
+          omega (arith, g)
+
+      split : t ∷ first .tail ≡ typeAt (typesIn s) (b .«num_columns») ∷ drop (b .«num_columns» + 1) (typesIn s)
+      split = sym (first .split) ∙ rw (add-one (b .«num_columns»)) (drop-cons (typesIn s) (b .«num_columns») (T.Varchar 0) ahead-inside)
+
+      pub ahead-type : t ≡ typeAt (typesIn s) (b .«num_columns»)
+      ahead-type = ap (λ (ts : List DataType). getD ts 0 (T.Varchar 0)) split
+
+      tail-is : first .tail ≡ drop (b .«num_columns» + 1) (typesIn s)
+      tail-is = ap (λ (ts : List DataType). drop 1 ts) split
+
+      pub ahead-split : drop (b .«num_columns») (typesIn s) ≡ t ∷ drop (b .«num_columns» + 1) (typesIn s)
+      ahead-split = first .split ∙ ap (λ (ts : List DataType). t ∷ ts) tail-is
+
+      pub ahead-next : withColumn b (shapeOf t) ≡ layoutBefore (typesIn s) (b .«num_columns» + 1)
+      ahead-next = ap (λ (u : DataType). withColumn b (shapeOf u)) ahead-type ∙ ap (λ (k : RowLayout). withColumn k (shapeOf (typeAt (typesIn s) (b .«num_columns»)))) (w .so-far) ∙ sym (before-next (typesIn s) (b .«num_columns») ahead-inside)
+
+      pub ahead-more : Bounded (withColumn b (shapeOf t)) → Ahead s (withColumn b (shapeOf t)) next
+      ahead-more small = record { bounded = small; within = omega (arith, ahead-inside); so-far = ahead-next; ahead = first .ahead ∙ ap types tail-is }

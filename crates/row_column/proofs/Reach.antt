@@ -1,0 +1,53 @@
+-- A row with a good header has all that the reading of a column looks at.
+use Prim.Native.Nat.{ℕ, _+_, _≤_, _<_}
+use mathlib.Core.Path.{_≡_, refl, sym, ap, _∙_, subst}
+use mathlib.Core.Bool.{Bool, true, false}
+use mathlib.Core.List.{List, map}
+use native.Mathlib.Omega.{arith}
+use lib.ListN.{length, take, length-map}
+use lib.Seq.{length-take-le}
+use Rattle.row_format.specs.declared.Shape.{Shape}
+use Rattle.row_format.specs.Places.{endAfter}
+use Rattle.row_layout.specs.declared.RowLayout.{RowLayout}
+use Rattle.row_layout.specs.Layout.{Bounded, withColumn, sizeIn}
+use Rattle.datatype.specs.declared.DataType.{DataType}
+use Rattle.datatype.specs.declared.Record.the-variants.{Column}
+use Rattle.datatype.specs.Types.{shapeOf, precisionOf}
+use Rattle.datatype.specs.Schema.{recordAt}
+use Rattle.datatype.specs.Check.{typeAt, layoutFor, layoutBefore, typesIn, Accepted}
+use Rattle.datatype.proofs.Records.{few-digits}
+use Rattle.datatype.proofs.Again.{before-next, Grown, grown, size-grown, Ahead, ahead-inside, ahead-type}
+use Rattle.row_column.specs.Frame.{Framed}
+use Rattle.row_column.specs.Column.{Reachable}
+
+size-with : (b : RowLayout) (s : Shape) (p : Bool) → sizeIn (withColumn b s) p ≡ endAfter p s (sizeIn b p)
+size-with b s true = refl
+size-with b s false = refl
+
+pub columns-all : {s : List ℕ} {l : RowLayout} → Accepted s l → l .«num_columns» ≡ length (typesIn s)
+columns-all {s} a = ap (λ (k : RowLayout). k .«num_columns») (sym (a .layout)) ∙ length-map (typesIn s) shapeOf
+
+pub columns-before : (ts : List DataType) (i : ℕ) → i ≤ length ts → layoutBefore ts i .«num_columns» ≡ i
+columns-before ts i h = length-map (take i ts) shapeOf ∙ length-take-le i ts h
+
+module _ {s : List ℕ} {l : RowLayout} {p : Bool} {r : List ℕ} (f : Framed s l p r) where
+  -- column i
+  pub reach : (b : RowLayout) (t : DataType) (i : ℕ) → i < length (typesIn s) → b ≡ layoutBefore (typesIn s) i → t ≡ typeAt (typesIn s) i → Bounded b → precisionOf t ≤ 38 → Reachable l p b t r
+  reach b t i h e d small few =
+      let next : layoutBefore (typesIn s) (i + 1) ≡ withColumn b (shapeOf t) =
+      before-next (typesIn s) i h ∙ ap (λ (k : RowLayout). withColumn k (shapeOf (typeAt (typesIn s) i))) (sym e) ∙ ap (λ (u : DataType). withColumn b (shapeOf u)) (sym d) in
+      let g : Grown (withColumn b (shapeOf t)) l =
+      subst (λ (k : RowLayout). Grown k l) next (subst (Grown (layoutBefore (typesIn s) (i + 1))) (f .accepted .layout) (grown (typesIn s) (i + 1) (omega (arith, h)))) in
+      record {
+        whole = f .accepted .bounded;
+        before = small;
+        digits = few;
+        column = omega (arith, g .columns);
+        table = omega (arith, f .long);
+        rank = λ v. omega (arith, rw v at (g .varlens));
+        slot = λ v. omega (arith, f .long, rw (v, size-with) at (size-grown g p));
+      }
+
+  -- the column whose record the walk has come to
+  pub reach-next : {b : RowLayout} {at : ℕ} (w : Ahead s b at) (h : at < length s) {t : DataType} {next : ℕ} (e : recordAt s at ≡ Column t next) → Reachable l p b t r
+  reach-next {b} {at} w h {t} e = reach b t (b .«num_columns») (ahead-inside w h e) (w .so-far) (ahead-type w h e) (w .bounded) (few-digits s at e)
