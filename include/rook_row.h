@@ -25,12 +25,32 @@ typedef struct {
     size_t flag; /* 0 or 1 */
 } rook_flag_answer;
 
+typedef struct {
+    uint32_t number;
+    size_t place;
+    size_t start; /* in the row */
+    size_t length;
+} rook_text_answer;
+
 /* The wanted columns of a row, as a value list at the front of `out`: a record for each column of the schema, null for
  * an unwanted one. The list's text area is the row itself. `wanted` has column numbers in any order, repeats allowed,
  * unknown ones ignored; `wanted_count` is their number. 18 bytes a column are always enough for `out`.
  * Refuses with 1 and 2 (schema), 4, 3, 5, 6, 3 (row), 7 and 8 (a wanted column), 14 (out too short). */
 rook_row_answer rook_row_read(const uint8_t *schema, size_t schema_length, const uint8_t *row, size_t row_length,
                               const uint16_t *wanted, size_t wanted_count, uint8_t *out, size_t out_length);
+
+/* Where the text of a column stands in the row: a Char with its blanks, a Varchar as it is. A null has number 0 and
+ * start and length 0; a text that is empty and not null has its own start.
+ * Refuses with 1 and 2 (schema), 9 (no such column), 11 (not Char, Character or Varchar; place: the column), and then
+ * as a read of that column: 4, 3, 5, 6, 3, 7, 8. */
+rook_text_answer rook_row_text(const uint8_t *schema, size_t schema_length, const uint8_t *row, size_t row_length,
+                               size_t column);
+
+/* Whether two rows of one schema have the same content: flag is 1 if all columns read as the same. Floats compare by
+ * value: the two zeros are equal, and every NaN equals every NaN.
+ * Refuses with 1 and 2 (schema), then as a read of all columns of a, then of b. */
+rook_flag_answer rook_row_same_content(const uint8_t *schema, size_t schema_length, const uint8_t *a, size_t a_length,
+                                       const uint8_t *b, size_t b_length);
 
 /* Whether column `column` of a row is null, by the row's own header and bitmap: flag is 1 for null.
  * Refuses with 4 (row above 65,535 bytes), 3 (row shorter than its header or bitmap), 9 (no such column); place 0. */

@@ -7,6 +7,8 @@
 //! let mut out = [0; 54];
 //! assert_eq!(rook_row::read(&schema, &row, &[0, 1, 2], &mut out), Ok(11));
 //! assert_eq!(out[..11], [2, 1, 0, 0, 0, 9, 13, 0, 2, 0, 0]);
+//! assert_eq!(rook_row::text(&schema, &row, 1), Ok(&b"AB"[..]));
+//! assert_eq!(rook_row::same_content(&schema, &row, &row), Ok(true));
 //! assert_eq!(rook_row::is_null(&row, 1), Ok(false));
 //! assert_eq!(rook_row::is_null(&row, 2), Ok(true));
 //! assert_eq!(rook_row::is_null(&row, 3).unwrap_err().number, 9);
@@ -43,7 +45,30 @@ struct FlagAnswer {
     flag: usize,
 }
 
+#[repr(C)]
+struct TextAnswer {
+    number: u32,
+    place: usize,
+    start: usize,
+    length: usize,
+}
+
 extern "C" {
+    fn rook_row_text(
+        schema: *const u8,
+        schema_length: usize,
+        row: *const u8,
+        row_length: usize,
+        column: usize,
+    ) -> TextAnswer;
+    fn rook_row_same_content(
+        schema: *const u8,
+        schema_length: usize,
+        a: *const u8,
+        a_length: usize,
+        b: *const u8,
+        b_length: usize,
+    ) -> FlagAnswer;
     fn rook_row_read(
         schema: *const u8,
         schema_length: usize,
@@ -79,6 +104,38 @@ pub fn read(schema: &[u8], row: &[u8], wanted: &[u16], out: &mut [u8]) -> Result
         )
     };
     refusal(answer.number, answer.place).map_or(Ok(answer.length), Err)
+}
+
+/// The text of a column, as a part of the row: a Char with its blanks. A null gives the empty text.
+pub fn text<'r>(schema: &[u8], row: &'r [u8], column: usize) -> Result<&'r [u8], Refusal> {
+    // SAFETY: pointers and lengths are those of slices, which the function only reads.
+    let answer = unsafe {
+        rook_row_text(
+            schema.as_ptr(),
+            schema.len(),
+            row.as_ptr(),
+            row.len(),
+            column,
+        )
+    };
+    let part = &row[answer.start..answer.start + answer.length];
+    refusal(answer.number, answer.place).map_or(Ok(part), Err)
+}
+
+/// Whether two rows of one schema have the same content. Floats compare by value, and every NaN equals every NaN.
+pub fn same_content(schema: &[u8], a: &[u8], b: &[u8]) -> Result<bool, Refusal> {
+    // SAFETY: as above.
+    let answer = unsafe {
+        rook_row_same_content(
+            schema.as_ptr(),
+            schema.len(),
+            a.as_ptr(),
+            a.len(),
+            b.as_ptr(),
+            b.len(),
+        )
+    };
+    refusal(answer.number, answer.place).map_or(Ok(answer.flag == 1), Err)
 }
 
 /// Whether a column of a row is null, by the row's own header and bitmap.

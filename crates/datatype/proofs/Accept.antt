@@ -58,6 +58,7 @@ module _ (s : List ℕ) {l : RowLayout} (e : checked (schemaOf offsetWidth rowLi
   all-records = unlimited offsetWidth rowLimit (length s) (records 256 s 0) (good .0)
 
   same-columns : typesIn s ≡ columnsOf (schemaOf offsetWidth rowLimit s)
+  unfolding typesIn
   same-columns = ap columnsOf all-records
 
   pub accepted : Bounded l → Accepted s l

@@ -55,7 +55,7 @@ abbrev pub columnsOf : Parsed → List DataType
 columnsOf (types ts) = ts
 columnsOf (refused r) = []
 
-abbrev pub typesIn : List ℕ → List DataType
+unfoldable pub typesIn : List ℕ → List DataType
 typesIn s = columnsOf (records 256 s 0)
 
 -- a schema that was accepted, with its layout

@@ -43,7 +43,7 @@ module _ (k b : ℕ) where
   clear : (bitOf k b ≡ 1 → ⊥) → bitOf k b ≡ 0
   clear n = omega (arith, n)
 
-  bit-le : bitOf k b * 2 ^ k ≤ b
+  pub bit-le : bitOf k b * 2 ^ k ≤ b
   bit-le = omega (arith, mul-le-mul-right (2 ^ k) (mod-le (b / 2 ^ k) 2), div-mul-le-self b (2 ^ k))
 
   -- a bit put where it is already, taken away and added

@@ -1,14 +1,15 @@
 -- Little-endian numbers, over any width; tables of them; bytes replaced.
-use Prim.Native.Nat.{ℕ, zero, suc, _+_, _*_, _/_, _%_, _^_, _≤_, _<_}
-use mathlib.Core.Path.{_≡_, refl, sym, ap, _∙_}
+use Prim.Native.Nat.{ℕ, zero, suc, _+_, _*_, _-_, _/_, _%_, _^_, _≤_, _<_}
+use mathlib.Core.Path.{_≡_, refl, sym, ap, subst, _∙_}
 use mathlib.Core.List.{List, [], _∷_, _++_, append-assoc}
-use native.Mathlib.Nat.{zero-add, suc-add, zero-mul, pow-suc, pow-succ', one-le-pow, div-div-eq-div-mul}
+use native.Mathlib.Nat.{le-trans, zero-add, suc-add, zero-mul, pow-suc, pow-succ', one-le-pow, div-div-eq-div-mul}
 use native.Mathlib.Omega.{arith}
 use lib.Arith.{mod-mul}
 use mir.Syntax.{w8}
 use mir.Val.{Fits}
-use lib.ListN.{length, getD, take, drop, length-append, length-drop}
-use lib.Seq.{sets, length-sets, take-at, drop-at, drop-cons, drop-drop, take-add, length-take-le, getD-drop}
+use lib.ListN.{length, getD, take, drop, length-append, length-drop, List·getD-append}
+use lib.Seq.{sets, length-sets, take-at, drop-at, drop-cons, drop-drop, take-add, length-take-le, getD-take, getD-drop, getD-append-add}
+use Rattle.laws.proofs.Truths.{cases}
 use Rattle.laws.proofs.Stores.{sets-append, sets-splice}
 use Rattle.laws.specs.Bytes.{toLe, fromLe, toTable, fromTable, entryAt, splice}
 
@@ -136,10 +137,33 @@ table-entry w v t j r h = table-entry-at w v (drop t r) j h ∙ rw drop-drop
 
 -- ---- bytes replaced
 
+pub length-splice : (s e : ℕ) (new r : List ℕ) → s ≤ e → e ≤ length r → length (splice s e new r) ≡ length r - (e - s) + length new
+length-splice s e new r h l = rw (length-append, length-append, length-take-le s r (le-trans h l), length-drop) (omega arith)
+
 -- where the list is known by its parts
 pub splice-at : (p m q new : List ℕ) (s e : ℕ) → length p ≡ s → length p + length m ≡ e → splice s e new (p ++ (m ++ q)) ≡ p ++ (new ++ q)
 splice-at p m q new s e hs he =
     rw (take-at p (m ++ q) s hs, ← append-assoc p m q, drop-at (p ++ m) q e (length-append p m ∙ he))
+
+pub sets-at : (p m q new : List ℕ) (s : ℕ) → length p ≡ s → length new ≡ length m → sets (p ++ (m ++ q)) s new ≡ p ++ (new ++ q)
+sets-at p m q new s e l =
+    sets-splice (p ++ (m ++ q)) s new (simp (length-append, e, l) (omega arith)) ∙ splice-at p m q new s (s + length new) e (rw (e, l))
+
+-- by as many others: the length and every other byte are kept
+module _ (s e : ℕ) (new r : List ℕ) (q : s + length new ≡ e) (h : e ≤ length r) where
+  pub same-length-splice : length (splice s e new r) ≡ length r
+  same-length-splice = length-splice s e new r (omega arith) h ∙ (omega arith)
+
+  pub splice-outside : (i : ℕ) → (s ≤ i → i < e → ⊥) → getD (splice s e new r) i 0 ≡ getD r i 0
+  splice-outside i out =
+      let kept : length (take s r) ≡ s = length-take-le s r (omega arith) in
+      cases i s (λ l. List·getD-append (take s r) (new ++ drop e r) 0 i (rw kept l) ∙ getD-take s r i 0 l)
+      (λ g.
+      let past : e ≤ i = cases i e (λ l. absurd (out g l)) (λ l. l) in
+      let seam : length (take s r ++ new) + (i - e) ≡ i = rw (length-append, kept) (omega arith) in
+      let same : e + (i - e) ≡ i = omega arith in
+      rw (← append-assoc (take s r))
+      (subst (λ (k : ℕ). getD ((take s r ++ new) ++ drop e r) k 0 ≡ getD r i 0) seam (getD-append-add (take s r ++ new) (drop e r) (i - e) 0 ∙ getD-drop e r (i - e) 0 ∙ rw same)))
 
 -- a run read where it was stored, and another of its length stored over it
 module _ (l : List ℕ) (i : ℕ) (xs : List ℕ) (h : i + length xs ≤ length l) where

@@ -1,9 +1,9 @@
--- Two lists that go together: their lengths, and both cut at an index.
+-- Two lists that go together: their lengths, their elements at an index, and both cut there.
 use Prim.Native.Nat.{ℕ, zero, suc, _<_}
 use mathlib.Core.Path.{_≡_, refl, ap}
 use mathlib.Core.List.{List, [], _∷_, _++_}
 use native.Mathlib.Omega.{arith}
-use lib.ListN.{length}
+use lib.ListN.{length, getD}
 use Rattle.laws.specs.Forall.{Forall₂, nil, cons}
 
 -- what holds of a list cut at an index holds of the list at that index
@@ -16,6 +16,11 @@ module _ {A B : Type 0} {R : A → B → Type 0} where
   pub forall-length : {xs : List A} {ys : List B} → Forall₂ R xs ys → length ys ≡ length xs
   forall-length nil = refl
   forall-length (cons r e) = ap suc (forall-length e)
+
+  pub forall-get : {xs : List A} {ys : List B} → Forall₂ R xs ys → (i : ℕ) → i < length xs → (a : A) (b : B) → R (getD xs i a) (getD ys i b)
+  forall-get nil i h a b = absurd (omega arith)
+  forall-get (cons r e) zero h a b = r
+  forall-get (cons r e) (suc i) h a b = forall-get e i (omega arith) a b
 
   pub by-forall : (P : List A → List B → ℕ → Type 0)
       → ((us : List A) (a : A) (vs : List A) (ps : List B) (b : B) (qs : List B) → Forall₂ R us ps → R a b → Forall₂ R vs qs → P (us ++ a ∷ vs) (ps ++ b ∷ qs) (length us))

@@ -5,8 +5,8 @@ use mathlib.Core.List.{List, [], _∷_, _++_, append-assoc}
 use native.Mathlib.Nat.{add-zero, add-suc}
 use native.Mathlib.Numerals.{add-one}
 use native.Mathlib.Omega.{arith}
-use lib.ListN.{length, getD, set, take, drop, replicate, length-drop, take-append-drop, length-set, drop-of-length-le}
-use lib.Seq.{sets, sets-eq, set-comm, set-append-left, drop-drop, drop-cons, take-suc, drop-set-lt, drop-set-add, take-set-le, getD-drop, length-take-le}
+use lib.ListN.{length, getD, set, take, drop, replicate, length-append, length-drop, take-append-drop, length-set, drop-of-length-le}
+use lib.Seq.{sets, sets-eq, set-comm, set-append-left, take-append-seam, drop-append-add, drop-drop, drop-cons, take-suc, drop-set-lt, drop-set-add, take-set-le, getD-drop, length-take-le}
 use Rattle.laws.specs.Bytes.{splice}
 
 pub sets-append : (l : List ℕ) (i : ℕ) (xs ys : List ℕ) → sets l i (xs ++ ys) ≡ sets (sets l i xs) (i + length xs) ys
@@ -20,10 +20,30 @@ sets-then l i n xs ys e f g = g ∙ rw (f, ← e) (sym (sets-append l i xs ys))
 pub sets-splice : (l : List ℕ) (i : ℕ) (vs : List ℕ) → i + length vs ≤ length l → sets l i vs ≡ splice i (i + length vs) vs l
 sets-splice l i vs h = sets-eq vs l i h ∙ append-assoc (take i l) vs (drop (i + length vs) l)
 
+-- in a list of two parts: inside the first, and from its end on
+pub sets-left : (l m : List ℕ) (i : ℕ) (vs : List ℕ) → i + length vs ≤ length l → sets (l ++ m) i vs ≡ sets l i vs ++ m
+sets-left l m i [] h = refl
+sets-left l m i (v ∷ vs) h =
+    let k : i < length l = omega arith in
+    rw (set-append-left l m i v k) (sets-left (set l i v) m (suc i) vs (rw length-set (omega arith)))
+
+pub sets-end : (l m : List ℕ) (n : ℕ) (vs : List ℕ) → length l ≡ n → length vs ≤ length m → sets (l ++ m) n vs ≡ l ++ (vs ++ drop (length vs) m)
+sets-end l m n vs e h =
+    sets-splice (l ++ m) n vs (rw (length-append, e) (omega arith)) ∙ rw (← e, take-append-seam, drop-append-add)
+
+-- over the start of a longer list
+pub sets-start : (l vs : List ℕ) → length vs ≤ length l → sets l 0 vs ≡ vs ++ drop (length vs) l
+sets-start l vs h = sets-end [] l 0 vs refl h
+
 -- a store past the others may come first
 sets-set : (l : List ℕ) (i j v : ℕ) (vs : List ℕ) → i + length vs ≤ j → set (sets l i vs) j v ≡ sets (set l j v) i vs
 sets-set l i j v [] h = refl
 sets-set l i j v (x ∷ vs) h = sets-set (set l i x) (suc i) j v vs (omega arith) ∙ ap (λ (k : List ℕ). sets k (suc i) vs) (set-comm l i j x v (λ e. omega (arith, e)))
+
+-- and so may a run of them
+pub sets-comm : (l : List ℕ) (i j : ℕ) (xs ys : List ℕ) → i + length xs ≤ j → sets (sets l i xs) j ys ≡ sets (sets l j ys) i xs
+sets-comm l i j xs [] h = refl
+sets-comm l i j xs (y ∷ ys) h = rw (sets-set l i j y xs h) (sets-comm (set l j y) i (suc j) xs ys (omega arith))
 
 -- the m elements from `at` on, stored where they stand; and with one of them changed
 module _ (s : List ℕ) (at m : ℕ) (h : at + m ≤ length s) where

@@ -1,5 +1,5 @@
 -- One value and one column: what the inner functions make of them, as numbers and bytes. A refusal leaves the lent bytes.
-use Prim.Native.Nat.{ℕ, _+_, _/_, _≤_}
+use Prim.Native.Nat.{ℕ, _≤_}
 use mathlib.Core.Bool.{Bool, true, cond}
 use mathlib.Core.List.{List, [], _∷_}
 use lib.Dec.{eqb, ltb}
@@ -10,13 +10,11 @@ use Rattle.row_format.specs.Places.{rowLimit}
 use Rattle.datatype.specs.declared.DataType.{DataType}
 use Rattle.datatype.specs.declared.Record.{Record}
 use Rattle.datatype.specs.declared.Record.the-variants.{Column, Refused}
-use Rattle.datatype.specs.Types.{sizeOf, isVarlen, precisionOf, lengthOf}
+use Rattle.datatype.specs.Types.{sizeOf, isVarlen, precisionOf}
 use Rattle.datatype.specs.Schema.{recordAt}
-use Rattle.bit_utils.specs.Bits.{bytesFor}
 use Rattle.value.specs.declared.DataValue.{DataValue}
-use Rattle.value.specs.declared.DataValue.the-variants as D
 use Rattle.value.specs.Kinds.{matches}
-use Rattle.value.specs.Ranges.{textOf}
+use Rattle.value.specs.Ranges.{rangeOf, textOf}
 use Rattle.value_list.specs.Records.{recordOf}
 use Rattle.value_list.specs.Lists.{Values, values, refused, checked}
 use Rattle.stored_form.specs.declared.SlotRead.{SlotRead}
@@ -106,20 +104,7 @@ abbrev pub readAs : OneType → List ℕ → ℕ → List ℕ → ValueProbe × 
 readAs (Only t) bs start out = readValue t bs start out
 readAs (Bad n) bs start out = refuse n out
 
--- ---- for the proofs: the bytes of a stored form, from the type and the value alone
+-- ---- for the proofs: how many bytes a stored form has, from the type and the value alone
 
 abbrev pub formLength : DataType → DataValue → ℕ
-formLength t D.Null = 0
-formLength t (D.SmallInt z) = 2
-formLength t (D.Int z) = 4
-formLength t (D.BigInt z) = 8
-formLength t (D.Real b) = 4
-formLength t (D.DoublePrecision b) = 8
-formLength t (D.Numeric n) = (precisionOf t + 2) / 2
-formLength t (D.Bool b) = 1
-formLength t (D.Char r) = lengthOf t
-formLength t (D.Varchar r) = r .length
-formLength t (D.Date z) = 4
-formLength t (D.Time z) = 8
-formLength t (D.Bit r) = bytesFor (lengthOf t)
-formLength t (D.Timestamp z) = 8
+formLength t v = cond (isVarlen t) (rangeOf v .length) (sizeOf t)

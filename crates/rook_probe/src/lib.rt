@@ -14,6 +14,7 @@ ghost use Rattle.row_format.specs.Places.{offsetWidth, rowLimit};
 ghost use Rattle.datatype.specs.Types.{precisionOf};
 ghost use Rattle.datatype.specs.Schema.{schemaOf};
 ghost use Rattle.datatype.specs.Check.{checked};
+ghost use Rattle.value.specs.Kinds.{matches};
 ghost use Rattle.value.specs.Ranges.{textOf};
 ghost use Rattle.value_list.specs.Lists.{checked as checkedList};
 ghost use Rattle.stored_form.specs.Write.{accepted, storedForm};
@@ -114,29 +115,16 @@ fn one_value(list: &[u8], area: usize) -> OneValue
 fn form_length(ty: DataType, value: DataValue) -> usize
     ensures { λ r. ⌜ r ≡ formLength ty value ⌝ }
 {
-    let n = ty.declared_length() as usize;
-    let p = ty.precision() as usize;
-    match value {
-        DataValue::Null => 0,
-        DataValue::SmallInt(_) => 2,
-        DataValue::Int(_) => 4,
-        DataValue::BigInt(_) => 8,
-        DataValue::Real(_) => 4,
-        DataValue::DoublePrecision(_) => 8,
-        DataValue::Numeric(_) => (p + 2) / 2,
-        DataValue::Bool(_) => 1,
-        DataValue::Char(_) => n,
-        DataValue::Varchar(r) => r.length,
-        DataValue::Date(_) => 4,
-        DataValue::Time(_) => 8,
-        DataValue::Bit(_) => (n + 7) / 8,
-        DataValue::Timestamp(_) => 8,
+    if ty.is_variable_length() {
+        let range = value.range();
+        return range.length;
     }
+    ty.fixed_size()
 }
 
 // The stored form of a value that the type holds.
 fn place_value(ty: DataType, value: DataValue, area: &[u8], out: &mut [u8]) -> ValueProbe
-    requires { ⌜ (precisionOf ty ≤ 38) × (accepted ty value (now area) ≡ true) ⌝ }
+    requires { ⌜ (precisionOf ty ≤ 38) × ((matches ty value ≡ true) × (accepted ty value (now area) ≡ true)) ⌝ }
     ensures { λ r. ⌜ (r, now (out .exit)) ≡ placed (storedForm ty value (textOf (now (area .entry)) value)) (now (out .entry)) ⌝ }
 {
     let length = form_length(ty, value);

@@ -9,7 +9,10 @@ use Rattle.error.specs.Answer.{Outcome}
 use Rattle.error.specs.Refusal.{numberOf, placeOf}
 use Rattle.laws.specs.Bits.{bitValue}
 use Rattle.rook_row.specs.declared.RowAnswer.{RowAnswer}
+use Rattle.row_text.specs.declared.ColumnText.{ColumnText}
+use Rattle.row_text.specs.declared.ColumnText.the-variants as Text
 use Rattle.rook_row.specs.declared.FlagAnswer.{FlagAnswer}
+use Rattle.rook_row.specs.declared.TextAnswer.{TextAnswer}
 
 abbrev pub rowAnswer : Answer → RowAnswer
 rowAnswer (Done n) = record { number = 0; place = 0; length = n }
@@ -22,3 +25,7 @@ rowOutcome o = (rowAnswer (o .0), o .1)
 abbrev pub flagAnswer : Flag → FlagAnswer
 flagAnswer (Flag.Is b) = record { number = 0; place = 0; flag = bitValue b }
 flagAnswer (Flag.Refused e) = record { number = numberOf e; place = placeOf e; flag = 0 }
+
+abbrev pub textAnswer : ColumnText → TextAnswer
+textAnswer (Text.Part x) = record { number = 0; place = 0; start = x .start; length = x .length }
+textAnswer (Text.Refused e) = record { number = numberOf e; place = placeOf e; start = 0; length = 0 }

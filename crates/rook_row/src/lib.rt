@@ -2,13 +2,16 @@
 // An enum does not cross that border, so an answer is a struct of numbers: document 01's number and place, and what the call hands out.
 use error::Answer;
 use error::Flag;
+use row_text::ColumnText;
 ghost use mathlib.Core.Path.{_≡_};
 ghost use Rattle.row_format.specs.Places.{offsetWidth, rowLimit};
 ghost use Rattle.laws.specs.Bits.{bitValue};
 ghost use Rattle.null_bitmap.specs.Bitmap.{nullFlag};
 ghost use Rattle.row_decode.specs.Read.{readCall};
+ghost use Rattle.row_same.specs.Rows.{sameCall};
+ghost use Rattle.row_text.specs.Text.{textCall};
 ghost use Rattle.text.specs.Rfc3629.{isText};
-ghost use Rattle.rook_row.specs.Answers.{rowAnswer, rowOutcome, flagAnswer};
+ghost use Rattle.rook_row.specs.Answers.{rowAnswer, rowOutcome, flagAnswer, textAnswer};
 
 #[repr(C)]
 pub struct RowAnswer {
@@ -22,6 +25,14 @@ pub struct FlagAnswer {
     pub number: u32,
     pub place: usize,
     pub flag: usize,
+}
+
+#[repr(C)]
+pub struct TextAnswer {
+    pub number: u32,
+    pub place: usize,
+    pub start: usize,
+    pub length: usize,
 }
 
 fn row_answer(answer: Answer) -> RowAnswer
@@ -69,6 +80,35 @@ pub extern "C" fn rook_row_read(
     ensures { λ r. ⌜ (r, now (out .exit)) ≡ rowOutcome (readCall offsetWidth rowLimit (now (schema .entry)) (now (row .entry)) (now (wanted .entry)) (now (out .entry))) ⌝ }
 {
     row_answer(row_decode::decode(schema, row, wanted, out))
+}
+
+// The text of a column: where it stands in the row. A null has number 0 and an empty range at 0.
+#[no_mangle]
+pub extern "C" fn rook_row_text(schema: &[u8], row: &[u8], column: usize) -> TextAnswer
+    ensures { λ r. ⌜ r ≡ textAnswer (textCall offsetWidth rowLimit (now (schema .entry)) (now (row .entry)) column) ⌝ }
+{
+    match row_text::column_text(schema, row, column) {
+        ColumnText::Part(part) => TextAnswer {
+            number: 0,
+            place: 0,
+            start: part.start,
+            length: part.length,
+        },
+        ColumnText::Refused(e) => TextAnswer {
+            number: e.number(),
+            place: e.place(),
+            start: 0,
+            length: 0,
+        },
+    }
+}
+
+// Whether two rows of one schema have the same content: 1 or 0 in `flag`.
+#[no_mangle]
+pub extern "C" fn rook_row_same_content(schema: &[u8], a: &[u8], b: &[u8]) -> FlagAnswer
+    ensures { λ r. ⌜ r ≡ flagAnswer (sameCall offsetWidth rowLimit (now (schema .entry)) (now (a .entry)) (now (b .entry))) ⌝ }
+{
+    flag_answer(row_same::same_content(schema, a, b))
 }
 
 // Whether a column of a row is null: 1 or 0 in `flag`.

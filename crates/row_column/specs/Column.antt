@@ -15,11 +15,13 @@ use Rattle.row_layout.specs.Layout.{Bounded, sizeIn}
 use Rattle.row_layout.specs.Range.{rangeOf}
 use Rattle.datatype.specs.declared.DataType.{DataType}
 use Rattle.datatype.specs.Types.{sizeOf, alignmentOf, isVarlen, precisionOf}
+use Rattle.datatype.specs.Check.{typeAt, layoutBefore, typesIn}
 use Rattle.value.specs.declared.DataValue.the-variants.{Null}
 use Rattle.value.specs.Ranges.{rangeOf as textRange}
 use Rattle.stored_form.specs.declared.SlotRead.{SlotRead}
 use Rattle.stored_form.specs.declared.SlotRead.the-variants as Slot
 use Rattle.stored_form.specs.Read.{readSlot}
+use Rattle.row_column.specs.declared.Column.{Column}
 use Rattle.row_column.specs.declared.ColumnRead.{ColumnRead}
 use Rattle.row_column.specs.declared.ColumnRead.the-variants.{Value, Refused}
 
@@ -49,6 +51,14 @@ columnValue l p b t r =
     (cond (isVarlen t)
     (varlenValue t (b .«num_columns») r (rangeOf (tableStart (l .«num_columns»)) (l .«num_varlen_cols») (b .«num_varlen_cols») r))
     (readBytes t (b .«num_columns») r (slotPlace l p b t) (slotPlace l p b t + sizeOf t)))
+
+-- ---- for the proofs: column i of a schema, as the walk comes to it
+
+pub record Found (s : List ℕ) (i : ℕ) (c : Column) : Type 0 where
+  pub layout : c .before ≡ layoutBefore (typesIn s) i
+  pub type-is : c .ty ≡ typeAt (typesIn s) i
+  pub bounded : Bounded (c .before)
+  pub digits : precisionOf (c .ty) ≤ 38
 
 -- ---- what the code needs: the row has what is looked at, and a value's text lies in the row
 

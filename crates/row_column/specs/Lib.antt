@@ -1,2 +1,3 @@
 pub mod Frame
 pub mod Column
+pub mod Depends

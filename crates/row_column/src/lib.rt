@@ -1,5 +1,6 @@
-// row.rs, `decode_into`, for one column: the tests of a row's header, and what a column reads as.
+// row.rs, `decode_into`, for one column: the tests of a row's header, where a column stands, and what it reads as.
 use datatype::DataType;
+use datatype::Record;
 use error::Refusal;
 use row_layout::RowLayout;
 use row_layout::VarlenRange;
@@ -14,7 +15,9 @@ ghost use Rattle.row_layout.specs.Layout.{Bounded};
 ghost use Rattle.row_layout.specs.Range.{rangeOf};
 ghost use Rattle.datatype.specs.Types.{sizeOf, isVarlen, precisionOf};
 ghost use Rattle.row_column.specs.Frame.{frameOf};
-ghost use Rattle.row_column.specs.Column.{readBytes, varlenValue, columnValue, Reachable, InRow};
+ghost use Rattle.row_column.specs.Column.{readBytes, varlenValue, columnValue, Found, Reachable, InRow};
+ghost use Rattle.datatype.specs.Schema.{types, records};
+ghost use Rattle.datatype.specs.Check.{typesIn};
 
 // A row whose header suits the schema: whether it is packed.
 pub enum Frame {
@@ -45,6 +48,42 @@ pub fn check_frame(layout: RowLayout, row: &[u8]) -> Frame
         return Frame::Refused(Refusal::RowTooShort);
     }
     Frame::Good(packed)
+}
+
+// A column of a schema: its type, and the layout of those before it.
+pub struct Column {
+    pub before: RowLayout,
+    pub ty: DataType,
+}
+
+// The schema was checked and has this column, so that the walk comes to it.
+pub fn column_at(schema: &[u8], column: usize) -> Column
+    requires { ⌜ (records 256 (now schema) 0 ≡ types (typesIn (now schema))) × (column < length (typesIn (now schema))) ⌝ }
+    ensures { λ r. ⌜ Found (now (schema .entry)) column r ⌝ }
+{
+    let mut before = RowLayout::new();
+    let mut at = 0;
+    while at < schema.len() {
+        match datatype::record_at(schema, at) {
+            Record::Refused(_) => {
+                return Column {
+                    before,
+                    ty: DataType::SmallInt,
+                };
+            }
+            Record::Column(ty, next) => {
+                if before.num_columns == column {
+                    return Column { before, ty };
+                }
+                before = before.with_column(ty.shape());
+                at = next;
+            }
+        }
+    }
+    Column {
+        before,
+        ty: DataType::SmallInt,
+    }
 }
 
 // What a column reads as; null is a value here.

@@ -1,3 +1,4 @@
 pub mod Marking
 pub mod Decoding
 pub mod Handing
+pub mod Depends

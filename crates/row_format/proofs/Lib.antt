@@ -2,3 +2,9 @@ pub mod Places
 pub mod Table
 pub mod Bitmap
 pub mod Row
+pub mod Edit
+pub mod SetRow
+pub mod Fresh
+pub mod Build
+pub mod Zeroed
+pub mod Cells

@@ -9,7 +9,7 @@ use lib.ListN.{length, getD, take, drop}
 use lib.Seq.{take-take}
 use Rattle.row_format.specs.declared.Shape.{Shape}
 use Rattle.row_format.specs.declared.Shape.the-variants.{Fixed, Varlen}
-use Rattle.row_format.specs.Places.{through, rankAfter, roundUp, startAt, endAfter, varlens, fixedSize, slotAfter, slotStart}
+use Rattle.row_format.specs.Places.{through, rankAfter, roundUp, startAt, endAfter, varlens, fixedSize, rankOf, slotAfter, slotStart}
 use Rattle.row_format.specs.Row.{slotSize}
 
 -- ---- any number that is carried through the columns
@@ -54,6 +54,13 @@ varlens-cons s ss = let e : rankAfter s 0 ≡ rankAfter s 0 + 0 = sym (add-zero 
 
 pub packed-cons : (s : Shape) (ss : List Shape) → fixedSize true (s ∷ ss) ≡ slotSize s + fixedSize true ss
 packed-cons s ss = ap (λ (x : ℕ). through (endAfter true) x ss) (packed-first s) ∙ through-add (endAfter true) packed-adds ss (slotSize s) 0
+
+-- a Varchar's rank is below their number
+pub rank-inside : (ss : List Shape) (i : ℕ) → i < length ss → getD ss i Varlen ≡ Varlen → rankOf ss i < varlens ss
+rank-inside [] i h v = absurd (omega arith)
+rank-inside (Fixed z a ∷ ss) zero h v = let q : _≡_ {A = ℕ} 0 1 = cc in absurd (omega arith)
+rank-inside (Varlen ∷ ss) zero h v = rw (varlens-cons Varlen ss) (omega arith)
+rank-inside (s ∷ ss) (suc i) h v = rw (varlens-cons s ss, varlens-cons s (take i ss)) (omega (arith, rank-inside ss i (omega arith) v))
 
 -- ---- shapes whose alignments are positive
 
@@ -121,3 +128,12 @@ module _ (p : Bool) where
       let l : i < length ss = omega arith in
       let e : fixedSize p (take (suc i) ss) ≤ fixedSize p (take j ss) = rw (take-take (suc i) j ss h) at (size-take (take j ss) (suc i) (all-take j a)) in
       rw (slot-end ss i l) (le-trans e (slot-ge p (getD ss j Varlen) (fixedSize p (take j ss)) (all-at j a)))
+
+-- packed, whatever the alignments
+pub packed-take : (ss : List Shape) (i : ℕ) → fixedSize true (take i ss) ≤ fixedSize true ss
+packed-take ss zero = omega arith
+packed-take [] (suc i) = omega arith
+packed-take (s ∷ ss) (suc i) = rw (packed-cons s ss, packed-cons s (take i ss)) (omega (arith, packed-take ss i))
+
+pub packed-inside : (ss : List Shape) (i : ℕ) → i < length ss → slotStart true ss i + slotSize (getD ss i Varlen) ≤ fixedSize true ss
+packed-inside ss i h = rw (slot-end true ss i h) (packed-take ss (suc i))

@@ -41,24 +41,24 @@ pub concat-append : (xs ys : List (List ℕ)) → concat (xs ++ ys) ≡ concat x
 concat-append [] ys = refl
 concat-append (x ∷ xs) ys = rw (concat-append xs ys, append-assoc)
 
-concat-at : (xs : List (List ℕ)) (i : ℕ) → i < length xs → concat xs ≡ concat (take i xs) ++ (getD xs i [] ++ concat (drop (suc i) xs))
+pub concat-at : (xs : List (List ℕ)) (i : ℕ) → i < length xs → concat xs ≡ concat (take i xs) ++ (getD xs i [] ++ concat (drop (suc i) xs))
 concat-at xs i h = ap concat (split-at xs i [] h) ∙ concat-append (take i xs) (getD xs i [] ∷ drop (suc i) xs)
 
 pub length-slots : {ss : List Shape} {bs : List (List ℕ)} → Forall₂ FitsSlot ss bs → length (concat bs) ≡ fixedSize true ss
 length-slots nil = refl
 length-slots (cons {a = s} {xs = ss} r e) = rw (length-append, length-slots e, r, packed-cons s ss)
 
-forall-take : {ss : List Shape} {bs : List (List ℕ)} (i : ℕ) → Forall₂ FitsSlot ss bs → Forall₂ FitsSlot (take i ss) (take i bs)
+pub forall-take : {ss : List Shape} {bs : List (List ℕ)} (i : ℕ) → Forall₂ FitsSlot ss bs → Forall₂ FitsSlot (take i ss) (take i bs)
 forall-take zero e = nil
 forall-take (suc i) nil = nil
 forall-take (suc i) (cons r e) = cons r (forall-take i e)
 
-forall-at : {ss : List Shape} {bs : List (List ℕ)} (i : ℕ) → Forall₂ FitsSlot ss bs → length (getD bs i []) ≡ slotSize (getD ss i Varlen)
+pub forall-at : {ss : List Shape} {bs : List (List ℕ)} (i : ℕ) → Forall₂ FitsSlot ss bs → length (getD bs i []) ≡ slotSize (getD ss i Varlen)
 forall-at i nil = refl
 forall-at zero (cons r e) = r
 forall-at (suc i) (cons r e) = forall-at i e
 
-packed-start : (s : Shape) (at : ℕ) → slotAfter true s at ≡ at
+pub packed-start : (s : Shape) (at : ℕ) → slotAfter true s at ≡ at
 packed-start (Fixed z a) at = refl
 packed-start Varlen at = refl
 
@@ -92,7 +92,7 @@ module _ (w : ℕ) (h : List ℕ) (four : length h ≡ 4) {ss : List Shape} {cs 
   abbrev front : List ℕ
   front = h ++ bitmap (bitmapSize n) cs
 
-  length-front : length front ≡ tableStart n
+  pub length-front : length front ≡ tableStart n
   length-front = rw (length-append, four, length-bitmap)
 
   -- 01: the minimum and the payloads of the Varchars that are not null

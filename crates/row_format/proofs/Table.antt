@@ -43,7 +43,7 @@ first-offsets e at (none ∷ cs) z h = first-offsets e (at + 0) cs (omega arith)
 first-offsets e zero (some b ∷ cs) z h = omega arith
 first-offsets e (suc at) (some b ∷ cs) z h = refl
 
-drop-past : (xs : List ℕ) (y : ℕ) (ys : List ℕ) (k : ℕ) → length xs ≡ k → drop (suc k) (xs ++ y ∷ ys) ≡ ys
+pub drop-past : (xs : List ℕ) (y : ℕ) (ys : List ℕ) (k : ℕ) → length xs ≡ k → drop (suc k) (xs ++ y ∷ ys) ≡ ys
 drop-past xs y ys k e = rw (← append-snoc xs y ys) (drop-at (xs ++ (y ∷ [])) ys (suc k) (simp length-append (omega arith)))
 
 -- ---- the regions
@@ -91,7 +91,7 @@ module _ (w : ℕ) (front region : List ℕ) (pos : 0 < length front) where
   place cs k = base w front region cs + length (payloads (take k cs))
 
   -- the table, cut at the rank
-  table-cut : (us : List Cell) (c : Cell) (vs : List Cell) → length (row (us ++ c ∷ vs)) < 256 ^ w
+  pub table-cut : (us : List Cell) (c : Cell) (vs : List Cell) → length (row (us ++ c ∷ vs)) < 256 ^ w
       → let at = place (us ++ c ∷ vs) (length us) in
       fromTable w (length (us ++ c ∷ vs)) (drop (length front) (row (us ++ c ∷ vs))) ≡ offsets (base w front region (us ++ c ∷ vs)) us ++ (offset c at ∷ offsets (at + length (bytes c)) vs)
   table-cut us c vs fits = table-read w front region (us ++ c ∷ vs) fits ∙ offsets-append _ us (c ∷ vs) ∙ rw take-append-seam

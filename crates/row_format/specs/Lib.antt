@@ -1,3 +1,5 @@
 pub mod Places
 pub mod Table
 pub mod Row
+pub mod Edit
+pub mod Zeroed

@@ -1,12 +1,12 @@
 -- Numbers written and read back.
 use Prim.Native.Nat.{ℕ, zero, suc, _+_, _*_, _-_, _/_, _%_, _^_, _≤_, _<_}
 use mathlib.Core.Path.{_≡_, refl, ap, _∙_}
-use mathlib.Core.Bool.{true, cond}
+use mathlib.Core.Bool.{Bool, true, false, cond}
 use native.Mathlib.Omega.{arith}
 use borrow.Author.Tests.{leb-true}
 use lib.Dec.{eqb, leb}
 use lib.IntN.{ℤ, pos, negsuc}
-use mir.Syntax.{Width}
+use mir.Syntax.{Width, w64}
 use mir.Val.{bits, Fits, SFits, toZ, ofZ}
 use mir.ValLaws.{toZ-ofZ, ofZ-fits}
 use Rattle.laws.specs.Bytes.{toLe, fromLe}
@@ -56,3 +56,9 @@ number-back n s l e =
     let m : ℕ = magnitude (n .high) (n .low) in
     let whole : halves (m / 2 ^ 64) (m % 2 ^ 64) ≡ m = omega arith in
     ap (λ (k : ℕ). numberOf (isNegative (n .high)) k s) whole ∙ rw (← e) (halves-back (n .high) (n .low) (n .scale) l)
+
+-- its upper half is a machine's number if that of the magnitude can be signed
+pub number-fits : (negative : Bool) (m s : ℕ) → m / 2 ^ 64 < 2 ^ 63 → SFits w64 (numberOf negative m s .high)
+number-fits false m s h = record { sfits = h }
+number-fits true zero s h = record { sfits = omega arith }
+number-fits true (suc m) s h = record { sfits = omega arith }

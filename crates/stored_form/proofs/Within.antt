@@ -19,43 +19,46 @@ use Rattle.numeric.specs.Packed.{decodeBcd}
 use Rattle.datatype.specs.declared.DataType.{DataType}
 use Rattle.datatype.specs.declared.DataType.the-variants as T
 use Rattle.value.specs.declared.DataValue.the-variants as D
-use Rattle.value.specs.Ranges.{rangeOf}
+use Rattle.value.specs.declared.TextRange.{TextRange}
+use Rattle.value.specs.Ranges.{noText, rangeOf}
 use Rattle.stored_form.specs.declared.SlotRead.{SlotRead}
 use Rattle.stored_form.specs.declared.SlotRead.the-variants.{Value, NoValue}
 use Rattle.stored_form.specs.Read.{valueIf, twosComplement, decoded, timed, whole, readSlot}
 
-abbrev pub Within : ℕ → SlotRead → Type 0
-Within n (Value v) = rangeOf v .start + rangeOf v .length ≤ n
-Within n NoValue = Unit {0}
+-- what holds of the range of a value that was read
+abbrev pub OfRange : (TextRange → Type 0) → SlotRead → Type 0
+OfRange P (Value v) = P (rangeOf v)
+OfRange P NoValue = Unit {0}
 
-module _ (n : ℕ) where
-  none : 0 + 0 ≤ n
-  none = omega arith
-
-  of-number : (s : ℕ) (bs : List ℕ) (d : Decoded) → Within n (decoded s bs d)
+-- it has none, or the whole of the column's bytes
+module _ (P : TextRange → Type 0) (none : P noText) where
+  of-number : (s : ℕ) (bs : List ℕ) (d : Decoded) → OfRange P (decoded s bs d)
   of-number s bs (Bcd.Value negative high low) = none
-  of-number s bs Bcd.Broken = by-cond (Within n) (eqb (length bs) 17) (Value (D.Numeric (twosComplement bs))) NoValue (λ e. none) (λ e. tt)
+  of-number s bs Bcd.Broken = by-cond (OfRange P) (eqb (length bs) 17) (Value (D.Numeric (twosComplement bs))) NoValue (λ e. none) (λ e. tt)
 
-  of-time : (d : TimeOfDay) → Within n (timed d)
+  of-time : (d : TimeOfDay) → OfRange P (timed d)
   of-time (Micros z) = none
   of-time OutOfRange = tt
 
-  module _ (start : ℕ) (bs : List ℕ) (h : start + length bs ≤ n) where
-    pub slot-within : (t : DataType) → Within n (readSlot t start bs)
-    slot-within T.SmallInt = none
-    slot-within T.Int = none
-    slot-within T.BigInt = none
-    slot-within T.Real = none
-    slot-within T.DoublePrecision = none
-    slot-within (T.Numeric p s) = of-number s bs (decodeBcd p bs)
-    slot-within (T.Decimal p s) = of-number s bs (decodeBcd p bs)
-    slot-within T.Bool = none
-    slot-within (T.Char m) = by-cond (Within n) (isText bs) (Value (D.Char (whole start bs))) NoValue (λ e. h) (λ e. tt)
-    slot-within (T.Character m) = by-cond (Within n) (isText bs) (Value (D.Char (whole start bs))) NoValue (λ e. h) (λ e. tt)
-    slot-within (T.Varchar m) =
-        by-cond (Within n) (ltb m (length bs)) NoValue (valueIf (isText bs) (D.Varchar (whole start bs))) (λ e. tt)
-        (λ e. by-cond (Within n) (isText bs) (Value (D.Varchar (whole start bs))) NoValue (λ f. h) (λ f. tt))
-    slot-within T.Date = by-cond (Within n) (isDate (toZ w32 (fromLe bs))) (Value (D.Date (toZ w32 (fromLe bs)))) NoValue (λ e. none) (λ e. tt)
-    slot-within T.Time = of-time (timeOf (toZ w64 (fromLe bs)))
-    slot-within (T.Bit m) = h
-    slot-within T.Timestamp = by-cond (Within n) (isTimestamp (toZ w64 (fromLe bs))) (Value (D.Timestamp (toZ w64 (fromLe bs)))) NoValue (λ e. none) (λ e. tt)
+  module _ (start : ℕ) (bs : List ℕ) (h : P (whole start bs)) where
+    pub slot-range : (t : DataType) → OfRange P (readSlot t start bs)
+    slot-range T.SmallInt = none
+    slot-range T.Int = none
+    slot-range T.BigInt = none
+    slot-range T.Real = none
+    slot-range T.DoublePrecision = none
+    slot-range (T.Numeric p s) = of-number s bs (decodeBcd p bs)
+    slot-range (T.Decimal p s) = of-number s bs (decodeBcd p bs)
+    slot-range T.Bool = none
+    slot-range (T.Char m) = by-cond (OfRange P) (isText bs) (Value (D.Char (whole start bs))) NoValue (λ e. h) (λ e. tt)
+    slot-range (T.Character m) = by-cond (OfRange P) (isText bs) (Value (D.Char (whole start bs))) NoValue (λ e. h) (λ e. tt)
+    slot-range (T.Varchar m) =
+        by-cond (OfRange P) (ltb m (length bs)) NoValue (valueIf (isText bs) (D.Varchar (whole start bs))) (λ e. tt)
+        (λ e. by-cond (OfRange P) (isText bs) (Value (D.Varchar (whole start bs))) NoValue (λ f. h) (λ f. tt))
+    slot-range T.Date = by-cond (OfRange P) (isDate (toZ w32 (fromLe bs))) (Value (D.Date (toZ w32 (fromLe bs)))) NoValue (λ e. none) (λ e. tt)
+    slot-range T.Time = of-time (timeOf (toZ w64 (fromLe bs)))
+    slot-range (T.Bit m) = h
+    slot-range T.Timestamp = by-cond (OfRange P) (isTimestamp (toZ w64 (fromLe bs))) (Value (D.Timestamp (toZ w64 (fromLe bs)))) NoValue (λ e. none) (λ e. tt)
+
+pub slot-within : (n start : ℕ) (bs : List ℕ) → start + length bs ≤ n → (t : DataType) → OfRange (λ r. r .start + r .length ≤ n) (readSlot t start bs)
+slot-within n start bs h t = slot-range (λ r. r .start + r .length ≤ n) (omega arith) start bs h t

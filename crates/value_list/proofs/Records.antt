@@ -234,19 +234,22 @@ record-short (D.Time x) = omega arith
 record-short (D.Bit x) = omega arith
 record-short (D.Timestamp x) = omega arith
 
--- a range inside 65,535 bytes is narrow
+-- a value whose range is narrow; so is one inside 65,535 bytes
+pub range-narrow : (v : DataValue) → NarrowRange (textRange v) → Narrow v
+range-narrow D.Null h = tt
+range-narrow (D.SmallInt x) h = tt
+range-narrow (D.Int x) h = tt
+range-narrow (D.BigInt x) h = tt
+range-narrow (D.Real x) h = tt
+range-narrow (D.DoublePrecision x) h = tt
+range-narrow (D.Numeric x) h = tt
+range-narrow (D.Bool x) h = tt
+range-narrow (D.Char x) h = h
+range-narrow (D.Varchar x) h = h
+range-narrow (D.Date x) h = tt
+range-narrow (D.Time x) h = tt
+range-narrow (D.Bit x) h = h
+range-narrow (D.Timestamp x) h = tt
+
 pub inside-narrow : (v : DataValue) → textRange v .start + textRange v .length ≤ 65535 → Narrow v
-inside-narrow D.Null h = tt
-inside-narrow (D.SmallInt x) h = tt
-inside-narrow (D.Int x) h = tt
-inside-narrow (D.BigInt x) h = tt
-inside-narrow (D.Real x) h = tt
-inside-narrow (D.DoublePrecision x) h = tt
-inside-narrow (D.Numeric x) h = tt
-inside-narrow (D.Bool x) h = tt
-inside-narrow (D.Char x) h = record { start = omega arith; size = omega arith }
-inside-narrow (D.Varchar x) h = record { start = omega arith; size = omega arith }
-inside-narrow (D.Date x) h = tt
-inside-narrow (D.Time x) h = tt
-inside-narrow (D.Bit x) h = record { start = omega arith; size = omega arith }
-inside-narrow (D.Timestamp x) h = tt
+inside-narrow v h = range-narrow v (record { start = omega arith; size = omega arith })

@@ -1,5 +1,5 @@
--- A value read from a slot stands in its row, as `same_content` requires, and a float has a pattern of its format.
-use Prim.Native.Nat.{ℕ, _+_, _*_, _≤_, _<_}
+-- A value read from a slot stands in its row, as `same_content` requires, and its numbers lie in their widths.
+use Prim.Native.Nat.{ℕ, _+_, _*_, _/_, _%_, _^_, _≤_, _<_}
 use mathlib.Core.Path.{_≡_, refl, sym, ap, _∙_, subst}
 use mathlib.Core.Bool.{Bool, true, false, cond, false≢true}
 use mathlib.Core.List.{List}
@@ -7,10 +7,11 @@ use native.Mathlib.Omega.{arith}
 use lib.Dec.{eqb, leb, ltb}
 use lib.IntN.{ℤ}
 use lib.Ieee.{Format, binary32, binary64, top}
-use lib.ListN.{length, getD}
+use lib.ListN.{length, getD, take, drop}
 use lib.Seq.{take-all}
 use mir.Syntax.{w16, w32, w64}
 use mir.Val.{toZ}
+use mir.ValLaws.{toZ-fits}
 use borrow.Author.Tests.{le-leb, eq-eqb}
 use Rattle.laws.specs.Bytes.{fromLe}
 use Rattle.laws.proofs.Bytes.{AllBytes, from-part}
@@ -23,9 +24,10 @@ use Rattle.numeric.specs.declared.Decoded.{Decoded}
 use Rattle.numeric.specs.declared.Decoded.the-variants as Bcd
 use Rattle.numeric.specs.Decimal.{halves}
 use Rattle.numeric.specs.Packed.{decodeBcd}
+use Rattle.numeric.proofs.Bounds.{by-number}
 use Rattle.datatype.specs.declared.DataType.{DataType}
 use Rattle.datatype.specs.declared.DataType.the-variants as T
-use Rattle.datatype.specs.Types.{sizeOf, isVarlen, lengthOf}
+use Rattle.datatype.specs.Types.{sizeOf, isVarlen, precisionOf, lengthOf}
 use Rattle.value.specs.declared.NumericValue.{NumericValue}
 use Rattle.value.specs.declared.DataValue.{DataValue}
 use Rattle.value.specs.declared.DataValue.the-variants as D
@@ -34,6 +36,7 @@ use Rattle.stored_form.specs.declared.SlotRead.{SlotRead}
 use Rattle.stored_form.specs.declared.SlotRead.the-variants.{Value, NoValue}
 use Rattle.stored_form.specs.Number.{numberOf}
 use Rattle.stored_form.specs.Read.{valueIf, twosComplement, decoded, timed, whole, readSlot}
+use Rattle.stored_form.proofs.Numbers.{number-fits}
 use Rattle.value_same.specs.Same.{wordOf, standsIn}
 use Rattle.value_same.proofs.Widths.{kindFor, UpperFits, InWidth}
 
@@ -147,7 +150,37 @@ module _ (start : ℕ) (bs : List ℕ) (a : AllBytes bs) where
   slot-pattern T.Timestamp l =
       if-holds Pattern (isTimestamp (toZ w64 (fromLe bs))) (D.Timestamp (toZ w64 (fromLe bs))) (plain (D.Timestamp (toZ w64 (fromLe bs))) refl refl)
 
-  -- only the upper half of a Numeric is left to its reader
+  -- only the upper half of a Numeric is left
   pub read-width : (t : DataType) (v : DataValue) → (isVarlen t ≡ false → length bs ≡ sizeOf t) → readSlot t start bs ≡ Value v → UpperFits v → InWidth v
   unfolding Pattern
   read-width t v l e u = record { pattern = read-holds Pattern (readSlot t start bs) v (slot-pattern t l) e; upper = u }
+
+  -- ---- the upper half of a Numeric
+
+  upper-holds : (p s : ℕ) → p ≤ 38 → Holds UpperFits (decoded s bs (decodeBcd p bs))
+  unfolding Holds
+  upper-holds p s h =
+      by-number (λ d. Holds UpperFits (decoded s bs d)) p bs h
+      (if-holds UpperFits (eqb (length bs) 17) (D.Numeric (twosComplement bs)) (toZ-fits w64 (fromLe (take 8 (drop 8 bs))) (record { fits = from-part 8 8 bs a })))
+      (λ negative x l. let whole : halves (x / 2 ^ 64) (x % 2 ^ 64) ≡ x = omega arith in rw whole (number-fits negative x s l))
+
+  slot-upper : (t : DataType) → precisionOf t ≤ 38 → Holds UpperFits (readSlot t start bs)
+  unfolding Holds
+  slot-upper T.SmallInt h = tt
+  slot-upper T.Int h = tt
+  slot-upper T.BigInt h = tt
+  slot-upper T.Real h = tt
+  slot-upper T.DoublePrecision h = tt
+  slot-upper (T.Numeric p s) h = upper-holds p s h
+  slot-upper (T.Decimal p s) h = upper-holds p s h
+  slot-upper T.Bool h = tt
+  slot-upper (T.Char n) h = if-holds UpperFits (isText bs) (D.Char (whole start bs)) tt
+  slot-upper (T.Character n) h = if-holds UpperFits (isText bs) (D.Char (whole start bs)) tt
+  slot-upper (T.Varchar n) h = short-holds UpperFits (ltb n (length bs)) (valueIf (isText bs) (D.Varchar (whole start bs))) (if-holds UpperFits (isText bs) (D.Varchar (whole start bs)) tt)
+  slot-upper T.Date h = if-holds UpperFits (isDate (toZ w32 (fromLe bs))) (D.Date (toZ w32 (fromLe bs))) tt
+  slot-upper T.Time h = time-holds UpperFits (timeOf (toZ w64 (fromLe bs))) (λ z. tt)
+  slot-upper (T.Bit n) h = tt
+  slot-upper T.Timestamp h = if-holds UpperFits (isTimestamp (toZ w64 (fromLe bs))) (D.Timestamp (toZ w64 (fromLe bs))) tt
+
+  pub read-upper : (t : DataType) (v : DataValue) → precisionOf t ≤ 38 → readSlot t start bs ≡ Value v → UpperFits v
+  read-upper t v h e = read-holds UpperFits (readSlot t start bs) v (slot-upper t h) e

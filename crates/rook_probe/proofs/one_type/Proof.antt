@@ -1,4 +1,4 @@
-use Rattle.rook_probe.proofs.Single.{type-precise}
+use Rattle.datatype.proofs.Records.{few-digits}
 use Rattle.laws.proofs.Tests.{by-tests}
 use mathlib.Core.Path.{sym, _∙_}
 use denote.Ref.{now}
@@ -18,7 +18,7 @@ enum-known-t c = search needs
 returns-2 : tie.Need-returns-2
 returns-2 c =
     let e = sym (c .before .before .before .before .record-at .ensures) ∙ c .before .before .t .given .1 in
-    (rw e (search by-tests depth 9), type-precise (now (c .before .before .before .before .before .before .before .args .schema)) 0 e)
+    (rw e (search by-tests depth 9), few-digits (now (c .before .before .before .before .before .before .before .args .schema)) 0 e)
 
 enum-known-r : tie.Need-enum-known-r
 enum-known-r c = search needs

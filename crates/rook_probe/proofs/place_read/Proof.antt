@@ -1,5 +1,6 @@
 use native.Mathlib.Nat.{zero-add}
-use Rattle.rook_probe.proofs.Single.{record-most, read-narrow, slot-size}
+use Rattle.rook_probe.proofs.Single.{read-narrow, slot-size}
+use Rattle.value_list.proofs.Records.{record-short}
 use Rattle.laws.proofs.Tests.{by-tests}
 use native.Mathlib.Omega.{arith}
 use mathlib.Core.Path.{sym, _∙_}
@@ -24,7 +25,7 @@ write-value-record-requires : tie.Need-write-value-record-requires
 write-value-record-requires c κs =
     let a = c .before .before .before .before .before .before .before .before .args in
     let p = c .before .before .before .before .before .before .before .before .pre .1 .1 in
-    let m = record-most (c .before .before .v .given .0 .0) in
+    let m = record-short (c .before .before .v .given .0 .0) in
     (omega (arith, c .before .before .before .before .before .if1 .left), read-narrow (a .start) (now (a .bytes)) (p .0) (p .1) (a .ty) (sym (c .before .before .before .before .from-bytes .ensures) ∙ c .before .before .v .given .1))
 
 enum-told : tie.Need-enum-told

@@ -15,12 +15,12 @@ refused-requires c κs = search needs
 returns : tie.Need-returns
 returns c =
     let a = c .before .before .before .before .before .args in
-    rw (c .refused .ensures, form-length (a .ty) (a .value) (now (a .area)) (c .before .before .before .before .before .pre .1), ← c .before .before .form-length .ensures) (search by-tests depth 4)
+    rw (c .refused .ensures, form-length (a .ty) (a .value) (now (a .area)) (c .before .before .before .before .before .pre .1 .0) (c .before .before .before .before .before .pre .1 .1), ← c .before .before .form-length .ensures) (search by-tests depth 4)
 
 to-bytes-for-type-requires : tie.Need-to-bytes-for-type-requires
 to-bytes-for-type-requires c κs =
     let a = c .before .before .before .before .before .args in
-    (c .before .before .before .before .before .pre .0, (c .before .before .before .before .before .pre .1, rw (form-length (a .ty) (a .value) (now (a .area)) (c .before .before .before .before .before .pre .1), ← c .before .before .form-length .ensures) (omega (arith, c .before .if1 .left))))
+    (c .before .before .before .before .before .pre .0, (c .before .before .before .before .before .pre .1 .1, rw (form-length (a .ty) (a .value) (now (a .area)) (c .before .before .before .before .before .pre .1 .0) (c .before .before .before .before .before .pre .1 .1), ← c .before .before .form-length .ensures) (omega (arith, c .before .if1 .left))))
 
 same-length : tie.Need-same-length
 same-length c = search needs
@@ -28,7 +28,7 @@ same-length c = search needs
 returns-2 : tie.Need-returns-2
 returns-2 c =
     let a = c .before .before .before .before .before .before .before .before .args in
-    rw (c .before .before .to-bytes-for-type .ensures, form-length (a .ty) (a .value) (now (a .area)) (c .before .before .before .before .before .before .before .before .pre .1), ← c .before .before .before .before .before .form-length .ensures) (search by-tests depth 4)
+    rw (c .before .before .to-bytes-for-type .ensures, form-length (a .ty) (a .value) (now (a .area)) (c .before .before .before .before .before .before .before .before .pre .1 .0) (c .before .before .before .before .before .before .before .before .pre .1 .1), ← c .before .before .before .before .before .form-length .ensures) (search by-tests depth 4)
 
 pub place-value-spec : {M : Type 1} → statement M
 place-value-spec =

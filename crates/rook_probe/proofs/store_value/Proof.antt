@@ -10,7 +10,7 @@ suits-requires : tie.Need-suits-requires
 suits-requires c κs = search needs
 
 place-value-requires : tie.Need-place-value-requires
-place-value-requires c κs = (c .before .before .before .before .before .before .before .pre, sym (c .before .before .suits .ensures) ∙ c .before .if2 .taken)
+place-value-requires c κs = (c .before .before .before .before .before .before .before .pre, (sym (c .before .before .before .before .data-value-matches-type .ensures) ∙ c .before .before .before .if1 .taken, sym (c .before .before .suits .ensures) ∙ c .before .if2 .taken))
 
 same-length : tie.Need-same-length
 same-length c = search needs

@@ -1,0 +1,3 @@
+pub mod Stand
+pub mod Compared
+pub mod Comparing

@@ -1,0 +1,54 @@
+use borrow.Author.Needs.{needs}
+use Rattle.row_text.proofs.text_in_row.Statement.{statement}
+use Rattle.row_text.proofs.text_in_row.Tie as tie
+use denote.Ref.{now}
+use mathlib.Core.Path.{sym, _∙_}
+use Rattle.row_format.specs.Places.{rowLimit}
+use Rattle.datatype.specs.Check.{typeAt, layoutBefore, typesIn}
+use Rattle.row_column.specs.Column.{columnValue}
+use Rattle.row_column.proofs.Framing.{framed, frame-refused, frame-good}
+use Rattle.row_column.proofs.Reach.{reach}
+use Rattle.row_text.specs.declared.ColumnText.the-variants.{Refused}
+use Rattle.row_text.specs.Text.{textRead}
+
+check-frame-requires : tie.Need-check-frame-requires
+check-frame-requires c κs = c .before .before .pre .0 .bounded
+
+enum-known-e : tie.Need-enum-known-e
+enum-known-e c = search needs
+
+enum-known-packed : tie.Need-enum-known-packed
+enum-known-packed c = search needs
+
+read-column-requires : tie.Need-read-column-requires
+read-column-requires c κs =
+    let f = c .before .before .before .before .before .before .pre .1 .1 in
+    reach (framed (c .before .before .before .before .before .before .pre .0) (sym (c .before .before .before .check-frame .ensures) ∙ c .before .packed .given .1)) _ _ (c .before .before .before .before .before .before .args .column) (c .before .before .before .before .before .before .pre .1 .0) (f .layout) (f .type-is) (f .bounded) (f .digits)
+
+text-read-requires : tie.Need-text-read-requires
+text-read-requires c κs = search needs
+
+returns : tie.Need-returns
+returns c =
+    let a = c .before .before .before .before .before .before .args in
+    let ts = typesIn (now (a .schema)) in
+    (frame-refused rowLimit (now (a .row)) (c .before .before .before .before .before .before .pre .0 .layout) Refused (λ l p. textRead (columnValue l p (layoutBefore ts (a .column)) (typeAt ts (a .column)) (now (a .row)))) (sym (c .before .before .before .check-frame .ensures) ∙ c .before .e .given .1), tt)
+
+returns-2 : tie.Need-returns-2
+returns-2 c =
+    let a = c .before .before .before .before .before .before .before .before .args in
+    let f = c .before .before .before .before .before .before .before .before .pre .1 .1 in
+    let ts = typesIn (now (a .schema)) in
+    (c .text-read .ensures .0 ∙ rw (c .before .read-column .ensures .0, f .layout, f .type-is) (frame-good rowLimit (now (a .row)) (c .before .before .before .before .before .before .before .before .pre .0 .layout) Refused (λ l p. textRead (columnValue l p (layoutBefore ts (a .column)) (typeAt ts (a .column)) (now (a .row)))) (sym (c .before .before .before .before .before .check-frame .ensures) ∙ c .before .before .before .packed .given .1)), c .text-read .ensures .1)
+
+pub text-in-row-spec : {M : Type 1} → statement M
+text-in-row-spec =
+    tie.close
+    (tie.spec
+    check-frame-requires
+    enum-known-e
+    enum-known-packed
+    read-column-requires
+    text-read-requires
+    returns
+    returns-2)

@@ -1,0 +1,48 @@
+-- 01, "A further call (added) answers with a column's text".
+use Prim.Native.Nat.{ℕ, _+_, _≤_}
+use mathlib.Core.Bool.{Bool, true, cond}
+use mathlib.Core.List.{List, []}
+use lib.Dec.{eqb, leb}
+use lib.ListN.{length}
+use Rattle.error.specs.declared.Refusal.the-variants.{NoSuchColumn, WrongKind}
+use Rattle.datatype.specs.declared.DataType.{DataType}
+use Rattle.datatype.specs.Schema.{schemaOf}
+use Rattle.datatype.specs.Check.{onSchema, typeAt, layoutFor, layoutBefore}
+use Rattle.value.specs.Kinds.{valueKind}
+use Rattle.value.specs.Ranges.{rangeOf, part}
+use Rattle.row_column.specs.declared.ColumnRead.{ColumnRead}
+use Rattle.row_column.specs.declared.ColumnRead.the-variants as Column
+use Rattle.row_column.specs.Frame.{frameOf, onFrame}
+use Rattle.row_column.specs.Column.{columnValue}
+use Rattle.row_text.specs.declared.ColumnText.{ColumnText}
+use Rattle.row_text.specs.declared.ColumnText.the-variants.{Part, Refused}
+
+-- "Char, Character or Varchar"
+abbrev pub holdsText : DataType → Bool
+holdsText t = cond (eqb (valueKind t) 8) true (eqb (valueKind t) 9)
+
+-- the range of a column that was read; a null's is empty and stands at 0
+abbrev pub textRead : ColumnRead → ColumnText
+textRead (Column.Value v) = Part (rangeOf v)
+textRead (Column.Refused e) = Refused e
+
+-- "It refuses as a read of that column"
+abbrev pub textInRow : ℕ → List DataType → List ℕ → ℕ → ColumnText
+textInRow limit ts r i = onFrame (frameOf limit (layoutFor ts) r) Refused (λ p. textRead (columnValue (layoutFor ts) p (layoutBefore ts i) (typeAt ts i) r))
+
+-- "9 and 11 (not Char, Character or Varchar) come after 2"
+abbrev pub textOfColumn : ℕ → List DataType → List ℕ → ℕ → ColumnText
+textOfColumn limit ts r i = cond (leb (length ts) i) (Refused NoSuchColumn) (cond (holdsText (typeAt ts i)) (textInRow limit ts r i) (Refused (WrongKind i)))
+
+abbrev pub textCall : ℕ → ℕ → List ℕ → List ℕ → ℕ → ColumnText
+textCall w limit schema r i = onSchema (schemaOf w limit schema) Refused (λ ts. textOfColumn limit ts r i)
+
+-- "handed out as a part of the row"; "A null or a refusal gives the empty part"
+abbrev pub textPart : List ℕ → ColumnText → List ℕ
+textPart r (Part x) = part r x
+textPart r (Refused e) = []
+
+-- for the proofs: a text lies in the row
+abbrev pub PartIn : ℕ → ColumnText → Type 0
+PartIn n (Part x) = x .start + x .length ≤ n
+PartIn n (Refused e) = Unit {0}
