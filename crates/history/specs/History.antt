@@ -1,0 +1,110 @@
+-- Demand 3, and 01, "Histories of edits": lists of set and set null calls, refused ones included, from a fresh row of a schema.
+use Prim.Native.Nat.{ℕ, _+_}
+use mathlib.Core.List.{List, [], _∷_, _++_}
+use mathlib.Core.Option.{Option, none, some}
+use lib.ListN.{length, getD, set, take}
+use Rattle.error.specs.declared.Answer.{Answer}
+use Rattle.error.specs.declared.Answer.the-variants.{Done, Refused}
+use Rattle.error.specs.Answer.{Outcome}
+use Rattle.row_format.specs.Table.{Cell}
+use Rattle.datatype.specs.declared.DataType.{DataType}
+use Rattle.value.specs.declared.DataValue.{DataValue}
+use Rattle.value.specs.declared.DataValue.the-variants as D
+use Rattle.value.specs.Ranges.{textOf}
+use Rattle.value_list.specs.Lists.{Values, values, refused, valuesOf}
+use Rattle.stored_form.specs.Write.{storedForm}
+use Rattle.row_edit.specs.Edit.{setCall, setNullCall}
+
+-- ---- the calls
+
+-- a set has "column, value list, text area"
+pub data Call : Type 0 where
+  setValue : ℕ → List ℕ → List ℕ → Call
+  setNull : ℕ → Call
+
+-- the buffer, and "the row length last handed back, by fresh or an accepted call"
+pub record State : Type 0 where
+  pub buf : List ℕ
+  pub row-length : ℕ
+
+-- "The row is the buffer's first bytes up to that length."
+abbrev pub rowOf : State → List ℕ
+rowOf s = take (s .row-length) (s .buf)
+
+abbrev pub called : ℕ → ℕ → List ℕ → Call → State → Outcome
+called w limit schema (setValue i list area) s = setCall w limit schema (s .buf) (s .row-length) i list area
+called w limit schema (setNull i) s = setNullCall w limit schema (s .buf) (s .row-length) i
+
+-- "accepted means answered 0"
+abbrev pub handedBack : Answer → ℕ → ℕ
+handedBack (Done m) n = m
+handedBack (Refused e) n = n
+
+-- "each call gets the row and the length that the one before left"
+abbrev pub next : Outcome → State → State
+next o s = record { buf = o .1; row-length = handedBack (o .0) (s .row-length) }
+
+-- ---- the sheet: "one entry a column", null or "its value, with the bytes of its text range"
+
+abbrev pub Entry : Type 0
+Entry = Option (DataValue × List ℕ)
+
+abbrev pub oneValue : Values → DataValue
+oneValue (values vs) = getD vs 0 D.Null
+oneValue (refused e) = D.Null
+
+-- "fed .. each call's column, value list, text area and answer, never the row"
+abbrev pub noted : Answer → Call → List Entry → List Entry
+noted (Refused e) c sheet = sheet
+noted (Done m) (setValue i list area) sheet = set sheet i (some (oneValue (valuesOf list), textOf area (oneValue (valuesOf list))))
+noted (Done m) (setNull i) sheet = set sheet i none
+
+-- ---- a whole history: what it leaves of buffer and length, and on the sheet
+
+abbrev pub run : ℕ → ℕ → List ℕ → List Call → State → State
+run w limit schema [] s = s
+run w limit schema (c ∷ cs) s = run w limit schema cs (next (called w limit schema c s) s)
+
+abbrev pub sheetAfter : ℕ → ℕ → List ℕ → List Call → State → List Entry → List Entry
+sheetAfter w limit schema [] s sheet = sheet
+sheetAfter w limit schema (c ∷ cs) s sheet = sheetAfter w limit schema cs (next (called w limit schema c s) s) (noted (called w limit schema c s .0) c sheet)
+
+-- ---- "the last accepted values": "the entries by rising column as one value list, the texts end to end in that order in one text area, each range rewritten to match"
+
+abbrev pub texts : List Entry → List ℕ
+texts [] = []
+texts (none ∷ es) = texts es
+texts (some (v, x) ∷ es) = x ++ texts es
+
+-- v with its text of n bytes at `at`
+abbrev pub moved : ℕ → ℕ → DataValue → DataValue
+moved at n D.Null = D.Null
+moved at n (D.SmallInt z) = D.SmallInt z
+moved at n (D.Int z) = D.Int z
+moved at n (D.BigInt z) = D.BigInt z
+moved at n (D.Real b) = D.Real b
+moved at n (D.DoublePrecision b) = D.DoublePrecision b
+moved at n (D.Numeric m) = D.Numeric m
+moved at n (D.Bool b) = D.Bool b
+moved at n (D.Char r) = D.Char (record { start = at; length = n })
+moved at n (D.Varchar r) = D.Varchar (record { start = at; length = n })
+moved at n (D.Date z) = D.Date z
+moved at n (D.Time z) = D.Time z
+moved at n (D.Bit r) = D.Bit (record { start = at; length = n })
+moved at n (D.Timestamp z) = D.Timestamp z
+
+abbrev pub lastValues : ℕ → List Entry → List DataValue
+lastValues at [] = []
+lastValues at (none ∷ es) = D.Null ∷ lastValues at es
+lastValues at (some (v, x) ∷ es) = moved at (length x) v ∷ lastValues (at + length x) es
+
+-- ---- "the same stored form, or null, in every column"
+
+abbrev pub entryCell : DataType → Entry → Cell
+entryCell t none = none
+entryCell t (some (v, x)) = some (storedForm t v x)
+
+abbrev pub sheetCells : List DataType → List Entry → List Cell
+sheetCells [] es = []
+sheetCells (t ∷ ts) [] = []
+sheetCells (t ∷ ts) (e ∷ es) = entryCell t e ∷ sheetCells ts es

@@ -1,0 +1,1 @@
+// The theorems about histories of edits; there is no code here.

@@ -1,0 +1,3 @@
+pub mod Stored
+pub mod Build
+pub mod Steps
