@@ -10,8 +10,10 @@ demo: target/staticlib/librook_row.a
 	target/demo
 
 # Time of each call, against the Rust.
-bench: target/staticlib/librook_row.a
+bench: target/staticlib/librook_row.a target/staticlib/librook_probe.a
 	cargo run --release --offline --quiet --manifest-path native/Cargo.toml --bin bench_text
+	oracle/prepare
+	cd oracle && cargo run --release --offline --quiet --bin bench_read
 
 # The comparison with the Rust for longer: make differential SECONDS=600 SEED=7
 SECONDS = 300

@@ -64,7 +64,7 @@ ranks-ge : (ss : List Shape) (k : ℕ) → k ≤ through rankAfter k ss
 ranks-ge [] k = omega arith
 ranks-ge (s ∷ ss) k = omega (arith, rank-ge s k, ranks-ge ss (rankAfter s k))
 
-all-aligned : (ts : List DataType) → All (map shapeOf ts)
+pub all-aligned : (ts : List DataType) → All (map shapeOf ts)
 all-aligned [] = none
 all-aligned (t ∷ ts) = more (aligned t) (all-aligned ts)
 

@@ -8,3 +8,5 @@ pub mod Bits
 pub mod Table
 pub mod Same
 pub mod Maps
+pub mod Lent
+pub mod Entries

@@ -1,6 +1,7 @@
 // Runs the library on recorded inputs and compares with what the Rust answered there.
 // oracle/differential/src/recorded.rs describes the records on standard input, and writes them.
 use datatype::SchemaCheck;
+use error::Answer;
 use error::Flag;
 use libc::STDOUT_FILENO;
 ghost use Prim.Native.Nat.{_+_, _≤_};
@@ -18,6 +19,8 @@ const STORED: u8 = 4;
 
 const SLOT: u8 = 5;
 
+const READ: u8 = 6;
+
 const PLANTED: u8 = 128;
 
 // The answers to one call. Of the planted ones, which are wrong, `found` were told apart.
@@ -34,6 +37,7 @@ struct Tallies {
     layout: Tally,
     stored: Tally,
     slot: Tally,
+    read: Tally,
     unknown: u64,
     done: bool,
 }
@@ -117,12 +121,14 @@ fn same_null_flag(row: &[u8], column: &[u8], answer: &[u8]) -> bool {
     }
 }
 
-// The variant of the Rust's error that a number stands for: 1 Internal, 2 TypeMismatch, 255 none.
+// What the Rust does where a number is answered: 1 Internal, 2 TypeMismatch, 3 a panic, 255 none of these.
 fn variant(number: u32) -> u8 {
     if number == 3 || number == 5 || number == 6 || number == 9 || number == 11 {
         1
     } else if number == 8 || number == 12 {
         2
+    } else if number == 7 {
+        3
     } else {
         255
     }
@@ -177,6 +183,42 @@ fn same_slot(schema: &[u8], bytes: &[u8], start: &[u8], answer: &[u8]) -> bool {
     same_handed(r.number, r.length, &out, answer)
 }
 
+fn put(list: &mut [u16], k: usize, number: u16) {
+    if k < list.len() {
+        list[k] = number;
+    }
+}
+
+// The numbers of a field, two bytes each, in a list as far as it reaches: how many there are.
+fn numbers(field: &[u8], list: &mut [u16]) -> usize {
+    let mut at = 0;
+    let mut k = 0;
+    while field.len() - at >= 2 {
+        put(list, k, endian::read_u16(field, at));
+        at += 2;
+        k += 1;
+    }
+    k
+}
+
+// The first n of a list are the wanted columns.
+fn same_columns(schema: &[u8], row: &[u8], list: &[u16], n: usize, answer: &[u8]) -> bool {
+    if list.len() < n {
+        return false;
+    }
+    let mut out = [0; 2048];
+    match row_decode::decode(schema, row, &list[0..n], &mut out) {
+        Answer::Done(m) => same_handed(0, m, &out, answer),
+        Answer::Refused(e) => same_handed(e.number(), 0, &out, answer),
+    }
+}
+
+fn same_read(schema: &[u8], row: &[u8], wanted: &[u8], answer: &[u8]) -> bool {
+    let mut list = [0; 64];
+    let n = numbers(wanted, &mut list);
+    same_columns(schema, row, &list, n, answer)
+}
+
 // A record's kind is its first byte, then come its fields. An empty one fills a block up.
 fn run(tallies: Tallies, record: &[u8]) -> Tallies {
     let mut next = tallies;
@@ -186,26 +228,26 @@ fn run(tallies: Tallies, record: &[u8]) -> Tallies {
     let planted = record[0] >= PLANTED;
     let kind = record[0] % PLANTED;
     let fields = &record[1..];
-    let input = field(fields);
     let more = after(fields);
-    let answer = field(more);
+    let rest = after(more);
+    let a = field(fields);
+    let b = field(more);
+    let c = field(rest);
+    let d = field(after(rest));
     if kind == NOTE {
-        say(input);
+        say(a);
     } else if kind == TEXT {
-        next.text = counted(next.text, same_text(input, answer), planted);
+        next.text = counted(next.text, same_text(a, b), planted);
     } else if kind == NULL_FLAG {
-        let same = same_null_flag(input, answer, field(after(more)));
-        next.null_flag = counted(next.null_flag, same, planted);
+        next.null_flag = counted(next.null_flag, same_null_flag(a, b, c), planted);
     } else if kind == LAYOUT {
-        next.layout = counted(next.layout, same_layout(input, answer), planted);
+        next.layout = counted(next.layout, same_layout(a, b), planted);
     } else if kind == STORED {
-        let rest = after(more);
-        let same = same_stored(input, answer, field(rest), field(after(rest)));
-        next.stored = counted(next.stored, same, planted);
+        next.stored = counted(next.stored, same_stored(a, b, c, d), planted);
     } else if kind == SLOT {
-        let rest = after(more);
-        let same = same_slot(input, answer, field(rest), field(after(rest)));
-        next.slot = counted(next.slot, same, planted);
+        next.slot = counted(next.slot, same_slot(a, b, c, d), planted);
+    } else if kind == READ {
+        next.read = counted(next.read, same_read(a, b, c, d), planted);
     } else {
         next.unknown = one_more(next.unknown);
     }
@@ -255,6 +297,7 @@ fn run_all(buffer: &mut [u8]) -> Tallies {
         layout: no_tally(),
         stored: no_tally(),
         slot: no_tally(),
+        read: no_tally(),
         unknown: 0,
         done: false,
     };
@@ -274,6 +317,7 @@ fn main() {
     say_tally(b"schema and layout: ", tallies.layout);
     say_tally(b"value stored: ", tallies.stored);
     say_tally(b"slot read: ", tallies.slot);
+    say_tally(b"row read: ", tallies.read);
     say(b"records not understood: ");
     io::print_decimal(STDOUT_FILENO, tallies.unknown);
     say(b"\n");

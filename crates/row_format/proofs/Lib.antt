@@ -8,3 +8,4 @@ pub mod Fresh
 pub mod Build
 pub mod Zeroed
 pub mod Cells
+pub mod Rising

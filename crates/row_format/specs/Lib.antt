@@ -3,3 +3,4 @@ pub mod Table
 pub mod Row
 pub mod Edit
 pub mod Zeroed
+pub mod Rising

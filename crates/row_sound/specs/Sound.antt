@@ -4,6 +4,7 @@
 use Prim.Native.Nat.{ℕ}
 use mathlib.Core.Bool.{Bool, true, false, cond, not}
 use mathlib.Core.List.{List, [], _∷_}
+use mathlib.Core.Path.{_≡_}
 use lib.Dec.{eqb}
 use lib.ListN.{length, drop}
 use Rattle.laws.specs.Bits.{bitAt}
@@ -17,6 +18,7 @@ use Rattle.datatype.specs.Types.{isVarlen, shapeOf}
 use Rattle.datatype.specs.Check.{layoutFor}
 use Rattle.row_column.specs.declared.ColumnRead.{ColumnRead}
 use Rattle.row_column.specs.declared.ColumnRead.the-variants.{Value, Refused}
+use Rattle.row_column.specs.declared.Frame.the-variants.{Good}
 use Rattle.row_column.specs.Frame.{frameOf, onFrame}
 use Rattle.row_column.specs.Column.{columnValue}
 use Rattle.row_sound.specs.declared.Soundness.{Soundness}
@@ -64,3 +66,9 @@ soundIn l p ts r = cond (isSoundIn l p ts r) (Sound p) NotSound
 
 abbrev pub soundness : ℕ → List DataType → List ℕ → Soundness
 soundness limit ts r = onFrame (frameOf limit (layoutFor ts) r) (λ e. NotSound) (λ p. soundIn (layoutFor ts) p ts r)
+
+-- ---- for the proofs: a sound row, packed or padded as p says
+
+pub record SoundRow (limit : ℕ) (ts : List DataType) (p : Bool) (r : List ℕ) : Type 0 where
+  pub frame : frameOf limit (layoutFor ts) r ≡ Good p
+  pub sound : isSoundIn (layoutFor ts) p ts r ≡ true

@@ -9,18 +9,21 @@
 //!   refusal 10, and which values lie outside 01's domain;
 //! - `layout`: places in packed and padded rows;
 //! - `row`: the padded form of a row, soundness, null slots zeroed;
-//! - `history`: a history of edits and what the Rust makes of it.
+//! - `history`: a history of edits and what the Rust makes of it;
+//! - `expected`: what each call must answer, from what the Rust answers.
 //!
 //! What runs and what makes them:
 //! - `rust`: the Rust's calls, panics caught, errors by variant;
 //! - `rng`: the source of the choices;
-//! - `generate`: schemas, texts, values, value lists, rows and histories, good
-//!   and bad, each by a sort that the caller picks or at random.
+//! - `generate`: schemas, texts, values, value lists, rows, pairs of rows, wanted
+//!   columns and histories, good and bad, each by a sort that the caller picks
+//!   or at random.
 //!
 //! tests/ checks all of this against the Rust. It also holds the findings about
 //! the Rust (`findings.rs`) and 01's statements about it (`statements.rs`). No
 //! program is here: a comparison with the port is built on this library.
 
+pub mod expected;
 pub mod generate;
 pub mod history;
 pub mod layout;

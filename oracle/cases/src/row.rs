@@ -13,6 +13,10 @@ pub fn clear_null_bit(row: &mut [u8], column: usize) {
     row[BITMAP + column / 8] &= !(1 << (column % 8));
 }
 
+pub fn set_null_bit(row: &mut [u8], column: usize) {
+    row[BITMAP + column / 8] |= 1 << (column % 8);
+}
+
 /// The offset table's number of this rank.
 pub fn offset(row: &[u8], layout: &Layout, rank: usize) -> u16 {
     let at = layout.table + 2 * rank;

@@ -1,6 +1,6 @@
 //! The same seed gives the same inputs, another seed others.
 
-use cases::generate::{history, list, row, schema, text};
+use cases::generate::{history, list, pair, row, schema, text, wanted};
 use cases::rng::Rng;
 
 /// One of everything, many times, as text.
@@ -11,13 +11,14 @@ fn everything(seed: u64) -> String {
         let types = schema::any_types(&mut rng);
         let fault = rng.pick(&text::Fault::ALL);
         out += &format!(
-            "{:?}{:?}{:?}{:?}{:?}{:?}{:?}",
+            "{:?}{:?}{:?}{:?}{:?}{:?}{:?}{:?}",
             schema::any_schema(&mut rng),
             types,
             text::invalid(&mut rng, fault, 9),
             list::any_list(&mut rng, &types),
             row::any_row(&mut rng, &types),
-            row::wanted(&mut rng, types.len()),
+            wanted::any_wanted(&mut rng, types.len()),
+            pair::any_pair(&mut rng, &types),
             history::history(&mut rng, &types, 5),
         );
     }

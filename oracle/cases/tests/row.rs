@@ -4,8 +4,9 @@
 
 use cases::generate::Expected;
 use cases::generate::list::{Sort as ListSort, list};
-use cases::generate::row::{Sort, any_row, row, sound_row, wanted};
+use cases::generate::row::{Sort, any_row, row, sound_row};
 use cases::generate::schema::any_types;
+use cases::generate::wanted::{self, any_wanted, subsets};
 use cases::layout::{BITMAP, Layout, PACKED, Place, is_packed};
 use cases::rng::Rng;
 use cases::row::{is_sound, null_bit, offset, padded, zero_null_slots};
@@ -299,10 +300,12 @@ fn random_rows_are_of_every_sort() {
 fn wanted_columns() {
     let mut rng = Rng::new(5);
     let mut seen = BTreeSet::new();
-    for _ in 0..2000 {
+    let mut sorts = BTreeSet::new();
+    for _ in 0..8000 {
         let types = any_types(&mut rng);
         let row = sound_row(&mut rng, &types);
-        let wanted = wanted(&mut rng, types.len());
+        let (sort, wanted) = any_wanted(&mut rng, types.len());
+        sorts.insert(sort);
         let mut expected = rust::read_all(&types, &row).ok().unwrap();
         for (column, value) in expected.iter_mut().enumerate() {
             if !wanted.contains(&(column as u16)) {
@@ -324,4 +327,17 @@ fn wanted_columns() {
         seen.insert(("more than columns", wanted.len() > types.len()));
     }
     assert_eq!(seen.len(), 14, "{seen:?}");
+    assert_eq!(sorts.into_iter().collect::<Vec<_>>(), wanted::Sort::ALL);
+}
+
+#[test]
+fn every_subset_once() {
+    let lists: BTreeSet<Vec<u16>> = subsets(4).collect();
+    assert_eq!((lists.len(), subsets(4).count()), (16, 16));
+    assert!(
+        lists
+            .iter()
+            .all(|list| list.iter().all(|&column| column < 4))
+    );
+    assert_eq!(subsets(0).collect::<Vec<_>>(), [vec![]]);
 }

@@ -12,14 +12,18 @@
 //! | 3 | schema; answer: columns, Varchars, fixed bytes packed and padded (4 bytes each) |
 //! | 4 | schema of one column, value list, text area; answer: variant, stored form |
 //! | 5 | schema of one column, its bytes, their place (8 bytes); answer: variant, value record |
+//! | 6 | schema, row, wanted columns (2 bytes each); answer: variant, value list |
 //!
-//! A variant is 0 for `Ok`, 1 for `Internal`, 2 for `TypeMismatch`. 128 added to
-//! a kind says that the answer was changed by hand: a run must find it wrong.
+//! A variant is 0 for `Ok`, 1 for `Internal`, 2 for `TypeMismatch`, 3 for a panic.
+//! 128 added to a kind says that the answer was changed by hand: a run must find
+//! it wrong.
 
 use crate::compare::value::{self, Handed};
-use crate::compare::{layout, null_flag, text};
+use crate::compare::{layout, null_flag, rows, text};
 use cases::LIMIT;
+use cases::expected::{self, Refusal};
 use cases::generate::schema::any_schema;
+use cases::generate::wanted::any_wanted;
 use cases::rng::Rng;
 use cases::rust::{self, Outcome};
 use cases::schema::{read_schema, write_schema};
@@ -30,6 +34,7 @@ const NULL_FLAG: u8 = 2;
 const LAYOUT: u8 = 3;
 const STORED: u8 = 4;
 const SLOT: u8 = 5;
+const READ: u8 = 6;
 const PLANTED: u8 = 128;
 
 /// The seed that the file is made from.
@@ -39,6 +44,9 @@ const BLOCK: usize = 65_536;
 
 /// The longest input of a record, so that the file stays small.
 const LONGEST: usize = 1500;
+
+/// The most wanted columns of a record, which the program has room for.
+const MOST_WANTED: usize = 64;
 
 struct Record {
     kind: u8,
@@ -115,8 +123,9 @@ fn layout(rng: &mut Rng) -> Option<Record> {
 fn handed(kind: u8, inputs: Vec<Vec<u8>>, handed: Handed) -> Option<Record> {
     let answer = match handed {
         Ok(bytes) => [vec![0], bytes].concat(),
-        Err(11) => vec![1],
+        Err(5 | 11) => vec![1],
         Err(8 | 12) => vec![2],
+        Err(7) => vec![3],
         Err(_) => return None,
     };
     let length: usize = inputs.iter().map(Vec::len).sum();
@@ -147,18 +156,44 @@ fn slot_read(rng: &mut Rng) -> Option<Record> {
     handed(SLOT, vec![write_schema(&[ty]), bytes, place], answer)
 }
 
-/// So many records, and one with a wrong answer.
+/// What the Rust reads, where 01 says the same; 5 for each `Internal`.
+fn read_by_both(schema: &[u8], row: &[u8], wanted: &[u16]) -> Option<Handed> {
+    let types = rows::columns(schema).ok()?;
+    let expected = expected::read(&types, row, wanted);
+    match (expected, rust::read(&types, row, wanted)) {
+        (Ok(values), _) => Some(Ok(expected::list(&types, row, &values))),
+        (Err(Refusal::Internal), _) => Some(Err(5)),
+        (Err(Refusal::Number(8, _)), Outcome::TypeMismatch) => Some(Err(8)),
+        (Err(Refusal::Number(7, _)), Outcome::Panicked) => Some(Err(7)),
+        _ => None,
+    }
+}
+
+fn row_read(rng: &mut Rng) -> Option<Record> {
+    let given = rows::any_given(rng);
+    let (_, wanted) = any_wanted(rng, given.types.len());
+    if wanted.len() > MOST_WANTED || given.row.len() > LONGEST {
+        return None;
+    }
+    let answer = read_by_both(&given.schema, &given.row, &wanted)?;
+    let wanted = wanted.iter().flat_map(|n| n.to_le_bytes()).collect();
+    handed(READ, vec![given.schema, given.row, wanted], answer)
+}
+
+/// So many records, and before each hundred one with a wrong answer.
 fn samples(rng: &mut Rng, make: fn(&mut Rng) -> Option<Record>, count: usize, out: &mut Vec<u8>) {
-    for number in 0..=count {
-        let record = loop {
+    let next = |rng: &mut Rng| {
+        loop {
             if let Some(record) = make(rng) {
-                break record;
+                return record;
             }
-        };
-        match number {
-            0 => record.planted(rng).write(out),
-            _ => record.write(out),
         }
+    };
+    for number in 0..count {
+        if number % 100 == 0 {
+            next(rng).planted(rng).write(out);
+        }
+        next(rng).write(out);
     }
 }
 
@@ -180,5 +215,6 @@ pub fn file() -> Vec<u8> {
     samples(&mut rng, layout, 200, &mut out);
     samples(&mut rng, value_stored, 400, &mut out);
     samples(&mut rng, slot_read, 400, &mut out);
+    samples(&mut rng, row_read, 800, &mut out);
     out
 }

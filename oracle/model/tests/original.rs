@@ -8,19 +8,17 @@
 //! --test original -- --ignored --nocapture
 
 mod common;
-mod expected;
 
-use cases::LIMIT;
-use cases::generate::{Expected, history, list, row, schema, text};
+use cases::expected::{self, Refusal};
+use cases::generate::{Expected, history, list, pair, row, schema, text, wanted};
 use cases::history::{Answer, Call, replay};
 use cases::layout::Layout;
 use cases::rng::Rng;
 use cases::row::zero_null_slots;
 use cases::rust;
 use cases::schema::{read_schema, write_schema};
-use cases::value::{ValueList, is_value};
+use cases::value::ValueList;
 use common::{FILL, ROOM};
-use expected::Refusal;
 use model::RowAnswer;
 use rookdb::types::datatype::DataType;
 use rookdb::types::value::DataValue;
@@ -232,22 +230,10 @@ fn build(rng: &mut Rng) -> Result<Vec<u32>, String> {
     Ok(numbers)
 }
 
-/// Whether a value list of the model is these values of the Rust.
-fn is_list(list: &[u8], row: &[u8], values: &[Option<DataValue>]) -> bool {
-    let list = ValueList {
-        bytes: list.to_vec(),
-        text: row.to_vec(),
-    };
-    list.records(values.len()).is_ok_and(|records| {
-        let mut pairs = records.iter().zip(values);
-        pairs.all(|(record, value)| is_value(record, row, value.as_ref()))
-    })
-}
-
 fn read(rng: &mut Rng) -> Result<Vec<u32>, String> {
     let types = any_types(rng);
     let (sort, row) = row::any_row(rng, &types);
-    let wanted = row::wanted(rng, types.len());
+    let (_, wanted) = wanted::any_wanted(rng, types.len());
     read_of(&types, &row, &wanted, sort)
 }
 
@@ -289,9 +275,7 @@ fn read_of(
         )
     };
     match (result_of(answer, list), expected::read(types, row, wanted)) {
-        (Ok(list), Ok(values)) => same(is_list(&list, row, &values), true, || {
-            format!("{}\n  list {}\n  values {values:?}", input(), hex(&list))
-        })?,
+        (Ok(list), Ok(values)) => same(list, expected::list(types, row, &values), input)?,
         (model, wanted) => {
             let model = model.map(|_| ()).map_err(Refusal::of);
             same(model, wanted.map(|_| ()), input)?;
@@ -446,20 +430,16 @@ fn text_and_same(rng: &mut Rng) -> Result<Vec<u32>, String> {
     let column = row::any_column(rng, types.len());
     let answer = model::text(&bytes, &a, column);
     let input = || format!("{sort:?} {types:?}\n  row {}\n  column {column}", hex(&a));
-    let part = a.get(answer.start..answer.start + answer.length);
     let model = match answer.number {
-        0 => Ok(part.map(<[u8]>::to_vec)),
+        0 => Ok((answer.start, answer.length)),
         number => Err(Refusal::of((number, answer.place))),
     };
     let wanted = expected::text(&types, &a, column);
-    same(
-        model,
-        wanted.map(|text| Some(text.unwrap_or_default())),
-        input,
-    )?;
+    let wanted = wanted.map(|range| (range.start.into(), range.length.into()));
+    same(model, wanted, input)?;
     let mut numbers = vec![answer.number];
 
-    let b = similar(rng, &types, &a);
+    let (_, (a, b)) = pair::any_pair(rng, &types);
     let answer = model::same_content(&bytes, &a, &b);
     let model = match answer.number {
         0 => Ok(answer.flag == 1),
@@ -469,21 +449,4 @@ fn text_and_same(rng: &mut Rng) -> Result<Vec<u32>, String> {
     same(model, expected::same_content(&types, &a, &b), both)?;
     numbers.push(answer.number);
     Ok(numbers)
-}
-
-/// A row that often has the content of another.
-fn similar(rng: &mut Rng, types: &[DataType], a: &[u8]) -> Vec<u8> {
-    match rng.below(4) {
-        0 => a.to_vec(),
-        1 if cases::row::is_sound(types, a) && cases::layout::is_packed(a) => {
-            cases::row::padded(types, a, 0xFF).unwrap_or(a.to_vec())
-        }
-        2 if a.len() > 4 && a.len() <= LIMIT => {
-            let mut b = a.to_vec();
-            let at = rng.between(4, a.len() - 1);
-            b[at] ^= 1 << rng.below(8);
-            b
-        }
-        _ => row::any_row(rng, types).1,
-    }
 }

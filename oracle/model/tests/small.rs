@@ -2,13 +2,12 @@
 //! bitmap, every offset up to past the row's end, payloads of three bytes.
 
 mod common;
-mod expected;
 
+use cases::expected::{self, Refusal};
 use cases::history::Call;
 use cases::schema::write_schema;
-use cases::value::{Record, TextRange, ValueList, is_value};
+use cases::value::{Record, TextRange, ValueList};
 use common::{FILL, done, refused, with_output};
-use expected::Refusal;
 use rookdb::types::datatype::DataType;
 
 /// A letter and the two bytes of another.
@@ -59,14 +58,8 @@ fn reads(types: &[DataType], row: &[u8], wanted: &[u16]) {
     match expected::read(types, row, wanted) {
         Ok(values) => {
             assert_eq!(answer, done(list.len()), "{}", input());
-            let list = ValueList {
-                bytes: list,
-                text: row.to_vec(),
-            };
-            let records = list.records(types.len()).expect("a value list");
-            let mut pairs = records.iter().zip(&values);
-            let same = pairs.all(|(record, value)| is_value(record, row, value.as_ref()));
-            assert!(same, "{} {records:?} {values:?}", input());
+            let wanted = expected::list(types, row, &values);
+            assert_eq!(list, wanted, "{} {values:?}", input());
         }
         Err(refusal) => {
             let model = Refusal::of((answer.number, answer.place));

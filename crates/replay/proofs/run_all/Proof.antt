@@ -25,6 +25,9 @@ no-tally-requires-4 c κs = search needs
 no-tally-requires-5 : tie.Need-no-tally-requires-5 Inv-loop μ-loop
 no-tally-requires-5 c κs = search needs
 
+no-tally-requires-6 : tie.Need-no-tally-requires-6 Inv-loop μ-loop
+no-tally-requires-6 c κs = search needs
+
 loop-holds : tie.Need-loop-holds Inv-loop μ-loop
 loop-holds c = refl
 
@@ -63,6 +66,7 @@ run-all-spec =
     no-tally-requires-3
     no-tally-requires-4
     no-tally-requires-5
+    no-tally-requires-6
     loop-holds
     step-requires
     sub-turns

@@ -5,10 +5,12 @@ use crate::Refusal;
 
 pub mod history;
 pub mod list;
+pub mod pair;
 pub mod row;
 pub mod schema;
 pub mod text;
 pub mod value;
+pub mod wanted;
 
 /// What 01 says of an input, where the way it was made tells.
 #[derive(Debug, Clone, Copy, PartialEq, Eq)]

@@ -1,4 +1,4 @@
-//! Rows: built by the Rust, padded, and damaged in each way; wanted columns.
+//! Rows: built by the Rust, padded, and damaged in each way; column numbers.
 
 use super::list::{self, Sort as ListSort};
 use super::text::{self, Fault};
@@ -109,10 +109,13 @@ pub fn row(rng: &mut Rng, types: &[DataType], sort: Sort) -> Option<Vec<u8>> {
     }
 }
 
-/// A row of a sort at random.
+/// A row of a sort at random; long ones, which take long, less often.
 pub fn any_row(rng: &mut Rng, types: &[DataType]) -> (Sort, Vec<u8>) {
     loop {
         let sort = rng.pick(&Sort::ALL);
+        if matches!(sort, Sort::AtLimit | Sort::Above) && !rng.one_in(4) {
+            continue;
+        }
         if let Some(row) = row(rng, types, sort) {
             return (sort, row);
         }
@@ -463,23 +466,6 @@ fn random_body(rng: &mut Rng, types: &[DataType]) -> Vec<u8> {
     row.truncate(4);
     row.extend(rng.bytes(length - 4));
     row
-}
-
-/// Wanted columns, in any order, with repeats and unknown numbers.
-pub fn wanted(rng: &mut Rng, columns: usize) -> Vec<u16> {
-    let all = 0..columns as u16;
-    match rng.below(6) {
-        0 => all.collect(),
-        1 => all.rev().collect(),
-        2 => vec![],
-        3 => vec![rng.between(0, columns) as u16],
-        _ => {
-            let length = rng.pick(&[1, 2, 5, 30, 300]);
-            (0..length)
-                .map(|_| any_column(rng, columns) as u16)
-                .collect()
-        }
-    }
 }
 
 /// A column number, mostly one that there is.

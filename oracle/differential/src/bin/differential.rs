@@ -6,7 +6,8 @@
 //! The last runs one case alone, by the number that a difference was told with.
 
 use cases::rng::Rng;
-use differential::compare;
+use cases::rust;
+use differential::{Compared, compare};
 use std::collections::BTreeMap;
 use std::process::ExitCode;
 use std::time::{Duration, Instant};
@@ -48,19 +49,24 @@ fn options() -> Option<Options> {
     Some(options)
 }
 
+/// How many inputs of which sort of which call ran; no sort for all.
+type Counts = BTreeMap<(&'static str, Option<String>), u64>;
+
 /// Runs case `number`, counts it, and tells whether the two agreed.
-fn run(seed: u64, number: u64, counts: &mut BTreeMap<(&str, String), u64>) -> bool {
+fn run(seed: u64, number: u64, counts: &mut Counts) -> bool {
     let (call, compare) = compare::ALL[(number % compare::ALL.len() as u64) as usize];
     let mut rng = Rng::new(seed ^ number.wrapping_mul(0xD1B5_4A32_D192_ED03));
-    let compared = compare(&mut rng);
+    // A panic of a judge is told like a difference.
+    let compared = rust::guarded(|| compare(&mut rng))
+        .unwrap_or_else(|message| Compared::different("panicked", message));
     if let Some(difference) = &compared.difference {
-        println!(
-            "DIFFERENT: {call}, {}: --seed {seed} --case {number}",
-            compared.sort
-        );
+        println!("DIFFERENT: {call}: --seed {seed} --case {number}");
         println!("  {difference}");
     }
-    *counts.entry((call, compared.sort)).or_default() += 1;
+    *counts.entry((call, None)).or_default() += 1;
+    for (sort, count) in compared.sorts {
+        *counts.entry((call, Some(sort))).or_default() += count;
+    }
     compared.difference.is_none()
 }
 
@@ -69,7 +75,7 @@ fn main() -> ExitCode {
         eprintln!("{USAGE}");
         return ExitCode::from(2);
     };
-    let mut counts = BTreeMap::new();
+    let mut counts = Counts::new();
     if let Some(number) = options.case {
         return ExitCode::from(u8::from(!run(options.seed, number, &mut counts)));
     }
@@ -86,7 +92,10 @@ fn main() -> ExitCode {
         done += 1;
     }
     for ((call, sort), count) in &counts {
-        println!("{count:>10}  {call}: {sort}");
+        match sort {
+            Some(sort) => println!("{count:>10}  {call}: {sort}"),
+            None => println!("{count:>10}  {call}"),
+        }
     }
     println!(
         "{done:>10}  comparisons with seed {}, {different} different",

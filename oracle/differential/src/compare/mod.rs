@@ -2,15 +2,23 @@
 
 use crate::Comparison;
 
+pub mod column_text;
 pub mod layout;
 pub mod null_flag;
+pub mod read;
+pub mod rows;
+pub mod same_content;
 pub mod text;
 pub mod value;
 
-pub const ALL: [Comparison; 5] = [
+pub const ALL: [Comparison; 9] = [
     ("text", text::compare),
     ("schema and layout", layout::compare),
     ("null flag", null_flag::compare),
     ("value stored", value::store),
     ("slot read", value::slot),
+    ("read", read::compare),
+    ("read of every subset", read::every_subset),
+    ("column text", column_text::compare),
+    ("same content", same_content::compare),
 ];

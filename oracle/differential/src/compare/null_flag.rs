@@ -1,11 +1,13 @@
-//! The null flag against `is_column_null_in_row`.
+//! The null flag against `is_column_null_in_row`; the model judges number, place
+//! and flag.
 
-use crate::{Compared, hex, outcome_of};
-use cases::LIMIT;
+use super::rows::{any_types, apart, counted, judge};
+use crate::lent::{asked, told};
+use crate::{Compared, hex, port};
+use cases::expected::{self, Refusal};
 use cases::generate::row::{Sort, any_row};
-use cases::generate::schema::any_types;
 use cases::rng::Rng;
-use cases::rust::{self, Outcome};
+use cases::rust;
 
 /// A row of any sort, and a column at or near it or far off.
 pub fn input(rng: &mut Rng) -> (Sort, Vec<u8>, usize) {
@@ -19,24 +21,24 @@ pub fn input(rng: &mut Rng) -> (Sort, Vec<u8>, usize) {
     (sort, row, column)
 }
 
-/// The Rust's outcome, and 4 for a row that is too long for 01.
-fn wanted(row: &[u8], column: usize) -> Result<Outcome<bool>, u32> {
-    if row.len() > LIMIT {
-        return Err(4);
-    }
-    Ok(rust::is_null(row, column))
-}
-
-fn port(row: &[u8], column: usize) -> Result<Outcome<bool>, u32> {
-    match rook_row::is_null(row, column) {
-        Ok(null) => Ok(Outcome::Ok(null)),
-        Err(refusal) => outcome_of(refusal.number).ok_or(refusal.number),
-    }
-}
-
 pub fn compare(rng: &mut Rng) -> Compared {
     let (sort, row, column) = input(rng);
-    Compared::new(sort, port(&row, column), wanted(&row, column), || {
-        format!("column {column} of row {}", hex(&row))
-    })
+    let input = || format!("column {column} of row {}", hex(&row));
+    let port = asked([&row], |[row]| port::is_null(row, column));
+    let answer = port.answer;
+    let flag = match answer.number {
+        0 => Ok(answer.flag == 1),
+        number => Err(Refusal::of((number, answer.place))),
+    };
+    let difference = apart("model", &port, &told(model::is_null(&row, column)), input)
+        .or_else(|| apart("Rust", &flag, &expected::null_flag(&row, column), input));
+    let sorts = vec![
+        format!("row {sort:?}"),
+        format!("answer {}", answer.number),
+        judge(answer.number, || rust::is_null(&row, column)).to_string(),
+    ];
+    Compared {
+        sorts: counted(sorts),
+        difference,
+    }
 }

@@ -2,6 +2,7 @@
 //! `data_value_matches_type`; and read, against `from_bytes`. The model of 01
 //! judges all of it, and alone where 01 leaves the Rust's domain.
 
+use crate::lent::{After, called, inside, output};
 use crate::probe::{self, ValueProbe};
 use crate::{Compared, hex};
 use cases::LIMIT;
@@ -16,7 +17,6 @@ use cases::value::{Record, TextRange, ValueList, body_length, in_domain, is_valu
 use model::schema::Type;
 use rookdb::types::datatype::DataType;
 use rookdb::types::value::DataValue;
-use std::hint::black_box;
 
 /// The bytes that a call hands back, or its refusal's number.
 pub type Handed = Result<Vec<u8>, u32>;
@@ -36,54 +36,18 @@ enum Judge {
 /// A number that is no answer: the Rust panicked, or gave another error.
 const NONE: u32 = u32::MAX;
 
-/// What is left of a call: its answer, the output with a guard on both sides,
-/// and whether the other lent bytes are as before.
-#[derive(Debug, PartialEq, Eq)]
-struct After {
-    number: u32,
-    length: usize,
-    output: Vec<u8>,
-    kept: bool,
-}
-
-const GUARD: usize = 8;
-
-/// An output of `room` bytes and its guards.
-fn output(rng: &mut Rng, room: usize) -> Vec<u8> {
-    rng.bytes(GUARD + room + GUARD)
-}
-
-/// The call on this output. What it is lent otherwise is `inputs`.
-fn called(
-    output: &[u8],
-    inputs: &[&[u8]],
-    call: impl FnOnce(&[Vec<u8>], &mut [u8]) -> ValueProbe,
-) -> After {
-    let lent: Vec<Vec<u8>> = inputs.iter().map(|bytes| bytes.to_vec()).collect();
-    let mut output = output.to_vec();
-    let end = output.len() - GUARD;
-    let answer = call(&lent, &mut output[GUARD..end]);
-    After {
-        number: answer.number,
-        length: answer.length,
-        output,
-        kept: *black_box(&lent) == inputs,
-    }
-}
-
 /// What a call leaves that hands these bytes back, at the front of the output.
-fn left(handed: &Handed, output: &[u8]) -> After {
+fn left(handed: &Handed, output: &[u8]) -> After<ValueProbe> {
     let mut output = output.to_vec();
     let (number, length) = match handed {
         Ok(bytes) => {
-            output[GUARD..GUARD + bytes.len()].copy_from_slice(bytes);
+            inside(&mut output)[..bytes.len()].copy_from_slice(bytes);
             (0, bytes.len())
         }
         Err(number) => (*number, 0),
     };
     After {
-        number,
-        length,
+        answer: ValueProbe { number, length },
         output,
         kept: true,
     }
@@ -101,7 +65,7 @@ fn by_both(model: Handed, rust: Option<Handed>) -> (Judge, Handed, Option<Handed
 /// The port against the model and, where it judges, the Rust.
 fn judged(
     sort: impl std::fmt::Debug,
-    port: After,
+    port: After<ValueProbe>,
     output: &[u8],
     model: &Handed,
     rust: Option<&Handed>,
@@ -109,13 +73,13 @@ fn judged(
 ) -> Compared {
     let wanted = left(model, output);
     match rust {
-        Some(rust) if rust != model => Compared {
-            sort: format!("{sort:?}"),
-            difference: Some(format!(
+        Some(rust) if rust != model => Compared::different(
+            sort,
+            format!(
                 "{}\n  port   {port:?}\n  Rust   {rust:?}\n  model  {model:?}",
                 input()
-            )),
-        },
+            ),
+        ),
         _ => Compared::new(sort, port, wanted, input),
     }
 }
@@ -340,8 +304,8 @@ pub fn store(rng: &mut Rng) -> Compared {
     }
     let output = output(rng, room);
     let inputs = [&schema[..], &list.bytes, &list.text];
-    let port = called(&output, &inputs, |lent, out| {
-        probe::store(&lent[0], &lent[1], &lent[2], out)
+    let port = called(&output, inputs, |[schema, list, area], out| {
+        probe::store(schema, list, area, out)
     });
     judged((sort, judge), port, &output, &model, rust.as_ref(), || {
         format!(
@@ -521,8 +485,8 @@ pub fn slot(rng: &mut Rng) -> Compared {
             ),
         },
     };
-    let port = called(&output, &[&schema, &bytes], |lent, out| {
-        probe::slot(&lent[0], &lent[1], start, out)
+    let port = called(&output, [&schema, &bytes], |[schema, bytes], out| {
+        probe::slot(schema, bytes, start, out)
     });
     judged((sort, judge), port, &output, &model, rust.as_ref(), || {
         format!("schema {}, bytes {} at {start}", hex(&schema), hex(&bytes))
@@ -531,7 +495,8 @@ pub fn slot(rng: &mut Rng) -> Compared {
 
 #[cfg(test)]
 mod tests {
-    use super::{After, GUARD, Handed, any_column, called, judged, left};
+    use super::{After, Handed, any_column, called, judged, left};
+    use crate::lent::GUARD;
     use crate::probe::ValueProbe;
     use cases::rng::Rng;
     use cases::schema::write_schema;
@@ -539,14 +504,14 @@ mod tests {
 
     const OUTPUT: [u8; 4 + 2 * GUARD] = [0xAA; 4 + 2 * GUARD];
 
-    fn differs(port: After, wanted: Handed) -> bool {
+    fn differs(port: After<ValueProbe>, wanted: Handed) -> bool {
         judged("", port, &OUTPUT, &wanted, None, String::new)
             .difference
             .is_some()
     }
 
-    fn answer(number: u32, length: usize, bytes: &[u8]) -> After {
-        called(&OUTPUT, &[&[1, 2]], |_, out| {
+    fn answer(number: u32, length: usize, bytes: &[u8]) -> After<ValueProbe> {
+        called(&OUTPUT, [&[1, 2]], |_, out| {
             out[..bytes.len()].copy_from_slice(bytes);
             ValueProbe { number, length }
         })

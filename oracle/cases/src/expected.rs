@@ -1,11 +1,12 @@
-//! What the Rust's answers say that the model must answer.
-#![allow(dead_code)]
+//! What must be answered, from what the Rust answers on 01's domain and from
+//! what 01 says outside it. A disagreement of the two panics.
 
-use cases::LIMIT;
-use cases::history::Call;
-use cases::row::is_sound;
-use cases::rust::{self, Outcome};
-use cases::value::{self, Outside, ValueList, in_domain};
+use crate::LIMIT;
+use crate::history::Call;
+use crate::layout::{Layout, Place};
+use crate::row::{is_sound, offset};
+use crate::rust::{self, Outcome};
+use crate::value::{self, Outside, Record, TextRange, ValueList, in_domain, is_value};
 use rookdb::types::datatype::DataType;
 use rookdb::types::value::DataValue;
 
@@ -26,54 +27,104 @@ impl Refusal {
     }
 }
 
-/// The values of a read, or its refusal. The columns are read one by one to
-/// learn the place of 7 and 8; the whole read must agree.
-pub fn read(
-    types: &[DataType],
-    row: &[u8],
-    wanted: &[u16],
-) -> Result<Vec<Option<DataValue>>, Refusal> {
+/// What the Rust reads: each column null or a value.
+pub type Values = Vec<Option<DataValue>>;
+
+/// The values of a read, or its refusal.
+pub fn read(types: &[DataType], row: &[u8], wanted: &[u16]) -> Result<Values, Refusal> {
     if row.len() > LIMIT {
         return Err(Refusal::Number(4, 0));
     }
-    let whole = rust::read(types, row, wanted);
-    if rust::read(types, row, &[]) == Outcome::Internal {
-        assert_eq!(whole, Outcome::Internal);
-        return Err(Refusal::Internal);
+    match rust::read(types, row, wanted) {
+        Outcome::Ok(values) if values.iter().flatten().all(in_domain) => Ok(values),
+        Outcome::Internal => {
+            // The header and the minimum, whatever is wanted.
+            assert_eq!(rust::read(types, row, &[]), Outcome::Internal);
+            Err(Refusal::Internal)
+        }
+        whole => Err(refused_column(types, row, wanted, &whole)),
     }
-    for column in 0..types.len() {
-        let number = column as u16;
-        if !wanted.contains(&number) {
-            continue;
+}
+
+/// The refusal of a read that meets 7, 8 or a date that 01 does not take. The
+/// columns are read one by one to learn the place; the whole read must agree.
+fn refused_column(
+    types: &[DataType],
+    row: &[u8],
+    wanted: &[u16],
+    whole: &Outcome<Values>,
+) -> Refusal {
+    let mut wanted: Vec<u16> = wanted.to_vec();
+    wanted.sort_unstable();
+    wanted.dedup();
+    for number in wanted {
+        let column = usize::from(number);
+        if column >= types.len() {
+            break;
         }
         match rust::read(types, row, &[number]) {
             Outcome::Ok(values) if values[column].as_ref().is_none_or(in_domain) => {}
             // 01 limits dates and timestamps.
-            Outcome::Ok(_) => return Err(Refusal::Number(8, column)),
+            Outcome::Ok(_) => return Refusal::Number(8, column),
             Outcome::TypeMismatch => {
-                assert_eq!(whole, Outcome::TypeMismatch);
-                return Err(Refusal::Number(8, column));
+                assert_eq!(*whole, Outcome::TypeMismatch);
+                return Refusal::Number(8, column);
             }
             Outcome::Panicked => {
-                assert_eq!(whole, Outcome::Panicked);
-                return Err(Refusal::Number(7, column));
+                assert_eq!(*whole, Outcome::Panicked);
+                return Refusal::Number(7, column);
             }
             other => panic!("a read of one column came to {other:?}"),
         }
     }
-    Ok(whole.ok().expect("a read whose columns each read"))
+    panic!("each column reads and the whole came to {whole:?}");
 }
 
-/// The text of a column, `None` for null, or the refusal.
-pub fn text(types: &[DataType], row: &[u8], column: usize) -> Result<Option<Vec<u8>>, Refusal> {
+/// The value list of what the Rust read: a text or a Bit is a part of the row.
+pub fn list(types: &[DataType], row: &[u8], values: &[Option<DataValue>]) -> Vec<u8> {
+    let layout = Layout::of_row(types, row);
+    let mut bytes = Vec::new();
+    for (value, place) in values.iter().zip(&layout.places) {
+        record(value, row, &layout, *place).write(&mut bytes);
+    }
+    bytes
+}
+
+/// The record of a value that the Rust read at this place.
+fn record(value: &Option<DataValue>, row: &[u8], layout: &Layout, place: Place) -> Record {
+    let own = ValueList::of_rust(std::slice::from_ref(value)).expect("a text of a row");
+    let own = own.records(1).expect("one record")[0];
+    let Some(range) = own.range() else {
+        return own;
+    };
+    let start = match place {
+        Place::Fixed { start, .. } => start as u16,
+        Place::Varchar { rank } => offset(row, layout, rank),
+    };
+    let range = TextRange { start, ..range };
+    let record = match own {
+        Record::Char(_) => Record::Char(range),
+        Record::Varchar(_) => Record::Varchar(range),
+        _ => Record::Bit(range),
+    };
+    assert!(is_value(&record, row, value.as_ref()), "{value:?}");
+    record
+}
+
+/// The part of the row that is a column's text, the empty one for null, or the
+/// refusal.
+pub fn text(types: &[DataType], row: &[u8], column: usize) -> Result<TextRange, Refusal> {
     match types.get(column) {
         None => Err(Refusal::Internal),
         Some(DataType::Char(_) | DataType::Character(_) | DataType::Varchar(_)) => {
             let values = read(types, row, &[column as u16])?;
-            Ok(values[column].as_ref().map(|value| match value {
-                DataValue::Char(text) | DataValue::Varchar(text) => text.clone().into_bytes(),
-                other => panic!("a text column read as {other:?}"),
-            }))
+            let layout = Layout::of_row(types, row);
+            let record = record(&values[column], row, &layout, layout.places[column]);
+            let null = TextRange {
+                start: 0,
+                length: 0,
+            };
+            Ok(record.range().unwrap_or(null))
         }
         Some(_) => Err(Refusal::Number(11, column)),
     }

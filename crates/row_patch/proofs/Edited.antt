@@ -1,0 +1,73 @@
+-- The numbers that the code has at hand are those of the definitions: the stores leave the edited row.
+use Prim.Native.Nat.{ℕ, _+_, _≤_, _<_}
+use mathlib.Core.Path.{_≡_, refl, sym, ap, subst, _∙_}
+use mathlib.Core.Bool.{Bool, true, false, cond}
+use mathlib.Core.List.{List, map}
+use native.Mathlib.Omega.{arith}
+use lib.ListN.{length, getD, take}
+use Rattle.laws.proofs.Maps.{take-map, at-map}
+use Rattle.row_format.specs.declared.Shape.{Shape}
+use Rattle.row_format.specs.declared.Shape.the-variants.{Fixed, Varlen}
+use Rattle.row_format.specs.Places.{varlens, rankOf, slotStart, startAt, tableStart, fixedStart, offsetWidth}
+use Rattle.row_format.specs.Table.{Cell, rangeEnd}
+use Rattle.row_format.specs.Edit.{rangeStart, rangeEdit, varlenEdit, slotEdit, bitEdit, columnEdit, editedRow}
+use Rattle.row_format.proofs.Edit.{edited-shape}
+use Rattle.row_layout.specs.declared.RowLayout.{RowLayout}
+use Rattle.row_layout.specs.Layout.{layoutOf, sizeIn}
+use Rattle.row_layout.proofs.Columns.{layout-slot}
+use Rattle.datatype.specs.declared.DataType.{DataType}
+use Rattle.datatype.specs.declared.DataType.the-variants.{Varchar}
+use Rattle.datatype.specs.Types.{sizeOf, alignmentOf, isVarlen, shapeOf}
+use Rattle.datatype.specs.Check.{typeAt, layoutFor, layoutBefore}
+use Rattle.row_column.specs.Column.{slotPlace}
+use Rattle.row_column.proofs.Reach.{columns-before}
+use Rattle.row_patch.specs.Stores.{columnSet, rowSet}
+
+-- a and e are the range of a Varchar of the layout l, in the row r
+abbrev pub RangeOf : RowLayout → RowLayout → ℕ → ℕ → List ℕ → Type 0
+RangeOf l b a e r =
+    (a ≡ rangeStart offsetWidth (tableStart (l .«num_columns»)) (l .«num_varlen_cols») (b .«num_varlen_cols») r)
+    × (e ≡ rangeEnd offsetWidth (tableStart (l .«num_columns»)) (l .«num_varlen_cols») (b .«num_varlen_cols») r)
+
+module _ (ts : List DataType) (p : Bool) (i : ℕ) (c : Cell) (r : List ℕ) (a e : ℕ) where
+  abbrev ss : List Shape
+  ss = map shapeOf ts
+
+  abbrev ty : DataType
+  ty = typeAt ts i
+
+  abbrev before : RowLayout
+  before = layoutBefore ts i
+
+  same-before : before ≡ layoutOf (take i ss)
+  same-before = ap layoutOf (sym (take-map shapeOf i ts))
+
+  same-shape : getD ss i Varlen ≡ shapeOf ty
+  same-shape = at-map shapeOf i ts (Varchar 0)
+
+  -- by whether the column is a Varchar
+  by-type : (v : Bool) → shapeOf ty ≡ cond v Varlen (Fixed (sizeOf ty) (alignmentOf ty)) → (v ≡ true → RangeOf (layoutFor ts) before a e r)
+      → cond v (rangeEdit offsetWidth (tableStart (length ss)) (varlens ss) (before .«num_varlen_cols») c a e r) (slotEdit (slotPlace (layoutFor ts) p before ty) (sizeOf ty) c r) ≡ columnEdit offsetWidth p ss i (cond v Varlen (Fixed (sizeOf ty) (alignmentOf ty))) c r
+  unfolding varlenEdit
+  by-type true s q =
+      let k : before .«num_varlen_cols» ≡ rankOf ss i = ap (λ (b : RowLayout). b .«num_varlen_cols») same-before in
+      rw (q refl .0, q refl .1) (ap (λ (j : ℕ). rangeEdit offsetWidth (tableStart (length ss)) (varlens ss) j c (rangeStart offsetWidth (tableStart (length ss)) (varlens ss) j r) (rangeEnd offsetWidth (tableStart (length ss)) (varlens ss) j r) r) k)
+  by-type false s q =
+      let at : startAt p (alignmentOf ty) (sizeIn before p) ≡ slotStart p ss i
+      = ap (λ (b : RowLayout). startAt p (alignmentOf ty) (sizeIn b p)) same-before ∙ layout-slot ss i p (sizeOf ty) (alignmentOf ty) (same-shape ∙ s) in
+      ap (λ (k : ℕ). slotEdit (fixedStart offsetWidth (length ss) (varlens ss) + k) (sizeOf ty) c r) at
+
+  set-edited : i < length ts → (isVarlen ty ≡ true → RangeOf (layoutFor ts) before a e r) → rowSet (layoutFor ts) p before ty a e c r ≡ editedRow offsetWidth p ss i c r
+  set-edited h q =
+      ap (λ (j : ℕ). bitEdit j c (columnSet (layoutFor ts) p before ty a e c r)) (columns-before ts i (omega arith))
+      ∙ ap (bitEdit i c) (by-type (isVarlen ty) refl q)
+      ∙ sym (edited-shape offsetWidth p ss i c r (shapeOf ty) same-shape)
+
+  -- the layout of a schema, and a column of it as the walk finds it
+  Leaves : RowLayout → RowLayout → DataType → Type 0
+  Leaves l b t = (isVarlen t ≡ true → RangeOf l b a e r) → rowSet l p b t a e c r ≡ editedRow offsetWidth p ss i c r
+
+  pub row-edited : {l b : RowLayout} {t : DataType} → l ≡ layoutFor ts → b ≡ before → t ≡ ty → i < length ts → (isVarlen t ≡ true → RangeOf l b a e r) → rowSet l p b t a e c r ≡ editedRow offsetWidth p ss i c r
+  unfolding Leaves
+  row-edited {l} {b} {t} x y z h =
+      subst (λ (k : RowLayout). Leaves k b t) (sym x) (subst (λ (k : RowLayout). Leaves (layoutFor ts) k t) (sym y) (subst (Leaves (layoutFor ts) before) (sym z) (set-edited h)))

@@ -1,0 +1,95 @@
+-- The range of a Varchar replaced and its table written anew.
+use Prim.Native.Nat.{ℕ, zero, suc, _+_, _*_, _-_, _≤_, _<_}
+use mathlib.Core.Path.{_≡_, refl, sym, ap, _∙_}
+use mathlib.Core.Bool.{true, cond}
+use mathlib.Core.List.{List, _∷_, _++_}
+use native.Mathlib.Omega.{arith}
+use lib.ListN.{length, getD, take, drop, length-drop, take-append-drop}
+use lib.Seq.{take-append-le, drop-append-le, length-take-le}
+use Rattle.laws.specs.Bytes.{fromLe, fromTable, entryAt, splice}
+use Rattle.laws.proofs.Bytes.{table-entry}
+use Rattle.row_format.specs.Places.{offsetWidth}
+use Rattle.row_format.specs.Table.{Cell, bytes, offset}
+use Rattle.row_format.specs.Edit.{rangeEdit}
+use Rattle.row_format.proofs.Edit.{length-range-edit}
+use Rattle.datatype.specs.declared.DataType.{DataType}
+use Rattle.datatype.specs.Types.{sizeOf, isVarlen}
+use Rattle.value.specs.declared.DataValue.{DataValue}
+use Rattle.value.specs.Ranges.{rangeOf, textOf}
+use Rattle.stored_form.proofs.Lengths.{length-stored, accepted-inside, accepted-suits}
+use Rattle.row_patch.specs.Held.{held, Holds}
+use Rattle.row_patch.specs.Offsets.{tableEdit, CanMove, HigherMove}
+use Rattle.row_patch.specs.Stores.{formOf, Suited, RangeReady}
+use Rattle.row_patch.proofs.Held.{length-spliced, row-of, held-again}
+
+-- ---- a table in the first of two parts
+
+table-left : (w v : ℕ) (p q : List ℕ) → v * w ≤ length p → fromTable w v (p ++ q) ≡ fromTable w v p
+table-left w zero p q h = refl
+table-left w (suc v) p q h =
+    let l : w ≤ length p = omega arith in
+    rw (take-append-le w p q l, drop-append-le w p q l, table-left w v (drop w p) q (rw length-drop (omega arith)))
+
+-- replaced bytes behind it leave it
+table-before : (w t v a e : ℕ) (bs r : List ℕ) → t + v * w ≤ a → a ≤ length r → fromTable w v (drop t (splice a e bs r)) ≡ fromTable w v (drop t r)
+table-before w t v a e bs r h k =
+    let n : length (take a r) ≡ a = length-take-le a r k in
+    let l : t ≤ length (take a r) = omega (arith, n) in
+    let part : (q : List ℕ) → fromTable w v (drop t (take a r ++ q)) ≡ fromTable w v (drop t (take a r))
+    = λ q. rw (drop-append-le t (take a r) q l) (table-left w v (drop t (take a r)) q (rw (length-drop, n) (omega arith))) in
+    part (bs ++ drop e r) ∙ sym (part (drop a r)) ∙ rw take-append-drop
+
+-- ---- the text of a Varchar
+
+pub length-text : {t : DataType} {v : DataValue} {area : List ℕ} → Suited t v area → isVarlen t ≡ true → length (formOf t v area) ≡ rangeOf v .length
+length-text {t} {v} {area} s e =
+    length-stored t v (textOf area v) (s .kind) (accepted-suits t v area (s .holds))
+    ∙ rw e (length-take-le (rangeOf v .length) (drop (rangeOf v .start) area) (rw length-drop (omega (arith, accepted-inside t v area (s .holds)))))
+
+-- ---- the table of a row whose range was replaced: q is the buffer, m the row's length
+
+module _ {t v k n a e z : ℕ} {b : List ℕ} (g : RangeReady t v k n a e z b) (c : Cell) (size : length (bytes c) ≡ z) (m f : ℕ) (em : m ≡ a + z + (n - e)) (ef : f ≡ a + z) (q : List ℕ) (d : q ≡ held b (splice a e (bytes c) (take n b))) where
+  abbrev row : List ℕ
+  row = take n b
+
+  abbrev spliced : List ℕ
+  spliced = splice a e (bytes c) row
+
+  row-length : length row ≡ n
+  row-length = length-take-le n b (g .replaceable .inside)
+
+  spliced-length : length spliced ≡ m
+  spliced-length = length-spliced (g .replaceable) (bytes c) size ∙ sym em
+
+  lent : take m q ≡ spliced
+  lent = row-of b spliced q m d spliced-length
+
+  same-table : fromTable offsetWidth v (drop t spliced) ≡ fromTable offsetWidth v (drop t row)
+  same-table = table-before offsetWidth t v a e (bytes c) row (g .behind) (rw row-length (omega (arith, g .replaceable .range, g .replaceable .within)))
+
+  same-entry : (j : ℕ) → j < v → entryAt offsetWidth t j spliced ≡ entryAt offsetWidth t j row
+  same-entry j h = sym (table-entry offsetWidth v t j spliced h) ∙ ap (λ (os : List ℕ). getD os j 0) same-table ∙ table-entry offsetWidth v t j row h
+
+  can-move : (j : ℕ) → k < j → j < v → CanMove e f (entryAt offsetWidth t j row)
+  can-move j h l n = let y = g .higher j h l n in (y .0, omega (arith, y, ef, g .short, g .replaceable .within))
+
+  pub lent-length : m ≡ length (take m q)
+  lent-length = sym (ap length lent ∙ spliced-length)
+
+  pub table-ready : HigherMove offsetWidth t v k e f (take m q)
+  table-ready =
+      rw lent
+      (record {
+        ranked = g .ranked;
+        inside = rw spliced-length (omega (arith, em, g .behind));
+        higher = λ j h l. rw (same-entry j l) (can-move j h l);
+      })
+
+  pub table-done : (x : List ℕ) → x ≡ tableEdit offsetWidth t v k (offset c a) e f (take m q) → Holds b (rangeEdit offsetWidth t v k c a e row) (x ++ drop m q) m
+  table-done x y =
+      let ends : f ≡ a + length (bytes c) = ef ∙ rw size in
+      let edited : x ≡ rangeEdit offsetWidth t v k c a e row = y ∙ rw (lent, same-table, ends) in
+      let n : length (rangeEdit offsetWidth t v k c a e row) ≡ m
+      = length-range-edit offsetWidth t v k c a e row (g .ranked) (g .behind) (g .replaceable .range) (rw row-length (g .replaceable .within))
+      ∙ rw (row-length, size) (omega (arith, em, g .replaceable .range, g .replaceable .within)) in
+      (held-again b spliced q m d spliced-length x (ap length edited ∙ n) ∙ rw edited, sym n)

@@ -1,0 +1,24 @@
+use borrow.Author.Needs.{needs}
+use Rattle.row_patch.proofs.edit_table.Statement.{statement}
+use Rattle.row_patch.proofs.edit_table.Tie as tie
+use denote.Ref.{now}
+use Rattle.row_patch.proofs.Offsets.{table-edited}
+
+move-offsets-requires : tie.Need-move-offsets-requires
+move-offsets-requires c κs = search needs
+
+put-offset-requires : tie.Need-put-offset-requires
+put-offset-requires c κs = search needs
+
+same-length : tie.Need-same-length
+same-length c = search needs
+
+returns : tie.Need-returns
+returns c =
+    let a = c .before .before .before .before .before .before .before .before .before .args in
+    let h = c .before .before .before .before .before .before .before .before .before .pre .0 in
+    table-edited 2 (a .table) (a .varlens) (a .rank) (a .own) (a .end) (a .new-end) (now (a .row)) (c .before .before .before .before .before .before .before .before .slice-known .given) (h .ranked) (h .inside) _ _ (c .before .before .before .before .before .before .move-offsets .ensures) (c .before .before .put-offset .ensures)
+
+pub edit-table-spec : {M : Type 1} → statement M
+edit-table-spec =
+    tie.close (tie.spec move-offsets-requires put-offset-requires same-length returns)

@@ -1,0 +1,161 @@
+-- Every row that is built of accepted values is sound.
+use Prim.Native.Nat.{ℕ, suc, _+_, _*_, _%_, _^_, _≤_, _<_}
+use mathlib.Core.Path.{_≡_, refl, sym, ap, _∙_, subst}
+use mathlib.Core.Bool.{Bool, true, false, cond}
+use mathlib.Core.List.{List, [], _∷_, _++_, map, append-assoc}
+use mathlib.Core.Option.{none, some}
+use native.Mathlib.Omega.{arith}
+use borrow.Author.Tests.{le-ltb, le-leb, eq-eqb}
+use lib.Dec.{eqb}
+use lib.ListN.{length, getD, take, drop, length-map, length-drop}
+use lib.Seq.{take-append-le, drop-append-le, drop-append-seam, drop-cons}
+use Rattle.laws.specs.Bits.{bitAt}
+use Rattle.laws.specs.Bytes.{fromLe, concat}
+use Rattle.laws.specs.Forall.{Forall₂, nil, cons}
+use Rattle.laws.proofs.Forall.{forall-get, forall-length}
+use Rattle.row_format.specs.declared.Shape.{Shape}
+use Rattle.row_format.specs.declared.Shape.the-variants.{Fixed, Varlen}
+use Rattle.row_format.specs.Places.{varlens, rankOf, slotStart, bitmapSize, bitmapStart, fixedStart, offsetWidth, minimum}
+use Rattle.row_format.specs.Table.{Cell, bytes, lay}
+use Rattle.row_format.specs.Row.{packedFlag, header, nullBit, bitmap, varlenCells, rowWith, slotsOf, builtRow, slotSize, FitsCell}
+use Rattle.row_format.proofs.Places.{packed-inside}
+use Rattle.row_format.proofs.Bitmap.{length-bitmap, bitmap-bit}
+use Rattle.row_format.proofs.Row.{length-header, header-columns, header-varlens, length-row, length-slots, length-varlens, slots-fit, of-rank}
+use Rattle.row_format.proofs.Cells.{unlessNull, columnBytes, cell-built}
+use Rattle.row_layout.specs.declared.RowLayout.{RowLayout}
+use Rattle.row_layout.specs.Layout.{minimumOf}
+use Rattle.datatype.specs.declared.DataType.{DataType}
+use Rattle.datatype.specs.declared.DataType.the-variants.{Varchar}
+use Rattle.datatype.specs.Types.{sizeOf, alignmentOf, isVarlen, shapeOf}
+use Rattle.datatype.specs.Check.{typeAt, layoutFor}
+use Rattle.value.specs.Ranges.{textOf}
+use Rattle.stored_form.specs.Write.{storedForm}
+use Rattle.stored_form.specs.ReadBack.{readBack}
+use Rattle.stored_form.proofs.Lengths.{accepted-suits, length-stored}
+use Rattle.stored_form.proofs.ReadBack.{read-stored}
+use Rattle.row_column.specs.declared.Frame.{Frame}
+use Rattle.row_column.specs.declared.Frame.the-variants.{Good}
+use Rattle.row_column.specs.Frame.{columnCount, varlenField, isPacked, frameOf, onFrame}
+use Rattle.row_sound.specs.Sound.{isSoundIn, isSound}
+use Rattle.row_sound.specs.Written.{Writes, null, form}
+use Rattle.row_sound.proofs.Laid.{isForm, soundCell, soundSlot, soundPart, Parts, shape-at, slot-of, bit-of, laid-sound}
+
+-- ---- a cell that was written is read
+
+abbrev pub holdsForm : DataType → Cell → Bool
+holdsForm t none = true
+holdsForm t (some b) = isForm t b
+
+pub none-some : {b : List ℕ} → _≡_ {A = Cell} none (some b) → ⊥
+none-some q = subst (λ (c : Cell). IsNone c) q tt
+  where
+    IsNone : Cell → Type 0
+    IsNone none = Unit {0}
+    IsNone (some b) = ⊥
+
+pub writes-form : {t : DataType} {c : Cell} → Writes t c → holdsForm t c ≡ true
+writes-form null = refl
+writes-form {t} (form v area m a z) = rw (read-stored t v (textOf area v) 0 m (accepted-suits t v area a) z)
+
+fits-shape : (t : DataType) (c : Cell) (x : Bool) → isVarlen t ≡ x → ((b : List ℕ) → c ≡ some b → isVarlen t ≡ false → length b ≡ sizeOf t) → FitsCell (cond x Varlen (Fixed (sizeOf t) (alignmentOf t))) c
+fits-shape t c true e h = tt
+fits-shape t none false e h = tt
+fits-shape t (some b) false e h = h b refl e
+
+pub writes-fits : {t : DataType} {c : Cell} → Writes t c → FitsCell (shapeOf t) c
+writes-fits {t} {c} w = fits-shape t c (isVarlen t) refl (of-length w)
+  where
+    of-length : {d : Cell} → Writes t d → (b : List ℕ) → d ≡ some b → isVarlen t ≡ false → length b ≡ sizeOf t
+    of-length null b q e = absurd (none-some q)
+    of-length (form v area m a z) b q e = ap (λ (d : Cell). length (bytes d)) (sym q) ∙ rw e at (length-stored t v (textOf area v) m (accepted-suits t v area a))
+
+-- a column with the bit of its cell
+pub written-cell : (t : DataType) (c : Cell) → holdsForm t c ≡ true → soundCell t (eqb (nullBit c) 1) c ≡ true
+written-cell t none e = refl
+written-cell t (some b) e = e
+
+pub written-slot : (t : DataType) (c : Cell) (slot : List ℕ) → holdsForm t c ≡ true → ((b : List ℕ) → c ≡ some b → slot ≡ b) → soundSlot t (eqb (nullBit c) 1) slot ≡ true
+written-slot t none slot e h = refl
+written-slot t (some b) slot e h = rw (h b refl) e
+
+-- ---- a good header
+
+pub good-frame : (limit : ℕ) (l : RowLayout) (p : Bool) (r : List ℕ) → length r ≤ limit → columnCount r ≡ l .«num_columns» → varlenField r % packedFlag ≡ l .«num_varlen_cols» → isPacked r ≡ p → minimumOf l p ≤ length r → frameOf limit l r ≡ Good p
+good-frame limit l p r a n v f m =
+    let h : 4 ≤ length r = omega arith in
+    rw (le-ltb limit (length r) a, le-ltb (length r) 4 h, eq-eqb (columnCount r) (l .«num_columns») n, eq-eqb (varlenField r % packedFlag) (l .«num_varlen_cols») v, f, le-ltb (length r) (minimumOf l p) m)
+
+-- ---- the row
+
+fits-all : {ts : List DataType} {cs : List Cell} → Forall₂ Writes ts cs → Forall₂ FitsCell (map shapeOf ts) cs
+fits-all nil = nil
+fits-all (cons w e) = cons (writes-fits w) (fits-all e)
+
+module _ {ts : List DataType} {cs : List Cell} (written : Forall₂ Writes ts cs) (fits : length (builtRow offsetWidth (map shapeOf ts) cs) < 256 ^ offsetWidth) where
+  abbrev ss : List Shape
+  ss = map shapeOf ts
+
+  abbrev head : List ℕ
+  head = header packedFlag ss
+
+  abbrev bits : List ℕ
+  bits = bitmap (bitmapSize (length ss)) cs
+
+  cells : Forall₂ FitsCell ss cs
+  cells = fits-all written
+
+  row-parts : builtRow offsetWidth ss cs ≡ lay offsetWidth (head ++ bits) (concat (slotsOf ss cs)) (varlenCells ss cs)
+  unfolding rowWith
+  row-parts = refl
+
+  parts : Parts true ts head bits (concat (slotsOf ss cs)) (varlenCells ss cs)
+  parts = record { four = length-header packedFlag ss; bitmap = length-bitmap (bitmapSize (length ss)) cs; fixed = length-slots (slots-fit cells); cells = length-varlens cells; fits = rw row-parts at fits }
+
+  module _ (i : ℕ) (h : i < length ts) where
+    abbrev cell : Cell
+    cell = getD cs i none
+
+    below : i < length ss
+    below = rw (length-map ts shapeOf) h
+
+    holds : holdsForm (typeAt ts i) cell ≡ true
+    holds = writes-form (forall-get written i h (Varchar 0) none)
+
+    bit-is : bitAt i bits ≡ nullBit cell
+    bit-is =
+        let k : i < length cs = rw (forall-length written) h in
+        let any : getD cs i (some []) ≡ cell = ap (λ (l : List Cell). getD l 0 none) (sym (drop-cons cs i (some []) k) ∙ drop-cons cs i none k) in
+        bitmap-bit (bitmapSize (length ss)) cs i (omega (arith, below)) ∙ ap nullBit any
+
+    slot-is : (b : List ℕ) → cell ≡ some b → isVarlen (typeAt ts i) ≡ false → take (sizeOf (typeAt ts i)) (drop (slotStart true ss i) (concat (slotsOf ss cs))) ≡ b
+    slot-is b e v =
+        let shape : getD ss i Varlen ≡ Fixed (sizeOf (typeAt ts i)) (alignmentOf (typeAt ts i)) = shape-at ts i ∙ rw v in
+        let inside : slotStart true ss i + sizeOf (typeAt ts i) ≤ length (concat (slotsOf ss cs)) = rw (parts .fixed) (rw (ap slotSize shape) at (packed-inside ss i below)) in
+        let bit : bitAt i (drop bitmapStart (builtRow offsetWidth ss cs)) ≡ 0 = rw row-parts (bit-of parts i h) ∙ bit-is ∙ rw e in
+        let read : unlessNull 0 (columnBytes offsetWidth ss i (Fixed (sizeOf (typeAt ts i)) (alignmentOf (typeAt ts i))) (builtRow offsetWidth ss cs)) ≡ some b
+        = rw (bit, shape) at (cell-built offsetWidth cells i below fits) ∙ e in
+        sym (slot-of parts (slotStart true ss i) (sizeOf (typeAt ts i)) inside) ∙ rw row-parts at (ap bytes read)
+
+    by-kind : (x : Bool) → isVarlen (typeAt ts i) ≡ x → soundPart true ts bits (concat (slotsOf ss cs)) (varlenCells ss cs) i ≡ true
+    by-kind true v = rw (v, bit-is, of-rank i cells below (shape-at ts i ∙ rw v) .cell) (written-cell (typeAt ts i) cell holds)
+    by-kind false v = rw (v, bit-is) (written-slot (typeAt ts i) cell _ holds (λ b e. slot-is b e v))
+
+  pub built-sound-in : isSoundIn (layoutFor ts) true ts (builtRow offsetWidth ss cs) ≡ true
+  built-sound-in = rw row-parts (laid-sound parts (λ i h. by-kind i h (isVarlen (typeAt ts i)) refl))
+
+  built-long : minimumOf (layoutFor ts) true ≤ length (builtRow offsetWidth ss cs)
+  built-long = rw (length-row offsetWidth head (length-header packedFlag ss) cells (slots-fit cells)) (omega arith)
+
+  -- its header is read back
+  pub built-frame : (limit : ℕ) → length ts ≤ 256 → length (builtRow offsetWidth ss cs) ≤ limit → frameOf limit (layoutFor ts) (builtRow offsetWidth ss cs) ≡ Good true
+  unfolding lay
+  built-frame limit few short =
+      let n : length ss ≡ length ts = length-map ts shapeOf in
+      let v : varlens ss < 32768 = omega (arith, built-long, fits) in
+      let four = length-header packedFlag ss in
+      let rest : List ℕ = bits ++ drop (length (head ++ bits)) (builtRow offsetWidth ss cs) in
+      let cut : builtRow offsetWidth ss cs ≡ head ++ rest = row-parts ∙ rw row-parts (rw (drop-append-seam, append-assoc)) in
+      let columns : columnCount (builtRow offsetWidth ss cs) ≡ length ss = rw cut (ap fromLe (take-append-le 2 head rest (omega (arith, four))) ∙ header-columns packedFlag ss (omega arith)) in
+      let field : varlenField (builtRow offsetWidth ss cs) ≡ varlens ss + packedFlag =
+      rw cut (ap fromLe (ap (take 2) (drop-append-le 2 head rest (omega (arith, four))) ∙ take-append-le 2 (drop 2 head) rest (rw (length-drop, four) (omega arith))) ∙ header-varlens packedFlag ss (omega arith)) in
+      good-frame limit (layoutFor ts) true (builtRow offsetWidth ss cs) short columns (rw field (omega arith)) (rw field (le-leb packedFlag (varlens ss + packedFlag) (omega arith))) built-long

@@ -1,0 +1,147 @@
+-- What the calls cite of sound rows: what the test says, the row's parts, and that built rows and edits of sound rows are sound.
+use Prim.Native.Nat.{ℕ, _+_, _*_, _%_, _^_, _≤_, _<_}
+use mathlib.Core.Path.{_≡_, refl, sym, ap, _∙_, subst}
+use mathlib.Core.Bool.{Bool, true, false, cond}
+use mathlib.Core.List.{List, _++_, map}
+use native.Mathlib.Omega.{arith}
+use borrow.Author.Tests.{ltb-false}
+use lib.Dec.{eqb, ltb}
+use lib.ListN.{length, take, drop, length-drop}
+use lib.Seq.{take-add, length-take-le}
+use Rattle.error.specs.declared.Refusal.the-variants as Refusal
+use Rattle.laws.specs.Forall.{Forall₂}
+use Rattle.laws.proofs.Bytes.{Below, length-fromTable}
+use Rattle.laws.proofs.Truths.{by-cond}
+use Rattle.row_format.specs.declared.Shape.{Shape}
+use Rattle.row_format.specs.Places.{varlens, bitmapStart, bitmapSize, tableStart, fixedStart, offsetWidth}
+use Rattle.row_format.specs.Table.{Cell, lay}
+use Rattle.row_format.specs.Row.{packedFlag, builtRow}
+use Rattle.row_format.specs.Edit.{editedRow}
+use Rattle.row_format.specs.Rising.{heldCells}
+use Rattle.row_format.proofs.Rising.{length-held}
+use Rattle.row_layout.specs.declared.RowLayout.{RowLayout}
+use Rattle.row_layout.specs.Layout.{sizeIn, minimumOf}
+use Rattle.datatype.specs.declared.DataType.{DataType}
+use Rattle.datatype.specs.Types.{shapeOf}
+use Rattle.datatype.specs.Check.{typeAt, layoutFor, layoutBefore}
+use Rattle.row_column.specs.declared.Frame.{Frame}
+use Rattle.row_column.specs.declared.Frame.the-variants.{Good, Refused}
+use Rattle.row_column.specs.Frame.{columnCount, varlenField, isPacked, frameOf, onFrame}
+use Rattle.row_column.proofs.Depends.{frame-depends}
+use Rattle.row_sound.specs.declared.Soundness.{Soundness}
+use Rattle.row_sound.specs.declared.Soundness.the-variants.{Sound, NotSound}
+use Rattle.row_sound.specs.Sound.{soundColumn, isSoundIn, isSound, soundIn, soundness, SoundRow}
+use Rattle.row_sound.specs.Written.{Writes}
+use Rattle.row_sound.proofs.Columns.{offsetsOf, sound-at, sound-long, sound-lay}
+use Rattle.row_sound.proofs.Laid.{soundPart, Parts, size-in, column-lay}
+use Rattle.row_sound.proofs.Built.{built-frame, built-sound-in}
+use Rattle.row_sound.proofs.Edits.{Edited, edited}
+
+-- ---- what the test says
+
+abbrev IsSound : Soundness → Type 0
+IsSound (Sound p) = Unit {0}
+IsSound NotSound = ⊥
+
+abbrev flag : Soundness → Bool
+flag (Sound p) = p
+flag NotSound = false
+
+module _ (limit : ℕ) (ts : List DataType) (r : List ℕ) where
+  pub row-sound : {p : Bool} → SoundRow limit ts p r → isSound limit ts r ≡ true
+  row-sound s = rw (s .frame) (s .sound)
+
+  pub row-told : {p : Bool} → SoundRow limit ts p r → soundness limit ts r ≡ Sound p
+  row-told s = rw (s .frame, s .sound)
+
+  pub told-row : {p : Bool} → soundness limit ts r ≡ Sound p → SoundRow limit ts p r
+  told-row {p} e = by-frame (frameOf limit (layoutFor ts) r) refl e
+    where
+      by-test : (q y : Bool) → frameOf limit (layoutFor ts) r ≡ Good q → isSoundIn (layoutFor ts) q ts r ≡ y → cond y (Sound q) NotSound ≡ Sound p → SoundRow limit ts p r
+      by-test q true f s g = subst (λ (x : Bool). SoundRow limit ts x r) (ap flag g) (record { frame = f; sound = s })
+      by-test q false f s g = absurd (subst IsSound (sym g) tt)
+
+      by-frame : (x : Frame) → frameOf limit (layoutFor ts) r ≡ x → onFrame x (λ b. NotSound) (λ q. soundIn (layoutFor ts) q ts r) ≡ Sound p → SoundRow limit ts p r
+      by-frame (Refused b) f g = absurd (subst IsSound (sym g) tt)
+      by-frame (Good q) f g = by-test q (isSoundIn (layoutFor ts) q ts r) f refl g
+
+-- ---- a good header: the row's length, and its flag
+
+abbrev Tells : ℕ → List ℕ → Frame → Type 0
+Tells limit r (Good p) = (length r ≤ limit) × (isPacked r ≡ p)
+Tells limit r (Refused e) = Unit {0}
+
+tells : (limit : ℕ) (l : RowLayout) (r : List ℕ) → Tells limit r (frameOf limit l r)
+tells limit l r =
+    by-cond (Tells limit r) (ltb limit (length r)) (Refused Refusal.RowTooLong) _ (λ a. tt)
+    (λ a. by-cond (Tells limit r) (ltb (length r) 4) (Refused Refusal.RowTooShort) _ (λ b. tt)
+    (λ b. by-cond (Tells limit r) (eqb (columnCount r) (l .«num_columns»)) _ (Refused Refusal.WrongColumnCount)
+    (λ c. by-cond (Tells limit r) (eqb (varlenField r % packedFlag) (l .«num_varlen_cols»)) _ (Refused Refusal.WrongVarlenCount)
+    (λ d. by-cond (Tells limit r) (ltb (length r) (minimumOf l (isPacked r))) (Refused Refusal.RowTooShort) (Good (isPacked r)) (λ e. tt) (λ e. (ltb-false limit (length r) a, refl)))
+    (λ d. tt))
+    (λ c. tt)))
+
+module _ {limit : ℕ} {ts : List DataType} {p : Bool} {r : List ℕ} (s : SoundRow limit ts p r) where
+  pub row-short : length r ≤ limit
+  row-short = rw (s .frame) at (tells limit (layoutFor ts) r) .0
+
+  pub row-flag : isPacked r ≡ p
+  row-flag = rw (s .frame) at (tells limit (layoutFor ts) r) .1
+
+  -- ---- its parts
+
+  abbrev ss : List Shape
+  ss = map shapeOf ts
+
+  abbrev head : List ℕ
+  head = take bitmapStart r
+
+  abbrev bits : List ℕ
+  bits = take (bitmapSize (length ss)) (drop bitmapStart r)
+
+  abbrev region : List ℕ
+  region = take (sizeIn (layoutFor ts) p) (drop (fixedStart offsetWidth (length ss) (varlens ss)) r)
+
+  abbrev cells : List Cell
+  cells = heldCells (offsetsOf ts r) r
+
+  module _ (small : limit < 256 ^ offsetWidth) (bytes : Below 256 r) where
+    pub row-cut : r ≡ lay offsetWidth (head ++ bits) region cells
+    row-cut = sound-lay p ts r (s .sound) bytes ∙ ap (λ (front : List ℕ). lay offsetWidth front region cells) (take-add bitmapStart (bitmapSize (length ss)) r)
+
+    pub row-parts : Parts p ts head bits region cells
+    row-parts =
+        let long = sound-long p ts r (s .sound) in
+        record {
+          four = length-take-le 4 r (omega (arith, long));
+          bitmap = length-take-le (bitmapSize (length ss)) (drop 4 r) (rw length-drop (omega (arith, long)));
+          fixed = length-take-le (sizeIn (layoutFor ts) p) (drop (fixedStart offsetWidth (length ss) (varlens ss)) r) (rw length-drop (omega (arith, long))) ∙ size-in ss p;
+          cells = length-held (offsetsOf ts r) r ∙ length-fromTable offsetWidth (varlens ss) (drop (tableStart (length ss)) r);
+          fits = subst (λ (n : ℕ). n < 256 ^ offsetWidth) (ap length row-cut) (omega (arith, row-short, small));
+        }
+
+    pub row-columns : (j : ℕ) → j < length ts → soundPart p ts bits region cells j ≡ true
+    row-columns j l =
+        sym (column-lay row-parts j l) ∙ ap (λ (x : List ℕ). soundColumn (layoutFor ts) p (layoutBefore ts j) (typeAt ts j) x) (sym row-cut) ∙ sound-at p ts r (s .sound) j l
+
+    -- ---- an edit
+
+    pub edit-sound : (i : ℕ) → i < length ts → (c : Cell) → Writes (typeAt ts i) c → length (editedRow offsetWidth p ss i c r) ≤ limit → SoundRow limit ts p (editedRow offsetWidth p ss i c r)
+    edit-sound i h c w short =
+        let same : editedRow offsetWidth p ss i c r ≡ editedRow offsetWidth p ss i c (lay offsetWidth (head ++ bits) region cells) = ap (editedRow offsetWidth p ss i c) row-cut in
+        let short' : length (editedRow offsetWidth p ss i c (lay offsetWidth (head ++ bits) region cells)) < 256 ^ offsetWidth = subst (λ (n : ℕ). n < 256 ^ offsetWidth) (ap length same) (omega (arith, short, small)) in
+        let e = edited row-parts row-columns i h c w short' in
+        let new : List ℕ = editedRow offsetWidth p ss i c r in
+        let long : minimumOf (layoutFor ts) p ≤ length new = subst (λ (x : List ℕ). minimumOf (layoutFor ts) p ≤ length x) (sym same) (e .long) in
+        let header : take 4 r ≡ take 4 new = sym (ap (take 4) same ∙ e .same-head) in
+        record {
+          frame = sym (frame-depends limit (layoutFor ts) r new header row-short short (rw row-flag (sound-long p ts r (s .sound))) (rw row-flag long)) ∙ s .frame;
+          sound = subst (λ (x : List ℕ). isSoundIn (layoutFor ts) p ts x ≡ true) (sym same) (e .sound-in);
+        }
+
+-- ---- a row that is built
+
+pub built-row : (limit : ℕ) {ts : List DataType} {cs : List Cell} → limit < 256 ^ offsetWidth → Forall₂ Writes ts cs → length ts ≤ 256 → length (builtRow offsetWidth (map shapeOf ts) cs) ≤ limit
+    → SoundRow limit ts true (builtRow offsetWidth (map shapeOf ts) cs)
+built-row limit small written few short =
+    record { frame = built-frame written (omega arith) limit few short; sound = built-sound-in written (omega arith) }

@@ -1,0 +1,170 @@
+//! Reading chosen columns, against `RowDecoder::decode` after `only`: values,
+//! nulls and errors by variant on 01's domain. The model judges all of it:
+//! number, place, length and every lent byte.
+
+use super::rows::{self, Given, apart, counted, judge};
+use crate::lent::{After, GUARD, called, inside, output};
+use crate::{Compared, hex, port};
+use cases::expected::{self, Refusal};
+use cases::generate::row::any_row;
+use cases::generate::schema::any_type;
+use cases::generate::wanted::{any_wanted, subsets};
+use cases::rng::Rng;
+use cases::rust;
+use cases::schema::write_schema;
+use model::RowAnswer;
+use std::hint::black_box;
+
+/// The most bytes of a value list: 256 Numerics.
+const LONGEST: usize = 256 * 18;
+
+#[derive(Debug, Clone, Copy)]
+enum Room {
+    Longer,
+    Equal,
+    OneShort,
+    Shorter,
+}
+
+/// What a read is lent: the output with its guards.
+struct Lent<'a> {
+    schema: &'a [u8],
+    row: &'a [u8],
+    wanted: &'a [u16],
+    output: Vec<u8>,
+}
+
+/// An output for a result, and whether it has room.
+fn any_output(rng: &mut Rng, schema: &[u8], row: &[u8], wanted: &[u16]) -> (Room, Vec<u8>) {
+    let needed = model::read(schema, row, wanted, &mut [0; LONGEST]).length;
+    let (room, length) = match rng.below(8) {
+        0 | 1 if needed > 0 => (Room::OneShort, needed - 1),
+        2 if needed > 1 => (Room::Shorter, rng.below(needed - 1)),
+        3..=5 => (Room::Equal, needed),
+        _ => (Room::Longer, needed + rng.between(1, 40)),
+    };
+    (room, output(rng, length))
+}
+
+impl Lent<'_> {
+    fn port(&self) -> After<RowAnswer> {
+        let mut wanted = self.wanted.to_vec();
+        let inputs = [self.schema, self.row];
+        let mut after = called(&self.output, inputs, |[schema, row], out| {
+            port::read(schema, row, &mut wanted, out)
+        });
+        after.kept &= *black_box(&wanted) == self.wanted;
+        after
+    }
+
+    fn model(&self) -> After<RowAnswer> {
+        let mut output = self.output.clone();
+        After {
+            answer: model::read(self.schema, self.row, self.wanted, inside(&mut output)),
+            output,
+            kept: true,
+        }
+    }
+
+    /// The value list of what the Rust reads, or the refusal.
+    fn told(&self) -> Result<Vec<u8>, Refusal> {
+        let types = rows::columns(self.schema)?;
+        let values = expected::read(&types, self.row, self.wanted)?;
+        let list = expected::list(&types, self.row, &values);
+        let fits = list.len() + 2 * GUARD <= self.output.len();
+        fits.then_some(list).ok_or(Refusal::Number(14, 0))
+    }
+
+    fn input(&self) -> String {
+        format!(
+            "schema {}, row {}, wanted {:?}, {} bytes of output",
+            hex(self.schema),
+            hex(self.row),
+            self.wanted,
+            self.output.len() - 2 * GUARD
+        )
+    }
+
+    /// The port's number, and the difference if there is one.
+    fn compare(&self) -> (u32, Option<String>) {
+        let port = self.port();
+        let difference = apart("model", &port, &self.model(), || self.input());
+        (
+            port.answer.number,
+            difference.or_else(|| apart("Rust", &listed(&port), &self.told(), || self.input())),
+        )
+    }
+
+    fn judge(&self, number: u32) -> &'static str {
+        let types = rows::columns(self.schema).unwrap_or_default();
+        judge(number, || rust::read(&types, self.row, self.wanted))
+    }
+}
+
+/// The list that a call handed back, or its refusal.
+fn listed(after: &After<RowAnswer>) -> Result<Vec<u8>, Refusal> {
+    let answer = after.answer;
+    match answer.number {
+        0 => {
+            let list = after.output.get(GUARD..GUARD + answer.length);
+            Ok(list.unwrap_or_default().to_vec())
+        }
+        number => Err(Refusal::of((number, answer.place))),
+    }
+}
+
+/// A read of a row of any sort.
+pub fn compare(rng: &mut Rng) -> Compared {
+    let Given {
+        mut sorts,
+        schema,
+        types,
+        row,
+    } = rows::any_given(rng);
+    let (wanted_sort, wanted) = any_wanted(rng, types.len());
+    let (room, output) = any_output(rng, &schema, &row, &wanted);
+    let lent = Lent {
+        schema: &schema,
+        row: &row,
+        wanted: &wanted,
+        output,
+    };
+    let (number, difference) = lent.compare();
+    sorts.extend([
+        format!("wanted {wanted_sort:?}"),
+        format!("output {room:?}"),
+        format!("answer {number}"),
+        lent.judge(number).to_string(),
+    ]);
+    Compared {
+        sorts: counted(sorts),
+        difference,
+    }
+}
+
+/// The reads of every subset of the columns of a row, five columns at most.
+pub fn every_subset(rng: &mut Rng) -> Compared {
+    let columns = rng.pick(&[0, 1, 2, 2, 3, 3, 4, 4, 5]);
+    let types: Vec<_> = (0..columns).map(|_| any_type(rng, 40)).collect();
+    let (sort, row) = any_row(rng, &types);
+    let schema = write_schema(&types);
+    let mut difference = None;
+    for wanted in subsets(columns) {
+        let (_, output) = any_output(rng, &schema, &row, &wanted);
+        let lent = Lent {
+            schema: &schema,
+            row: &row,
+            wanted: &wanted,
+            output,
+        };
+        difference = difference.or(lent.compare().1);
+    }
+    Compared {
+        sorts: vec![
+            (format!("row {sort:?}"), 1),
+            (format!("rows of {columns} columns"), 1),
+            ("subsets read".into(), 1 << columns),
+        ],
+        difference,
+    }
+}

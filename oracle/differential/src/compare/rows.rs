@@ -1,0 +1,122 @@
+//! What the comparisons of calls on rows share: a schema with a row, its own or
+//! not, and what the Rust and 01 tell of it.
+
+use cases::expected::Refusal;
+use cases::generate::row::any_row;
+use cases::generate::schema::{self, any_schema, any_type};
+use cases::rng::Rng;
+use cases::rust::Outcome;
+use cases::schema::{read_schema, write_schema};
+use rookdb::types::datatype::DataType;
+
+/// A schema and a row.
+pub struct Given {
+    pub sorts: Vec<String>,
+    pub schema: Vec<u8>,
+    /// The columns that the row was made for, often those of the schema.
+    pub types: Vec<DataType>,
+    pub row: Vec<u8>,
+}
+
+/// Columns of a good schema: often a few with short slots, so that little hides a
+/// fault and much is run.
+pub fn any_types(rng: &mut Rng) -> Vec<DataType> {
+    let columns = match rng.below(64) {
+        0 => rng.pick(&[0, 100, 255, 256, 256]),
+        1..=7 => return schema::any_types(rng),
+        8..=40 => rng.between(1, 3),
+        _ => rng.between(2, 12),
+    };
+    (0..columns).map(|_| any_type(rng, 40)).collect()
+}
+
+pub fn any_given(rng: &mut Rng) -> Given {
+    let types = any_types(rng);
+    let (sort, row) = any_row(rng, &types);
+    let (schema_sort, schema) = any_schema_for(rng, &types);
+    Given {
+        sorts: vec![schema_sort, format!("row {sort:?}")],
+        schema,
+        types,
+        row,
+    }
+}
+
+/// The schema of these columns; seldom one that differs by a column, or any.
+pub fn any_schema_for(rng: &mut Rng, types: &[DataType]) -> (String, Vec<u8>) {
+    match rng.below(32) {
+        0 => {
+            let (sort, schema) = any_schema(rng);
+            (format!("schema {sort:?}"), schema.bytes)
+        }
+        1 => (
+            "schema with another column".into(),
+            other_schema(rng, types),
+        ),
+        _ => (size(types.len()).into(), write_schema(types)),
+    }
+}
+
+/// A schema's sort by its columns.
+pub fn size(columns: usize) -> &'static str {
+    match columns {
+        0 => "schema of no column",
+        1..=9 => "schema of 1 to 9 columns",
+        10..=99 => "schema of 10 to 99 columns",
+        100..=255 => "schema of 100 to 255 columns",
+        _ => "schema of 256 columns",
+    }
+}
+
+/// A column changed, taken away or added, or two exchanged.
+fn other_schema(rng: &mut Rng, types: &[DataType]) -> Vec<u8> {
+    let mut types = types.to_vec();
+    let at = rng.below(types.len() + 1);
+    let own = at < types.len();
+    match rng.below(4) {
+        0 if own => types[at] = any_type(rng, 40),
+        1 if own => drop(types.remove(at)),
+        2 if own => {
+            let with = rng.below(types.len());
+            types.swap(at, with);
+        }
+        _ => types.insert(at, any_type(rng, 40)),
+    }
+    write_schema(&types)
+}
+
+/// The columns of a schema, or the refusal that was added.
+pub fn columns(schema: &[u8]) -> Result<Vec<DataType>, Refusal> {
+    read_schema(schema).map_err(|refusal| Refusal::Number(refusal.number, refusal.place))
+}
+
+/// Who judges an answer beside the model: the Rust where its outcome is that of
+/// the number in 01's table, else 01 alone.
+pub fn judge<T>(number: u32, rust: impl FnOnce() -> Outcome<T>) -> &'static str {
+    let agrees = match number {
+        0 | 3 | 5 | 6 | 9 => true,
+        7 => matches!(rust(), Outcome::Panicked),
+        8 => matches!(rust(), Outcome::TypeMismatch),
+        _ => false,
+    };
+    if agrees {
+        "judged by the Rust"
+    } else {
+        "judged by 01 alone"
+    }
+}
+
+/// Each sort once.
+pub fn counted(sorts: Vec<String>) -> Vec<(String, u64)> {
+    sorts.into_iter().map(|sort| (sort, 1)).collect()
+}
+
+/// An answer told apart from what is wanted, if it is.
+pub fn apart<P: PartialEq + std::fmt::Debug>(
+    judge: &str,
+    port: &P,
+    wanted: &P,
+    input: impl FnOnce() -> String,
+) -> Option<String> {
+    (port != wanted).then(|| format!("{}\n  port   {port:?}\n  {judge:<6} {wanted:?}", input()))
+}

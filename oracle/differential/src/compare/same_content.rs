@@ -1,0 +1,53 @@
+//! Same content. The Rust has no such call: the model judges, and the values of
+//! the Rust's reads are compared by 01's rules.
+
+use super::rows::{self, apart, counted, judge};
+use crate::lent::{asked, told};
+use crate::{Compared, hex, port};
+use cases::expected::{self, Refusal};
+use cases::generate::pair::any_pair;
+use cases::rng::Rng;
+use cases::rust::{self, Outcome};
+
+/// What the Rust's reads come to.
+fn wanted(schema: &[u8], a: &[u8], b: &[u8]) -> Result<bool, Refusal> {
+    expected::same_content(&rows::columns(schema)?, a, b)
+}
+
+pub fn compare(rng: &mut Rng) -> Compared {
+    let types = rows::any_types(rng);
+    let (pair_sort, (a, b)) = any_pair(rng, &types);
+    let (schema_sort, schema) = rows::any_schema_for(rng, &types);
+    let input = || format!("schema {}, a {}, b {}", hex(&schema), hex(&a), hex(&b));
+    let port = asked([&schema, &a, &b], |[schema, a, b]| {
+        port::same_content(schema, a, b)
+    });
+    let model = told(model::same_content(&schema, &a, &b));
+    let answer = port.answer;
+    let flag = match answer.number {
+        0 => Ok(answer.flag == 1),
+        number => Err(Refusal::of((number, answer.place))),
+    };
+    let difference = apart("model", &port, &model, input)
+        .or_else(|| apart("Rust", &flag, &wanted(&schema, &a, &b), input));
+    let columns = rows::columns(&schema).unwrap_or_default();
+    // The read that refuses is that of the first row, else of the second.
+    let rust = || match rust::read_all(&columns, &a) {
+        Outcome::Ok(_) => rust::read_all(&columns, &b),
+        refused => refused,
+    };
+    let sorts = vec![
+        schema_sort,
+        format!("pair {pair_sort:?}"),
+        match answer.number {
+            0 if a == b => "answer 0, the same bytes".into(),
+            0 => format!("answer 0, flag {}, other bytes", answer.flag),
+            number => format!("answer {number}"),
+        },
+        judge(answer.number, rust).to_string(),
+    ];
+    Compared {
+        sorts: counted(sorts),
+        difference,
+    }
+}

@@ -1,0 +1,133 @@
+//! The port's calls on rows, by librook_row.a, with every number that they hand
+//! back: the crate `rook_row` leaves out what is 0 by 01. What a call only reads
+//! is lent for writing all the same, so that a fault is no undefined behaviour
+//! here, and is seen.
+
+use model::{FlagAnswer, RowAnswer, TextAnswer};
+// Links the library.
+use rook_row as _;
+
+#[repr(C)]
+struct Row {
+    number: u32,
+    place: usize,
+    length: usize,
+}
+
+#[repr(C)]
+struct Flag {
+    number: u32,
+    place: usize,
+    flag: usize,
+}
+
+#[repr(C)]
+struct Text {
+    number: u32,
+    place: usize,
+    start: usize,
+    length: usize,
+}
+
+unsafe extern "C" {
+    fn rook_row_read(
+        schema: *const u8,
+        schema_length: usize,
+        row: *const u8,
+        row_length: usize,
+        wanted: *const u16,
+        wanted_length: usize,
+        out: *mut u8,
+        out_length: usize,
+    ) -> Row;
+
+    fn rook_row_text(
+        schema: *const u8,
+        schema_length: usize,
+        row: *const u8,
+        row_length: usize,
+        column: usize,
+    ) -> Text;
+
+    fn rook_row_same_content(
+        schema: *const u8,
+        schema_length: usize,
+        a: *const u8,
+        a_length: usize,
+        b: *const u8,
+        b_length: usize,
+    ) -> Flag;
+
+    fn rook_row_is_null(row: *const u8, row_length: usize, column: usize) -> Flag;
+}
+
+/// The wanted columns of a row, as a value list in `out`.
+pub fn read(schema: &mut [u8], row: &mut [u8], wanted: &mut [u16], out: &mut [u8]) -> RowAnswer {
+    // SAFETY: pointers and lengths are those of slices, each borrowed alone.
+    let answer = unsafe {
+        rook_row_read(
+            schema.as_mut_ptr(),
+            schema.len(),
+            row.as_mut_ptr(),
+            row.len(),
+            wanted.as_mut_ptr(),
+            wanted.len(),
+            out.as_mut_ptr(),
+            out.len(),
+        )
+    };
+    RowAnswer {
+        number: answer.number,
+        place: answer.place,
+        length: answer.length,
+    }
+}
+
+/// The text of a column, as a part of the row.
+pub fn text(schema: &mut [u8], row: &mut [u8], column: usize) -> TextAnswer {
+    // SAFETY: as above.
+    let answer = unsafe {
+        rook_row_text(
+            schema.as_mut_ptr(),
+            schema.len(),
+            row.as_mut_ptr(),
+            row.len(),
+            column,
+        )
+    };
+    TextAnswer {
+        number: answer.number,
+        place: answer.place,
+        start: answer.start,
+        length: answer.length,
+    }
+}
+
+/// Whether two rows have the same content.
+pub fn same_content(schema: &mut [u8], a: &mut [u8], b: &mut [u8]) -> FlagAnswer {
+    // SAFETY: as above.
+    flag(unsafe {
+        rook_row_same_content(
+            schema.as_mut_ptr(),
+            schema.len(),
+            a.as_mut_ptr(),
+            a.len(),
+            b.as_mut_ptr(),
+            b.len(),
+        )
+    })
+}
+
+/// Whether a column is null, by the row's own header and bitmap.
+pub fn is_null(row: &mut [u8], column: usize) -> FlagAnswer {
+    // SAFETY: as above.
+    flag(unsafe { rook_row_is_null(row.as_mut_ptr(), row.len(), column) })
+}
+
+fn flag(answer: Flag) -> FlagAnswer {
+    FlagAnswer {
+        number: answer.number,
+        place: answer.place,
+        flag: answer.flag,
+    }
+}
