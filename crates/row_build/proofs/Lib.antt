@@ -1,1 +1,14 @@
 pub mod Nulls
+pub mod Tests
+pub mod Walk
+pub mod Bits
+pub mod Measuring
+pub mod Cells
+pub mod Writing
+pub mod Placing
+pub mod Listing
+pub mod Schemas
+pub mod SameNulls
+pub mod Built
+pub mod ReadBuilt
+pub mod ReadBack

@@ -1,3 +1,4 @@
 pub mod Stored
 pub mod Build
 pub mod Steps
+pub mod ReadBack

@@ -1,7 +1,7 @@
 -- For the proofs: what the inner functions hand on.
-use Prim.Native.Nat.{ℕ, _+_, _*_, _≤_, _<_}
-use mathlib.Core.Bool.{Bool, true, false, cond}
-use mathlib.Core.List.{List, [], _∷_, _++_, map}
+use Prim.Native.Nat.{ℕ, _+_, _*_, _/_, _≤_, _<_}
+use mathlib.Core.Bool.{true, false, cond}
+use mathlib.Core.List.{List, [], _++_, map}
 use mathlib.Core.Option.{none, some}
 use mathlib.Core.Path.{_≡_}
 use lib.ListN.{length, replicate}
@@ -10,16 +10,27 @@ use Rattle.error.specs.declared.Refusal.{Refusal}
 use Rattle.error.specs.declared.Answer.{Answer}
 use Rattle.error.specs.declared.Answer.the-variants as Answer
 use Rattle.laws.specs.Bytes.{toLe}
-use Rattle.row_format.specs.Places.{offsetWidth, bitmapSize, tableStart, fixedStart}
+use Rattle.row_format.specs.Places.{offsetWidth, rowLimit, bitmapStart, bitmapSize, tableStart, fixedStart}
 use Rattle.row_format.specs.Table.{Cell, bytes, payloads}
-use Rattle.row_format.specs.Row.{packedFlag, bitmap, varlenCells}
+use Rattle.row_format.specs.Row.{packedFlag, bitmap, varlenCells, builtRow}
 use Rattle.row_format.specs.Edit.{bitEdit}
 use Rattle.row_layout.specs.declared.RowLayout.{RowLayout}
+use Rattle.row_layout.specs.Layout.{Bounded}
 use Rattle.datatype.specs.declared.DataType.{DataType}
-use Rattle.datatype.specs.Types.{isVarlen, shapeOf}
-use Rattle.value_list.specs.Lists.{Values, values, refused as wrong, valuesOf}
+use Rattle.datatype.specs.declared.Record.the-variants as Column
+use Rattle.datatype.specs.Types.{sizeOf, isVarlen, shapeOf, precisionOf}
+use Rattle.datatype.specs.Schema.{recordAt}
+use Rattle.datatype.specs.Check.{typesIn, Accepted}
 use Rattle.value.specs.declared.DataValue.{DataValue}
-use Rattle.row_build.specs.Stored.{Tested, good, refused}
+use Rattle.value.specs.Kinds.{matches}
+use Rattle.value.specs.Ranges.{textOf}
+use Rattle.value_list.specs.declared.ValueRecord.the-variants as Value
+use Rattle.value_list.specs.Records.{recordAt as valueRecordAt}
+use Rattle.value_list.specs.Lists.{Values, values, refused as wrong, valuesOf}
+use Rattle.stored_form.specs.Write.{accepted as holds, storedForm}
+use Rattle.row_build.specs.declared.Given.{Given}
+use Rattle.row_build.specs.Stored.{Tested, good, refused, isNull, cellsFrom}
+use Rattle.row_build.specs.Build.{freshRow}
 
 -- the bytes of a row of nulls, by its layout: header, bits that are set and spare ones that are clear, zeros
 abbrev pub nullBits : ℕ → List ℕ
@@ -27,3 +38,95 @@ nullBits n = bitmap (bitmapSize n) (replicate n none)
 
 unfoldable pub nullRow : RowLayout → List ℕ
 nullRow l = (toLe 2 (l .«num_columns») ++ toLe 2 (l .«num_varlen_cols» + packedFlag)) ++ (nullBits (l .«num_columns») ++ replicate (l .«num_varlen_cols» * offsetWidth + l .«packed_size») 0)
+
+-- ---- schema and value list, walked together
+
+-- the values that a list says, none where it is refused
+abbrev pub valuesGiven : Values → List DataValue
+valuesGiven (values vs) = vs
+valuesGiven (wrong e) = []
+
+unfoldable pub valuesIn : List ℕ → List DataValue
+valuesIn list = valuesGiven (valuesOf list)
+
+-- a schema that was accepted, and a list with a value for each column
+pub record Buildable (s : List ℕ) (l : RowLayout) (list area : List ℕ) : Type 0 where
+  pub accepted : Accepted s l
+  pub taken : valuesOf list ≡ values (valuesIn list)
+  pub count : length (valuesIn list) ≡ length (typesIn s)
+  pub short : length area ≤ rowLimit
+
+-- two places at which there are records
+pub record Readable (s : List ℕ) (at : ℕ) (list : List ℕ) (from : ℕ) : Type 0 where
+  pub column : at < length s
+  pub type-there : {e : Refusal} → recordAt s at ≡ Column.Refused e → ⊥
+  pub value : from < length list
+  pub value-there : {e : Refusal} → valueRecordAt list from ≡ Value.Refused e → ⊥
+
+pub record ReadAt (s : List ℕ) (at : ℕ) (list : List ℕ) (from : ℕ) (g : Given) : Type 0 where
+  pub type-is : recordAt s at ≡ Column.Column (g .ty) (g .«next_type»)
+  pub value-is : valueRecordAt list from ≡ Value.Value (g .value) (g .«next_value»)
+
+-- ---- the first pass: the row's length
+
+-- the payload that a column's cell adds
+abbrev pub payloadOf : DataType → Cell → ℕ
+payloadOf t c = cond (isVarlen t) (length (bytes c)) 0
+
+abbrev pub payloadAnswer : DataType → Tested Cell → Answer
+payloadAnswer t (good c) = Answer.Done (payloadOf t c)
+payloadAnswer t (refused e) = Answer.Refused e
+
+abbrev pub Short : Answer → Type 0
+Short (Answer.Done n) = n ≤ rowLimit
+Short (Answer.Refused e) = Unit {0}
+
+-- m bytes, and the payloads of the cells
+abbrev pub measured : ℕ → List DataType → Tested (List Cell) → Answer
+measured m ts (good cs) = Answer.Done (m + length (payloads (varlenCells (map shapeOf ts) cs)))
+measured m ts (refused e) = Answer.Refused e
+
+-- ---- the second pass: one column after another
+
+-- x stored for the column after those of layout b, in a row of layout l: in its slot, or at the row's end with its offset; and its bit cleared
+abbrev pub fixedStored : RowLayout → RowLayout → List ℕ → List ℕ → List ℕ
+fixedStored l b x out = bitEdit (b .«num_columns») (some x) (sets out (fixedStart offsetWidth (l .«num_columns») (l .«num_varlen_cols») + b .«packed_size») x)
+
+abbrev pub varlenStored : RowLayout → RowLayout → List ℕ → ℕ → List ℕ → List ℕ
+varlenStored l b x end out = bitEdit (b .«num_columns») (some x) (sets (sets out (tableStart (l .«num_columns») + b .«num_varlen_cols» * offsetWidth) (toLe offsetWidth end)) end x)
+
+-- the row's end and the output afterwards
+abbrev pub columnStored : RowLayout → RowLayout → DataType → DataValue → List ℕ → ℕ → List ℕ → ℕ × List ℕ
+columnStored l b t v x end out = cond (isNull v) (end, out) (cond (isVarlen t) (end + length x, varlenStored l b x end out) (end, fixedStored l b x out))
+
+pub record Storable (l b : RowLayout) (t : DataType) (v : DataValue) (area : List ℕ) (end n : ℕ) : Type 0 where
+  pub whole : Bounded l
+  pub before : Bounded b
+  pub column : b .«num_columns» < l .«num_columns»
+  pub bit : bitmapStart + b .«num_columns» / 8 < n
+  pub digits : precisionOf t ≤ 38
+  pub match : matches t v ≡ true
+  pub suited : holds t v area ≡ true
+  pub slot : isVarlen t ≡ false → fixedStart offsetWidth (l .«num_columns») (l .«num_varlen_cols») + b .«packed_size» + sizeOf t ≤ n
+  pub entry : isVarlen t ≡ true → tableStart (l .«num_columns») + b .«num_varlen_cols» * offsetWidth + offsetWidth ≤ n
+  pub payload : isVarlen t ≡ true → end + length (storedForm t v (textOf area v)) ≤ n
+  pub end-fits : end + payloadOf t (some (storedForm t v (textOf area v))) ≤ rowLimit
+
+-- the cells, none where they are refused
+abbrev pub cellsGiven : Tested (List Cell) → List Cell
+cellsGiven (good cs) = cs
+cellsGiven (refused e) = []
+
+abbrev pub cellsIn : List ℕ → List ℕ → List ℕ → List Cell
+cellsIn s list area = cellsGiven (cellsFrom 0 (typesIn s) (valuesIn list) area)
+
+abbrev pub rowOf : List ℕ → List ℕ → List ℕ → List ℕ
+rowOf s list area = builtRow offsetWidth (map shapeOf (typesIn s)) (cellsIn s list area)
+
+-- the row of nulls stands in the output, which has room for the row of the cells
+pub record Fillable (s : List ℕ) (l : RowLayout) (list area out : List ℕ) : Type 0 where
+  pub given : Buildable s l list area
+  pub all : cellsFrom 0 (typesIn s) (valuesIn list) area ≡ good (cellsIn s list area)
+  pub nulls : out ≡ sets out 0 (freshRow offsetWidth (typesIn s))
+  pub room : length (rowOf s list area) ≤ length out
+  pub short : length (rowOf s list area) ≤ rowLimit

@@ -1,18 +1,32 @@
 // row.rs, `serialize_nullable_typed_row`, and `Row::new` then `serialize`: the row of a value list, and the row of nulls, in the lent output.
+use datatype::DataType;
+use datatype::Record;
 use datatype::SchemaCheck;
 use error::Answer;
 use error::Refusal;
 use row_layout::RowLayout;
+use value::DataValue;
+use value_list::ListCheck;
+use value_list::ValueRecord;
 ghost use mathlib.Core.Path.{_≡_};
-ghost use Prim.Native.Nat.{_+_, _≤_};
-ghost use mathlib.Core.Bool.{true};
+ghost use Prim.Native.Nat.{_+_, _/_, _≤_, _<_};
+ghost use mathlib.Core.Bool.{true, false};
+ghost use mathlib.Core.List.{[]};
+ghost use mathlib.Core.Option.{some};
 ghost use lib.ListN.{length};
 ghost use lib.Seq.{sets};
 ghost use Rattle.error.specs.Answer.{placed};
-ghost use Rattle.row_format.specs.Places.{offsetWidth, rowLimit, bitmapSize};
+ghost use Rattle.error.specs.declared.Answer.the-variants.{Done};
+ghost use Rattle.row_format.specs.Places.{offsetWidth, rowLimit, bitmapStart, bitmapSize};
+ghost use Rattle.row_format.specs.Edit.{bitEdit};
 ghost use Rattle.row_layout.specs.Layout.{Bounded, minimumOf};
-ghost use Rattle.row_build.specs.Build.{freshCall};
-ghost use Rattle.row_build.specs.Steps.{nullBits, nullRow};
+ghost use Rattle.datatype.specs.Types.{isVarlen, precisionOf};
+ghost use Rattle.datatype.specs.Check.{typesIn, Accepted};
+ghost use Rattle.value.specs.Ranges.{textOf};
+ghost use Rattle.stored_form.specs.Write.{storedForm};
+ghost use Rattle.row_build.specs.Stored.{isNull, cellIn, cellsFrom};
+ghost use Rattle.row_build.specs.Build.{buildValues, buildRow, buildCall, freshCall};
+ghost use Rattle.row_build.specs.Steps.{nullBits, nullRow, valuesIn, Buildable, Readable, ReadAt, payloadAnswer, Short, measured, fixedStored, varlenStored, columnStored, Storable, rowOf, Fillable};
 
 // n bits that are set, and clear ones up to the end of the last byte.
 fn write_null_bits(out: &mut [u8], at: usize, n: usize)
@@ -64,5 +78,238 @@ pub fn fresh(schema: &[u8], out: &mut [u8]) -> Answer
     match datatype::check_schema(schema) {
         SchemaCheck::Refused(e) => Answer::Refused(e),
         SchemaCheck::Good(layout) => fresh_row(layout, out),
+    }
+}
+
+// A column's type and the value that is given for it, with the places after their records.
+pub struct Given {
+    pub ty: DataType,
+    pub value: DataValue,
+    pub next_type: usize,
+    pub next_value: usize,
+}
+
+// Schema and list were checked, so that neither record is refused here.
+fn given_at(schema: &[u8], at: usize, values: &[u8], from: usize) -> Given
+    requires { ⌜ Readable (now schema) at (now values) from ⌝ }
+    ensures { λ r. ⌜ ReadAt (now (schema .entry)) at (now (values .entry)) from r ⌝ }
+{
+    let nothing = Given {
+        ty: DataType::Bool,
+        value: DataValue::Null,
+        next_type: at,
+        next_value: from,
+    };
+    match datatype::record_at(schema, at) {
+        Record::Refused(_) => nothing,
+        Record::Column(ty, next_type) => match value_list::value_record_at(values, from) {
+            ValueRecord::Refused(_) => nothing,
+            ValueRecord::Value(value, next_value) => Given {
+                ty,
+                value,
+                next_type,
+                next_value,
+            },
+        },
+    }
+}
+
+// The bytes that a column adds to the minimum, or why its value is refused.
+fn payload_size(column: usize, ty: DataType, value: DataValue, text: &[u8]) -> Answer
+    requires { ⌜ (precisionOf ty ≤ 38) × (length (now text) ≤ rowLimit) ⌝ }
+    ensures { λ r. ⌜ (r ≡ payloadAnswer ty (cellIn column ty value (now (text .entry)))) × Short r ⌝ }
+{
+    if value.kind() == 0 {
+        return Answer::Done(0);
+    }
+    if !value::data_value_matches_type(ty, value) {
+        return Answer::Refused(Refusal::WrongKind(column));
+    }
+    if !value_encode::suits(ty, value, text) {
+        return Answer::Refused(Refusal::Unsuitable(column));
+    }
+    if ty.is_variable_length() {
+        return Answer::Done(value.range().length);
+    }
+    Answer::Done(0)
+}
+
+// The row's length, or the first refusal.
+fn row_length(schema: &[u8], layout: RowLayout, values: &[u8], text: &[u8]) -> Answer
+    requires { ⌜ Buildable (now schema) layout (now values) (now text) ⌝ }
+    ensures { λ r. ⌜ r ≡ measured (minimumOf layout true) (typesIn (now (schema .entry))) (cellsFrom 0 (typesIn (now (schema .entry))) (valuesIn (now (values .entry))) (now (text .entry))) ⌝ }
+{
+    let mut size = layout.min_row_size(true);
+    let mut column = 0;
+    let mut at = 0;
+    let mut from = 0;
+    while column < layout.num_columns {
+        let given = given_at(schema, at, values, from);
+        let ty = given.ty;
+        let value = given.value;
+        match payload_size(column, ty, value, text) {
+            Answer::Refused(e) => {
+                return Answer::Refused(e);
+            }
+            Answer::Done(n) => {
+                size += n;
+                column += 1;
+                at = given.next_type;
+                from = given.next_value;
+            }
+        }
+    }
+    Answer::Done(size)
+}
+
+// The bit of column i of n cleared: it is not null.
+fn clear_bit(out: &mut [u8], n: usize, i: usize)
+    requires { ⌜ (i < n) × (bitmapStart + i / 8 < length (now out)) ⌝ }
+    ensures { λ _. ⌜ now (out .exit) ≡ bitEdit i (some []) (now (out .entry)) ⌝ }
+{
+    null_bitmap::clear_null(&mut out[4..], n, i);
+}
+
+// A stored form in its slot.
+fn write_fixed(
+    layout: RowLayout,
+    before: RowLayout,
+    ty: DataType,
+    value: DataValue,
+    text: &[u8],
+    out: &mut [u8],
+)
+    requires { ⌜ Storable layout before ty value (now text) 0 (length (now out)) × (isVarlen ty ≡ false) ⌝ }
+    ensures { λ _. ⌜ now (out .exit) ≡ fixedStored layout before (storedForm ty value (textOf (now (text .entry)) value)) (now (out .entry)) ⌝ }
+{
+    let at = layout.fixed_data_start() + before.packed_size;
+    value_encode::to_bytes_for_type(out, at, ty, value, text);
+    clear_bit(out, layout.num_columns, before.num_columns);
+}
+
+// A payload at the row's end, with its offset; the new end.
+fn write_varchar(
+    layout: RowLayout,
+    before: RowLayout,
+    ty: DataType,
+    value: DataValue,
+    text: &[u8],
+    out: &mut [u8],
+    end: usize,
+) -> usize
+    requires { ⌜ Storable layout before ty value (now text) end (length (now out)) × (isVarlen ty ≡ true) ⌝ }
+    ensures { λ r. ⌜ (r ≡ end + length (storedForm ty value (textOf (now (text .entry)) value))) × (now (out .exit) ≡ varlenStored layout before (storedForm ty value (textOf (now (text .entry)) value)) end (now (out .entry))) ⌝ }
+{
+    let entry = layout.varlen_table_offset() + before.num_varlen_cols * 2;
+    endian::write_u16(out, entry, end as u16);
+    value_encode::to_bytes_for_type(out, end, ty, value, text);
+    clear_bit(out, layout.num_columns, before.num_columns);
+    end + value.range().length
+}
+
+// A column's value: nothing for a null, which the row of nulls has already; the row's end after it.
+fn write_column(
+    layout: RowLayout,
+    before: RowLayout,
+    ty: DataType,
+    value: DataValue,
+    text: &[u8],
+    out: &mut [u8],
+    end: usize,
+) -> usize
+    requires { ⌜ (isNull value ≡ false → Storable layout before ty value (now text) end (length (now out))) ⌝ }
+    ensures { λ r. ⌜ (r, now (out .exit)) ≡ columnStored layout before ty value (storedForm ty value (textOf (now (text .entry)) value)) end (now (out .entry)) ⌝ }
+{
+    if value.kind() == 0 {
+        return end;
+    }
+    if ty.is_variable_length() {
+        return write_varchar(layout, before, ty, value, text, out, end);
+    }
+    write_fixed(layout, before, ty, value, text, out);
+    end
+}
+
+// All columns, over the row of nulls.
+fn write_columns(schema: &[u8], layout: RowLayout, values: &[u8], text: &[u8], out: &mut [u8])
+    requires { ⌜ Fillable (now schema) layout (now values) (now text) (now out) ⌝ }
+    ensures { λ _. ⌜ now (out .exit) ≡ sets (now (out .entry)) 0 (rowOf (now (schema .entry)) (now (values .entry)) (now (text .entry))) ⌝ }
+{
+    let mut before = RowLayout::new();
+    let mut at = 0;
+    let mut from = 0;
+    let mut end = layout.min_row_size(true);
+    while before.num_columns < layout.num_columns {
+        let given = given_at(schema, at, values, from);
+        let ty = given.ty;
+        let value = given.value;
+        end = write_column(layout, before, ty, value, text, out, end);
+        before = before.with_column(ty.shape());
+        at = given.next_type;
+        from = given.next_value;
+    }
+}
+
+// A row of n bytes.
+fn place_row(
+    schema: &[u8],
+    layout: RowLayout,
+    values: &[u8],
+    text: &[u8],
+    out: &mut [u8],
+    n: usize,
+) -> Answer
+    requires { ⌜ Buildable (now schema) layout (now values) (now text) × (Done n ≡ measured (minimumOf layout true) (typesIn (now schema)) (cellsFrom 0 (typesIn (now schema)) (valuesIn (now values)) (now text))) ⌝ }
+    ensures { λ r. ⌜ (r, now (out .exit)) ≡ buildValues offsetWidth rowLimit (typesIn (now (schema .entry))) (valuesIn (now (values .entry))) (now (text .entry)) (now (out .entry)) ⌝ }
+{
+    if 65535 < n {
+        return Answer::Refused(Refusal::RowLimit);
+    }
+    if out.len() < n {
+        return Answer::Refused(Refusal::NoRoom);
+    }
+    write_nulls(layout, out);
+    write_columns(schema, layout, values, text, out);
+    Answer::Done(n)
+}
+
+fn build_values(
+    schema: &[u8],
+    layout: RowLayout,
+    values: &[u8],
+    text: &[u8],
+    out: &mut [u8],
+) -> Answer
+    requires { ⌜ Buildable (now schema) layout (now values) (now text) ⌝ }
+    ensures { λ r. ⌜ (r, now (out .exit)) ≡ buildValues offsetWidth rowLimit (typesIn (now (schema .entry))) (valuesIn (now (values .entry))) (now (text .entry)) (now (out .entry)) ⌝ }
+{
+    match row_length(schema, layout, values, text) {
+        Answer::Refused(e) => Answer::Refused(e),
+        Answer::Done(n) => place_row(schema, layout, values, text, out, n),
+    }
+}
+
+fn build_row(schema: &[u8], layout: RowLayout, values: &[u8], text: &[u8], out: &mut [u8]) -> Answer
+    requires { ⌜ Accepted (now schema) layout ⌝ }
+    ensures { λ r. ⌜ (r, now (out .exit)) ≡ buildRow offsetWidth rowLimit (typesIn (now (schema .entry))) (now (values .entry)) (now (text .entry)) (now (out .entry)) ⌝ }
+{
+    match value_list::check_values(values, layout.num_columns, text.len()) {
+        ListCheck::Refused(e) => Answer::Refused(e),
+        ListCheck::Good => build_values(schema, layout, values, text, out),
+    }
+}
+
+// The row of a value list, whose texts are in the text area.
+pub fn serialize_nullable_typed_row(
+    schema: &[u8],
+    values: &[u8],
+    text: &[u8],
+    out: &mut [u8],
+) -> Answer
+    ensures { λ r. ⌜ (r, now (out .exit)) ≡ buildCall offsetWidth rowLimit (now (schema .entry)) (now (values .entry)) (now (text .entry)) (now (out .entry)) ⌝ }
+{
+    match datatype::check_schema(schema) {
+        SchemaCheck::Refused(e) => Answer::Refused(e),
+        SchemaCheck::Good(layout) => build_row(schema, layout, values, text, out),
     }
 }

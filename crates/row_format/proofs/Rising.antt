@@ -10,7 +10,7 @@ use lib.ListN.{length, getD, take, drop, length-drop, take-append-drop}
 use lib.Seq.{drop-drop, drop-length, drop-cons, length-take-le, take-add, getD-drop}
 use Rattle.laws.specs.Bytes.{toLe, fromLe, toTable, fromTable, entryAt}
 use Rattle.laws.proofs.Bytes.{Below, below-drop, below-take, to-from, length-fromTable, table-entry}
-use Rattle.row_format.specs.Table.{Cell, payloads, offsets, lay, orElse, firstOffset, rangeEnd}
+use Rattle.row_format.specs.Table.{payloads, offsets, lay, orElse, firstOffset, rangeEnd}
 use Rattle.row_format.specs.Edit.{rangeStart}
 use Rattle.row_format.specs.Rising.{Rising, heldAt, heldCells, Between}
 

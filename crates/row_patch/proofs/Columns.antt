@@ -1,7 +1,7 @@
 -- A fixed column's slot and a column's bit; a column of any type.
-use Prim.Native.Nat.{ℕ, _+_, _*_, _-_, _/_, _≤_, _<_}
+use Prim.Native.Nat.{ℕ, _+_, _-_, _/_, _≤_, _<_}
 use mathlib.Core.Path.{_≡_, refl, sym, ap, _∙_}
-use mathlib.Core.Bool.{Bool, true, false, cond}
+use mathlib.Core.Bool.{Bool, true, false}
 use mathlib.Core.List.{List, _++_, append-nil}
 use mathlib.Core.Option.{none, some}
 use native.Mathlib.Omega.{arith}
@@ -16,7 +16,7 @@ use Rattle.laws.proofs.Stores.{sets-left, sets-splice}
 use Rattle.laws.proofs.Truths.{by-cond}
 use Rattle.null_bitmap.specs.declared.BitAnswer.{BitAnswer}
 use Rattle.null_bitmap.specs.Bitmap.{flagPut}
-use Rattle.row_format.specs.Places.{tableStart, fixedStart, offsetWidth}
+use Rattle.row_format.specs.Places.{tableStart, offsetWidth}
 use Rattle.row_format.specs.Table.{Cell, bytes}
 use Rattle.row_format.specs.Edit.{slotEdit, rangeEdit}
 use Rattle.row_format.specs.declared.Shape.the-variants.{Fixed}
@@ -29,7 +29,7 @@ use Rattle.value.specs.declared.DataValue.{DataValue}
 use Rattle.value.specs.Ranges.{rangeOf, textOf}
 use Rattle.stored_form.proofs.Lengths.{length-stored, accepted-suits}
 use Rattle.row_column.specs.Column.{slotPlace}
-use Rattle.row_patch.specs.Held.{held, Holds}
+use Rattle.row_patch.specs.Held.{Holds}
 use Rattle.row_patch.specs.Stores.{formOf, bitPut, columnSet, rowSet, Suited, Editable}
 use Rattle.row_patch.proofs.Held.{row-of, held-again}
 use Rattle.row_patch.proofs.Ranges.{length-text}
@@ -42,7 +42,6 @@ length-slot {t} {v} {area} s e = length-stored t v (textOf area v) (s .kind) (ac
 -- q is the buffer after the store
 pub slot-stored : (b bs q : List ℕ) (n at z : ℕ) → length bs ≡ z → at + z ≤ n → n ≤ length b → q ≡ sets b at bs → Holds b (slotEdit at z (some bs) (take n b)) q n
 slot-stored b bs q n at z l h k d =
-    let r : ℕ = length (take n b) in
     let m : length (take n b) ≡ n = length-take-le n b k in
     let low : at + length bs ≤ length (take n b) = rw (l, m) h in
     let row : sets (take n b) at bs ≡ splice at (at + z) bs (take n b) = sets-splice (take n b) at bs low ∙ rw l in

@@ -18,10 +18,12 @@ use Rattle.row_layout.proofs.Columns.{layout-slot}
 use Rattle.datatype.specs.declared.DataType.{DataType}
 use Rattle.datatype.specs.declared.DataType.the-variants.{Varchar}
 use Rattle.datatype.specs.Types.{sizeOf, alignmentOf, isVarlen, shapeOf}
-use Rattle.datatype.specs.Check.{typeAt, layoutFor, layoutBefore}
-use Rattle.row_column.specs.Column.{slotPlace}
-use Rattle.row_column.proofs.Reach.{columns-before}
-use Rattle.row_patch.specs.Stores.{columnSet, rowSet}
+use Rattle.datatype.specs.Check.{typeAt, layoutFor, layoutBefore, typesIn, Accepted}
+use Rattle.row_column.specs.declared.Column.{Column}
+use Rattle.row_column.specs.Frame.{Framed}
+use Rattle.row_column.specs.Column.{slotPlace, Found}
+use Rattle.row_column.proofs.Reach.{columns-before, reach}
+use Rattle.row_patch.specs.Stores.{columnSet, rowSet, RangeReady, Editable}
 
 -- a and e are the range of a Varchar of the layout l, in the row r
 abbrev pub RangeOf : RowLayout → RowLayout → ℕ → ℕ → List ℕ → Type 0
@@ -71,3 +73,14 @@ module _ (ts : List DataType) (p : Bool) (i : ℕ) (c : Cell) (r : List ℕ) (a 
   unfolding Leaves
   row-edited {l} {b} {t} x y z h =
       subst (λ (k : RowLayout). Leaves k b t) (sym x) (subst (λ (k : RowLayout). Leaves (layoutFor ts) k t) (sym y) (subst (Leaves (layoutFor ts) before) (sym z) (set-edited h)))
+
+-- ---- as the calls have it: a schema that was accepted, and the column that was found in it
+
+module _ {s : List ℕ} {l : RowLayout} {i : ℕ} {k : Column} (f : Found s i k) (h : i < length (typesIn s)) where
+  pub editable : {p : Bool} {n a e z : ℕ} {buf : List ℕ} → Framed s l p (take n buf) → n ≤ length buf
+      → (isVarlen (k .ty) ≡ true → RangeReady (tableStart (l .«num_columns»)) (l .«num_varlen_cols») (k .before .«num_varlen_cols») n a e z buf) → Editable l p (k .before) (k .ty) n a e z buf
+  editable r inside range = record { reach = reach r (k .before) (k .ty) i h (f .layout) (f .type-is) (f .bounded) (f .digits); inside = inside; range = range }
+
+  pub found-edited : (p : Bool) (c : Cell) (r : List ℕ) (a e : ℕ) → Accepted s l → (isVarlen (k .ty) ≡ true → RangeOf l (k .before) a e r)
+      → rowSet l p (k .before) (k .ty) a e c r ≡ editedRow offsetWidth p (map shapeOf (typesIn s)) i c r
+  found-edited p c r a e x = row-edited (typesIn s) p i c r a e (sym (x .layout)) (f .layout) (f .type-is) h

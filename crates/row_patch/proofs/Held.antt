@@ -1,24 +1,18 @@
 -- A row held in a buffer: its bytes replaced by others, and stores in the row alone.
 use Prim.Native.Nat.{ℕ, _+_, _-_, _≤_}
 use mathlib.Core.Path.{_≡_, sym, ap, _∙_}
-use mathlib.Core.List.{List, [], _++_, append-assoc}
+use mathlib.Core.List.{List, _++_, append-assoc}
 use native.Mathlib.Nat.{add-zero}
 use native.Mathlib.Omega.{arith}
 use lib.ListN.{length, take, drop, length-append, length-drop}
-use lib.Seq.{sets, length-sets, take-add, take-at, drop-at, take-take, drop-drop, length-take-le}
+use lib.Seq.{sets, length-sets, take-at, drop-at, take-take, drop-drop, length-take-le}
 use Rattle.laws.specs.Bytes.{splice}
 use Rattle.laws.proofs.Bytes.{length-splice}
 use Rattle.laws.proofs.Stores.{sets-append, sets-splice, sets-comm}
 use Rattle.laws.proofs.Parts.{part-all}
-use Rattle.laws.proofs.Lent.{lent-stores}
+use Rattle.laws.proofs.Lent.{drop-take, lent-stores}
 use Rattle.row_patch.specs.Held.{held}
 use Rattle.row_patch.specs.Stores.{Replaceable}
-
--- what is left of the first n
-pub drop-take : (n e : ℕ) (l : List ℕ) → e ≤ n → n ≤ length l → drop e (take n l) ≡ take (n - e) (drop e l)
-drop-take n e l h k =
-    let m : n ≡ e + (n - e) = omega arith in
-    ap (λ (j : ℕ). drop e (take j l)) m ∙ rw take-add (drop-at (take e l) (take (n - e) (drop e l)) e (length-take-le e l (omega arith)))
 
 module _ {n a e z : ℕ} {b : List ℕ} (h : Replaceable n a e z b) (bs : List ℕ) (size : length bs ≡ z) where
   abbrev tail : List ℕ

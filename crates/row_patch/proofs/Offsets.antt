@@ -1,16 +1,16 @@
 -- An offset that moves or stays, a turn of the loop over the higher ranks, and the whole table.
 use Prim.Native.Nat.{ℕ, zero, suc, _+_, _*_, _-_, _≤_, _<_}
 use mathlib.Core.Path.{_≡_, refl, sym, ap, _∙_}
-use mathlib.Core.List.{List, [], _∷_, _++_, map, append-assoc}
+use mathlib.Core.List.{List, _∷_, _++_, map}
 use native.Mathlib.Nat.{mul-le-mul-right, add-mul, suc-mul}
 use native.Mathlib.Numerals.{add-one}
 use native.Mathlib.Omega.{arith}
 use lib.ListN.{length, take, drop, length-append, length-drop, length-map}
-use lib.Seq.{sets, length-sets, take-add, drop-drop, length-take-le, take-append-seam, take-at}
-use Rattle.laws.specs.Bytes.{toLe, fromLe, toTable, fromTable, entryAt, splice}
-use Rattle.laws.proofs.Bytes.{Below, AllBytes, all-below, below-drop, below-take, to-from, length-toLe, length-toTable, length-fromTable, length-splice, toTable-append}
+use lib.Seq.{sets, length-sets, drop-drop, length-take-le}
+use Rattle.laws.specs.Bytes.{toLe, fromLe, toTable, fromTable, entryAt}
+use Rattle.laws.proofs.Bytes.{AllBytes, all-below, below-drop, length-toLe, length-toTable, length-fromTable, toTable-append}
 use Rattle.laws.proofs.Stores.{sets-append, sets-self, sets-splice, sets-comm}
-use Rattle.laws.proofs.Entries.{table-take, table-drop, table-to-from}
+use Rattle.laws.proofs.Entries.{stored-again, table-take, table-drop, table-to-from}
 use Rattle.laws.proofs.Lent.{drop-sets}
 use Rattle.row_format.specs.Edit.{movedBy}
 use Rattle.row_patch.specs.Offsets.{movedFrom, tableEdit, CanMove, HigherMove}
@@ -20,14 +20,6 @@ use Rattle.row_patch.specs.Offsets.{movedFrom, tableEdit, CanMove, Highe
 moved-some : (e f o : ℕ) → (o ≡ 0 → ⊥) → movedBy e f o ≡ o + f - e
 moved-some e f zero n = absurd (n refl)
 moved-some e f (suc o) n = refl
-
--- bytes that were read, stored again
-stored-again : (w at : ℕ) (r : List ℕ) → AllBytes r → at + w ≤ length r → sets r at (toLe w (fromLe (take w (drop at r)))) ≡ r
-stored-again w at r a h =
-    let bs : List ℕ = take w (drop at r) in
-    let n : length bs ≡ w = length-take-le w (drop at r) (rw length-drop (omega arith)) in
-    let same : toLe w (fromLe bs) ≡ bs = ap (λ (k : ℕ). toLe k (fromLe bs)) (sym n) ∙ to-from bs (below-take 256 w (drop at r) (below-drop 256 at r (all-below r a))) in
-    rw same (sets-self r at w h)
 
 -- o is the offset that was read
 module _ (w t j e f o : ℕ) (r : List ℕ) (read : o ≡ entryAt w t j r) where

@@ -1,19 +1,20 @@
 -- The range of a Varchar replaced and its table written anew.
-use Prim.Native.Nat.{ℕ, zero, suc, _+_, _*_, _-_, _≤_, _<_}
-use mathlib.Core.Path.{_≡_, refl, sym, ap, _∙_}
-use mathlib.Core.Bool.{true, cond}
-use mathlib.Core.List.{List, _∷_, _++_}
+use Prim.Native.Nat.{ℕ, _+_, _-_, _<_}
+use mathlib.Core.Path.{_≡_, sym, ap, _∙_}
+use mathlib.Core.Bool.{true}
+use mathlib.Core.List.{List, _++_}
 use native.Mathlib.Omega.{arith}
-use lib.ListN.{length, getD, take, drop, length-drop, take-append-drop}
-use lib.Seq.{take-append-le, drop-append-le, length-take-le}
-use Rattle.laws.specs.Bytes.{fromLe, fromTable, entryAt, splice}
+use lib.ListN.{length, getD, take, drop, length-drop}
+use lib.Seq.{length-take-le}
+use Rattle.laws.specs.Bytes.{fromTable, entryAt, splice}
 use Rattle.laws.proofs.Bytes.{table-entry}
+use Rattle.laws.proofs.Entries.{table-before}
 use Rattle.row_format.specs.Places.{offsetWidth}
 use Rattle.row_format.specs.Table.{Cell, bytes, offset}
 use Rattle.row_format.specs.Edit.{rangeEdit}
 use Rattle.row_format.proofs.Edit.{length-range-edit}
 use Rattle.datatype.specs.declared.DataType.{DataType}
-use Rattle.datatype.specs.Types.{sizeOf, isVarlen}
+use Rattle.datatype.specs.Types.{isVarlen}
 use Rattle.value.specs.declared.DataValue.{DataValue}
 use Rattle.value.specs.Ranges.{rangeOf, textOf}
 use Rattle.stored_form.proofs.Lengths.{length-stored, accepted-inside, accepted-suits}
@@ -21,23 +22,6 @@ use Rattle.row_patch.specs.Held.{held, Holds}
 use Rattle.row_patch.specs.Offsets.{tableEdit, CanMove, HigherMove}
 use Rattle.row_patch.specs.Stores.{formOf, Suited, RangeReady}
 use Rattle.row_patch.proofs.Held.{length-spliced, row-of, held-again}
-
--- ---- a table in the first of two parts
-
-table-left : (w v : ℕ) (p q : List ℕ) → v * w ≤ length p → fromTable w v (p ++ q) ≡ fromTable w v p
-table-left w zero p q h = refl
-table-left w (suc v) p q h =
-    let l : w ≤ length p = omega arith in
-    rw (take-append-le w p q l, drop-append-le w p q l, table-left w v (drop w p) q (rw length-drop (omega arith)))
-
--- replaced bytes behind it leave it
-table-before : (w t v a e : ℕ) (bs r : List ℕ) → t + v * w ≤ a → a ≤ length r → fromTable w v (drop t (splice a e bs r)) ≡ fromTable w v (drop t r)
-table-before w t v a e bs r h k =
-    let n : length (take a r) ≡ a = length-take-le a r k in
-    let l : t ≤ length (take a r) = omega (arith, n) in
-    let part : (q : List ℕ) → fromTable w v (drop t (take a r ++ q)) ≡ fromTable w v (drop t (take a r))
-    = λ q. rw (drop-append-le t (take a r) q l) (table-left w v (drop t (take a r)) q (rw (length-drop, n) (omega arith))) in
-    part (bs ++ drop e r) ∙ sym (part (drop a r)) ∙ rw take-append-drop
 
 -- ---- the text of a Varchar
 

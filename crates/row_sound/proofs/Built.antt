@@ -1,8 +1,8 @@
 -- Every row that is built of accepted values is sound.
-use Prim.Native.Nat.{ℕ, suc, _+_, _*_, _%_, _^_, _≤_, _<_}
+use Prim.Native.Nat.{ℕ, _+_, _%_, _^_, _≤_, _<_}
 use mathlib.Core.Path.{_≡_, refl, sym, ap, _∙_, subst}
 use mathlib.Core.Bool.{Bool, true, false, cond}
-use mathlib.Core.List.{List, [], _∷_, _++_, map, append-assoc}
+use mathlib.Core.List.{List, [], _++_, map, append-assoc}
 use mathlib.Core.Option.{none, some}
 use native.Mathlib.Omega.{arith}
 use borrow.Author.Tests.{le-ltb, le-leb, eq-eqb}
@@ -15,7 +15,7 @@ use Rattle.laws.specs.Forall.{Forall₂, nil, cons}
 use Rattle.laws.proofs.Forall.{forall-get, forall-length}
 use Rattle.row_format.specs.declared.Shape.{Shape}
 use Rattle.row_format.specs.declared.Shape.the-variants.{Fixed, Varlen}
-use Rattle.row_format.specs.Places.{varlens, rankOf, slotStart, bitmapSize, bitmapStart, fixedStart, offsetWidth, minimum}
+use Rattle.row_format.specs.Places.{varlens, slotStart, bitmapSize, bitmapStart, offsetWidth}
 use Rattle.row_format.specs.Table.{Cell, bytes, lay}
 use Rattle.row_format.specs.Row.{packedFlag, header, nullBit, bitmap, varlenCells, rowWith, slotsOf, builtRow, slotSize, FitsCell}
 use Rattle.row_format.proofs.Places.{packed-inside}
@@ -29,14 +29,11 @@ use Rattle.datatype.specs.declared.DataType.the-variants.{Varchar}
 use Rattle.datatype.specs.Types.{sizeOf, alignmentOf, isVarlen, shapeOf}
 use Rattle.datatype.specs.Check.{typeAt, layoutFor}
 use Rattle.value.specs.Ranges.{textOf}
-use Rattle.stored_form.specs.Write.{storedForm}
-use Rattle.stored_form.specs.ReadBack.{readBack}
 use Rattle.stored_form.proofs.Lengths.{accepted-suits, length-stored}
 use Rattle.stored_form.proofs.ReadBack.{read-stored}
-use Rattle.row_column.specs.declared.Frame.{Frame}
 use Rattle.row_column.specs.declared.Frame.the-variants.{Good}
-use Rattle.row_column.specs.Frame.{columnCount, varlenField, isPacked, frameOf, onFrame}
-use Rattle.row_sound.specs.Sound.{isSoundIn, isSound}
+use Rattle.row_column.specs.Frame.{columnCount, varlenField, isPacked, frameOf}
+use Rattle.row_sound.specs.Sound.{isSoundIn}
 use Rattle.row_sound.specs.Written.{Writes, null, form}
 use Rattle.row_sound.proofs.Laid.{isForm, soundCell, soundSlot, soundPart, Parts, shape-at, slot-of, bit-of, laid-sound}
 

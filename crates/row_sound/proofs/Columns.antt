@@ -1,7 +1,7 @@
 -- The columns of a sound row by their numbers, and its offsets, which rise.
-use Prim.Native.Nat.{ℕ, zero, suc, _+_, _*_, _-_, _≤_, _<_}
-use mathlib.Core.Path.{_≡_, refl, sym, ap, _∙_, subst}
-use mathlib.Core.Bool.{Bool, true, false, cond, not, false≢true}
+use Prim.Native.Nat.{ℕ, zero, suc, _+_, _-_, _≤_, _<_}
+use mathlib.Core.Path.{_≡_, refl, sym, ap, _∙_}
+use mathlib.Core.Bool.{Bool, true, false, cond, false≢true}
 use mathlib.Core.List.{List, [], _∷_, map}
 use native.Mathlib.Nat.{le-refl}
 use native.Mathlib.Numerals.{add-one}
@@ -14,7 +14,6 @@ use Rattle.laws.specs.Bits.{bitAt}
 use Rattle.laws.specs.Bytes.{fromTable, entryAt}
 use Rattle.laws.proofs.Bytes.{Below, length-fromTable, table-entry}
 use Rattle.laws.proofs.Truths.{both, by-cond}
-use Rattle.row_format.specs.declared.Shape.the-variants.{Fixed, Varlen}
 use Rattle.row_format.specs.Places.{varlens, rankAfter, bitmapStart, tableStart, fixedStart, offsetWidth}
 use Rattle.row_format.specs.Table.{lay, firstOffset, rangeEnd}
 use Rattle.row_format.specs.Rising.{Rising, heldCells, Between}
@@ -30,8 +29,7 @@ use Rattle.datatype.specs.Types.{isVarlen, shapeOf}
 use Rattle.datatype.specs.Check.{typeAt, layoutFor, layoutBefore}
 use Rattle.datatype.proofs.Again.{before-next, grown}
 use Rattle.value.specs.declared.DataValue.the-variants.{Null}
-use Rattle.row_column.specs.declared.ColumnRead.{ColumnRead}
-use Rattle.row_column.specs.declared.ColumnRead.the-variants.{Value, Refused}
+use Rattle.row_column.specs.declared.ColumnRead.the-variants.{Value}
 use Rattle.row_column.specs.Column.{varlenValue, columnValue}
 use Rattle.row_sound.specs.Sound.{reads, zeroIfNull, soundColumn, soundFrom, firstPayload, isSoundIn}
 

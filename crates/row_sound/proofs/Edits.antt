@@ -1,40 +1,34 @@
 -- A sound row whose column is set to null or to an accepted value is sound.
-use Prim.Native.Nat.{ℕ, zero, suc, _+_, _*_, _-_, _/_, _%_, _^_, _≤_, _<_}
+use Prim.Native.Nat.{ℕ, _+_, _-_, _/_, _^_, _≤_, _<_}
 use mathlib.Core.Path.{_≡_, refl, sym, ap, _∙_}
 use mathlib.Core.Bool.{Bool, true, false}
-use mathlib.Core.List.{List, [], _∷_, _++_, map, append-assoc}
+use mathlib.Core.List.{List, _++_, map, append-assoc}
 use mathlib.Core.Option.{none, some}
 use native.Mathlib.Omega.{arith}
-use borrow.Author.Tests.{ltb-false}
-use lib.Dec.{eqb, ltb}
-use lib.ListN.{length, getD, take, drop, set, length-drop, length-map, length-set}
-use lib.Seq.{take-at, take-take, take-add, length-take-le, getD-take, getD-set-same, getD-set-other}
+use lib.ListN.{length, getD, take, drop, set, length-map, length-set}
+use lib.Seq.{take-at, take-take, length-take-le, getD-take, getD-set-same, getD-set-other}
 use Rattle.laws.specs.Bits.{bitAt, putBitAt}
-use Rattle.laws.specs.Bytes.{fromTable, splice}
-use Rattle.laws.proofs.Bytes.{Below, length-fromTable, same-length-splice, splice-outside}
+use Rattle.laws.specs.Bytes.{splice}
+use Rattle.laws.proofs.Bytes.{same-length-splice, splice-outside}
 use Rattle.laws.proofs.Parts.{part-at, part-same}
-use Rattle.laws.proofs.Truths.{cases, by-cond}
+use Rattle.laws.proofs.Truths.{cases}
 use Rattle.row_format.specs.declared.Shape.{Shape}
 use Rattle.row_format.specs.declared.Shape.the-variants.{Fixed, Varlen}
-use Rattle.row_format.specs.Places.{varlens, rankOf, slotStart, bitmapSize, bitmapStart, tableStart, fixedStart, offsetWidth}
+use Rattle.row_format.specs.Places.{rankOf, slotStart, bitmapSize, offsetWidth}
 use Rattle.row_format.specs.Table.{Cell, bytes, lay}
-use Rattle.row_format.specs.Row.{packedFlag, nullBit, slotSize, FitsCell}
+use Rattle.row_format.specs.Row.{nullBit, slotSize, FitsCell}
 use Rattle.row_format.specs.Edit.{slotEdit, editedRow}
-use Rattle.row_format.specs.Rising.{heldCells}
 use Rattle.row_format.proofs.Bitmap.{null-bit-le}
 use Rattle.row_format.proofs.Places.{rank-inside, slot-inside, slots-apart}
-use Rattle.row_format.proofs.Rising.{length-held}
 use Rattle.row_format.proofs.Edit.{edit-fixed, edit-varlen}
-use Rattle.row_layout.specs.declared.RowLayout.{RowLayout}
-use Rattle.row_layout.specs.Layout.{sizeIn, minimumOf}
+use Rattle.row_layout.specs.Layout.{minimumOf}
 use Rattle.datatype.specs.declared.DataType.{DataType}
 use Rattle.datatype.specs.Types.{sizeOf, alignmentOf, isVarlen, shapeOf}
 use Rattle.datatype.specs.Check.{typeAt, layoutFor}
 use Rattle.datatype.proofs.Again.{all-aligned}
-use Rattle.row_sound.specs.Sound.{isSoundIn, isSound}
+use Rattle.row_sound.specs.Sound.{isSoundIn}
 use Rattle.row_sound.specs.Written.{Writes}
-use Rattle.row_sound.proofs.Columns.{offsetsOf, sound-at, sound-long, sound-lay}
-use Rattle.row_sound.proofs.Laid.{soundPart, Parts, shape-at, size-in, column-lay, laid-length, laid-sound}
+use Rattle.row_sound.proofs.Laid.{soundPart, Parts, shape-at, laid-length, laid-sound}
 use Rattle.row_sound.proofs.Built.{none-some, writes-form, writes-fits, written-cell, written-slot}
 use Rattle.row_sound.proofs.PutBits.{bit-at-put, bit-at-kept}
 

@@ -20,8 +20,7 @@ use Rattle.row_format.specs.Table.{Cell, bytes, payloads, offset, base, lay, fi
 use Rattle.row_format.specs.Row.{slotSize}
 use Rattle.row_format.proofs.Places.{slot-inside, rank-inside}
 use Rattle.row_format.proofs.Table.{length-lay, past-table, table-read, first-offsets, place, entry-lay, end-lay, range-lay}
-use Rattle.row_layout.specs.declared.RowLayout.{RowLayout}
-use Rattle.row_layout.specs.Layout.{layoutOf, noColumns, sizeIn, minimumOf}
+use Rattle.row_layout.specs.Layout.{layoutOf, sizeIn, minimumOf}
 use Rattle.row_layout.specs.Range.{rangeOf}
 use Rattle.row_layout.proofs.Columns.{layout-slot}
 use Rattle.datatype.specs.declared.DataType.{DataType}
@@ -35,7 +34,7 @@ use Rattle.stored_form.specs.declared.SlotRead.{SlotRead}
 use Rattle.stored_form.specs.declared.SlotRead.the-variants as Slot
 use Rattle.stored_form.specs.Read.{valueIf, whole, readSlot}
 use Rattle.row_column.specs.declared.ColumnRead.the-variants.{Value}
-use Rattle.row_column.specs.Column.{slotValue, readBytes, varlenValue, slotPlace, columnValue}
+use Rattle.row_column.specs.Column.{slotValue, readBytes, varlenValue}
 use Rattle.row_sound.specs.Sound.{reads, zeroIfNull, soundColumn, firstPayload, isSoundIn}
 use Rattle.row_sound.proofs.Columns.{columns-sound}
 

@@ -1,29 +1,35 @@
 -- What the calls cite of sound rows: what the test says, the row's parts, and that built rows and edits of sound rows are sound.
-use Prim.Native.Nat.{ℕ, _+_, _*_, _%_, _^_, _≤_, _<_}
+use Prim.Native.Nat.{ℕ, suc, _+_, _-_, _%_, _^_, _≤_, _<_}
 use mathlib.Core.Path.{_≡_, refl, sym, ap, _∙_, subst}
 use mathlib.Core.Bool.{Bool, true, false, cond}
 use mathlib.Core.List.{List, _++_, map}
+use mathlib.Core.Option.{none}
 use native.Mathlib.Omega.{arith}
 use borrow.Author.Tests.{ltb-false}
 use lib.Dec.{eqb, ltb}
-use lib.ListN.{length, take, drop, length-drop}
+use lib.ListN.{length, getD, take, drop, length-drop, length-map}
 use lib.Seq.{take-add, length-take-le}
 use Rattle.error.specs.declared.Refusal.the-variants as Refusal
+use Rattle.laws.specs.Bytes.{entryAt}
 use Rattle.laws.specs.Forall.{Forall₂}
-use Rattle.laws.proofs.Bytes.{Below, length-fromTable}
+use Rattle.laws.proofs.Bytes.{Below, length-fromTable, table-entry}
 use Rattle.laws.proofs.Truths.{by-cond}
 use Rattle.row_format.specs.declared.Shape.{Shape}
-use Rattle.row_format.specs.Places.{varlens, bitmapStart, bitmapSize, tableStart, fixedStart, offsetWidth}
-use Rattle.row_format.specs.Table.{Cell, lay}
-use Rattle.row_format.specs.Row.{packedFlag, builtRow}
-use Rattle.row_format.specs.Edit.{editedRow}
-use Rattle.row_format.specs.Rising.{heldCells}
-use Rattle.row_format.proofs.Rising.{length-held}
+use Rattle.row_format.specs.declared.Shape.the-variants.{Fixed, Varlen}
+use Rattle.row_format.specs.Places.{varlens, fixedSize, rankOf, slotStart, bitmapStart, bitmapSize, tableStart, fixedStart, offsetWidth}
+use Rattle.row_format.specs.Table.{Cell, bytes, lay, firstOffset, rangeEnd}
+use Rattle.row_format.specs.Row.{packedFlag, builtRow, slotSize}
+use Rattle.row_format.specs.Edit.{rangeStart, editedRow}
+use Rattle.row_format.specs.Rising.{heldAt, heldCells, Between}
+use Rattle.row_format.proofs.Places.{rank-inside, slot-inside}
+use Rattle.row_format.proofs.Edit.{length-edited-fixed, length-edited}
+use Rattle.row_format.proofs.Rising.{length-held, held-at}
 use Rattle.row_layout.specs.declared.RowLayout.{RowLayout}
 use Rattle.row_layout.specs.Layout.{sizeIn, minimumOf}
 use Rattle.datatype.specs.declared.DataType.{DataType}
-use Rattle.datatype.specs.Types.{shapeOf}
+use Rattle.datatype.specs.Types.{sizeOf, alignmentOf, isVarlen, shapeOf}
 use Rattle.datatype.specs.Check.{typeAt, layoutFor, layoutBefore}
+use Rattle.datatype.proofs.Again.{all-aligned}
 use Rattle.row_column.specs.declared.Frame.{Frame}
 use Rattle.row_column.specs.declared.Frame.the-variants.{Good, Refused}
 use Rattle.row_column.specs.Frame.{columnCount, varlenField, isPacked, frameOf, onFrame}
@@ -31,11 +37,11 @@ use Rattle.row_column.proofs.Depends.{frame-depends}
 use Rattle.row_sound.specs.declared.Soundness.{Soundness}
 use Rattle.row_sound.specs.declared.Soundness.the-variants.{Sound, NotSound}
 use Rattle.row_sound.specs.Sound.{soundColumn, isSoundIn, isSound, soundIn, soundness, SoundRow}
-use Rattle.row_sound.specs.Written.{Writes}
-use Rattle.row_sound.proofs.Columns.{offsetsOf, sound-at, sound-long, sound-lay}
-use Rattle.row_sound.proofs.Laid.{soundPart, Parts, size-in, column-lay}
-use Rattle.row_sound.proofs.Built.{built-frame, built-sound-in}
-use Rattle.row_sound.proofs.Edits.{Edited, edited}
+use Rattle.row_sound.specs.Written.{Writes, null}
+use Rattle.row_sound.proofs.Columns.{offsetsOf, sound-at, sound-ranges, sound-long, sound-lay}
+use Rattle.row_sound.proofs.Laid.{soundPart, Parts, shape-at, size-in, column-lay}
+use Rattle.row_sound.proofs.Built.{writes-fits, built-frame, built-sound-in}
+use Rattle.row_sound.proofs.Edits.{edited}
 
 -- ---- what the test says
 
@@ -105,9 +111,46 @@ module _ {limit : ℕ} {ts : List DataType} {p : Bool} {r : List ℕ} (s : Sound
   abbrev cells : List Cell
   cells = heldCells (offsetsOf ts r) r
 
-  module _ (small : limit < 256 ^ offsetWidth) (bytes : Below 256 r) where
+  -- a Varchar's range lies between the payloads of lower and of higher rank, and is its cell
+  pub row-ranges : (k : ℕ) → k < varlens ss → Between offsetWidth (tableStart (length ss)) (varlens ss) k (minimumOf (layoutFor ts) p) r
+  row-ranges = sound-ranges p ts r (s .sound)
+
+  pub row-cell : (k : ℕ) → k < varlens ss → getD cells k none ≡ heldAt (entryAt offsetWidth (tableStart (length ss)) k r) (rangeEnd offsetWidth (tableStart (length ss)) (varlens ss) k r) r
+  unfolding rangeEnd
+  row-cell k h =
+      held-at (offsetsOf ts r) r k (rw length-fromTable h) ∙ ap (λ (o : ℕ). heldAt o (firstOffset (drop (suc k) (offsetsOf ts r)) (length r)) r) (table-entry offsetWidth (varlens ss) (tableStart (length ss)) k r h)
+
+  -- ---- the length of an edited row
+
+  module _ (i : ℕ) (h : i < length ts) where
+    below : i < length ss
+    below = rw (length-map ts shapeOf) h
+
+    pub fixed-length : isVarlen (typeAt ts i) ≡ false → (c : Cell) → Writes (typeAt ts i) c → length (editedRow offsetWidth p ss i c r) ≡ length r
+    fixed-length v c w =
+        let t : DataType = typeAt ts i in
+        let shape : getD ss i Varlen ≡ Fixed (sizeOf t) (alignmentOf t) = shape-at ts i ∙ rw v in
+        let slot : slotStart p ss i + sizeOf t ≤ fixedSize p ss = rw (ap slotSize shape) at (slot-inside p ss i (all-aligned ts) below) in
+        length-edited-fixed offsetWidth p ss i r (sizeOf t) (alignmentOf t) c shape (rw v at (writes-fits w)) (omega (arith, slot, size-in ss p, sound-long p ts r (s .sound)))
+
+    pub varchar-length : isVarlen (typeAt ts i) ≡ true → (c : Cell)
+        → length (editedRow offsetWidth p ss i c r) ≡ length r - (rangeEnd offsetWidth (tableStart (length ss)) (varlens ss) (rankOf ss i) r - rangeStart offsetWidth (tableStart (length ss)) (varlens ss) (rankOf ss i) r) + length (bytes c)
+    varchar-length v c =
+        let shape : getD ss i Varlen ≡ Varlen = shape-at ts i ∙ rw v in
+        let b = row-ranges (rankOf ss i) (rank-inside ss i below shape) in
+        length-edited offsetWidth p ss i r c below shape (omega (arith, b .past)) (b .rises) (b .within)
+
+    -- a column set to null does not make the row longer
+    pub null-short : length (editedRow offsetWidth p ss i none r) ≤ length r
+    null-short = by-kind (isVarlen (typeAt ts i)) refl
+      where
+        by-kind : (x : Bool) → isVarlen (typeAt ts i) ≡ x → length (editedRow offsetWidth p ss i none r) ≤ length r
+        by-kind true v = rw (varchar-length v none) (omega arith)
+        by-kind false v = rw (fixed-length v none null) (omega arith)
+
+  module _ (small : limit < 256 ^ offsetWidth) (octets : Below 256 r) where
     pub row-cut : r ≡ lay offsetWidth (head ++ bits) region cells
-    row-cut = sound-lay p ts r (s .sound) bytes ∙ ap (λ (front : List ℕ). lay offsetWidth front region cells) (take-add bitmapStart (bitmapSize (length ss)) r)
+    row-cut = sound-lay p ts r (s .sound) octets ∙ ap (λ (front : List ℕ). lay offsetWidth front region cells) (take-add bitmapStart (bitmapSize (length ss)) r)
 
     pub row-parts : Parts p ts head bits region cells
     row-parts =

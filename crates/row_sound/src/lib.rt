@@ -1,4 +1,4 @@
-// Whether a row may be edited. The Rust has no such test: on other rows its `Row::deserialize` and `set_value` panic or write what cannot be read.
+// Whether a row may be edited. The Rust has no such test: on other rows its edits may panic, or leave bytes that belong to no column.
 use datatype::DataType;
 use datatype::Record;
 use row_column::ColumnRead;

@@ -2,3 +2,4 @@ pub mod Sizes
 pub mod Checking
 pub mod Records
 pub mod Lists
+pub mod Sole

@@ -1,6 +1,6 @@
-use Rattle.value_list.specs.Lists.{checked}
 use Rattle.row_format.specs.Places.{rowLimit}
-use Rattle.rook_probe.proofs.Single.{one-there, one-value, one-good, none-good}
+use Rattle.rook_probe.proofs.Single.{one-value, none-good}
+use Rattle.value_list.proofs.Sole.{sole-there, sole-good}
 use mathlib.Core.Path.{sym, _∙_}
 use denote.Ref.{now}
 use borrow.Author.Needs.{needs}
@@ -14,7 +14,7 @@ enum-told : tie.Need-enum-told
 enum-told c = search needs
 
 value-record-at-requires : tie.Need-value-record-at-requires
-value-record-at-requires c κs = one-there (c .before .before .before .before .args .area) (now (c .before .before .before .before .args .list)) (sym (c .enum-told .given .1) ∙ c .before .before .check-values .ensures)
+value-record-at-requires c κs = sole-there rowLimit (c .before .before .before .before .args .area) (now (c .before .before .before .before .args .list)) (sym (c .enum-told .given .1) ∙ c .before .before .check-values .ensures)
 
 enum-known-v : tie.Need-enum-known-v
 enum-known-v c = search needs
@@ -33,12 +33,12 @@ returns c =
 returns-2 : tie.Need-returns-2
 returns-2 c =
     let a = c .before .before .before .before .before .before .before .args in
-    absurd (one-good (a .area) (now (a .list)) (sym (c .before .before .before .enum-told .given .1) ∙ c .before .before .before .before .before .check-values .ensures) _ (sym (c .before .before .value-record-at .ensures) ∙ c .enum-told2 .given .1))
+    absurd (sole-good rowLimit (a .area) (now (a .list)) (sym (c .before .before .before .enum-told .given .1) ∙ c .before .before .before .before .before .check-values .ensures) _ (sym (c .before .before .value-record-at .ensures) ∙ c .enum-told2 .given .1))
 
 returns-3 : tie.Need-returns-3
 returns-3 c =
     let a = c .before .before .before .before .args in
-    none-good (a .area) (now (a .list)) (checked rowLimit 1 (a .area) (now (a .list))) _ (sym (c .before .before .check-values .ensures) ∙ c .enum-told3 .given .1)
+    none-good (a .area) (now (a .list)) _ (sym (c .before .before .check-values .ensures) ∙ c .enum-told3 .given .1)
 
 pub one-value-spec : {M : Type 1} → statement M
 one-value-spec =

@@ -2,7 +2,7 @@ use borrow.Author.Needs.{needs}
 use Rattle.row_patch.proofs.null_varlen.Statement.{statement}
 use Rattle.row_patch.proofs.null_varlen.Tie as tie
 use native.Mathlib.Omega.{arith}
-use mathlib.Core.Path.{refl, sym}
+use mathlib.Core.Path.{refl}
 use mathlib.Core.Option.{none}
 use native.Mathlib.Nat.{add-zero}
 use Rattle.row_patch.proofs.Ranges.{lent-length, table-ready, table-done}

@@ -1,7 +1,6 @@
 use borrow.Author.Needs.{needs}
 use Rattle.row_patch.proofs.put_bit.Statement.{statement}
 use Rattle.row_patch.proofs.put_bit.Tie as tie
-use mathlib.Core.Path.{_∙_}
 use denote.Ref.{now}
 use Rattle.row_patch.proofs.Columns.{bit-stored}
 

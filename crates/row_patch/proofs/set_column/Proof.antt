@@ -1,7 +1,6 @@
 use borrow.Author.Needs.{needs}
 use Rattle.row_patch.proofs.set_column.Statement.{statement}
 use Rattle.row_patch.proofs.set_column.Tie as tie
-use native.Mathlib.Omega.{arith}
 use mathlib.Core.Path.{sym, _∙_}
 use lib.Seq.{length-take-le}
 use denote.Ref.{now}

@@ -3,11 +3,10 @@ use Rattle.row_patch.proofs.set_varlen.Statement.{statement}
 use Rattle.row_patch.proofs.set_varlen.Tie as tie
 use native.Mathlib.Omega.{arith}
 use Prim.Native.Nat.{_+_, _-_}
-use mathlib.Core.Path.{refl, sym, ap, _∙_}
+use mathlib.Core.Path.{refl}
 use mathlib.Core.Option.{some}
 use denote.Ref.{now}
 use lib.ListN.{length}
-use lib.Seq.{length-take-le}
 use Rattle.row_patch.specs.Stores.{formOf}
 use Rattle.row_patch.proofs.Ranges.{length-text, lent-length, table-ready, table-done}
 

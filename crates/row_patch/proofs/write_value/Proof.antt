@@ -1,7 +1,6 @@
 use borrow.Author.Needs.{needs}
 use Rattle.row_patch.proofs.write_value.Statement.{statement}
 use Rattle.row_patch.proofs.write_value.Tie as tie
-use native.Mathlib.Omega.{arith}
 use Rattle.row_patch.proofs.Columns.{sized-value, bit-room, bit-part, bit-ready, bit-done}
 
 set-column-requires : tie.Need-set-column-requires

@@ -1,7 +1,6 @@
 use borrow.Author.Needs.{needs}
 use Rattle.row_sound.proofs.column_sound.Statement.{statement}
 use Rattle.row_sound.proofs.column_sound.Tie as tie
-use mathlib.Core.Path.{sym, _∙_}
 use Rattle.row_sound.specs.Sound.{soundColumn}
 
 read-column-requires : tie.Need-read-column-requires

@@ -3,7 +3,7 @@ use Rattle.row_sound.proofs.first_payload.Statement.{statement}
 use Rattle.row_sound.proofs.first_payload.Tie as tie
 use denote.Ref.{now}
 use native.Mathlib.Omega.{arith}
-use mathlib.Core.Path.{sym, _∙_}
+use mathlib.Core.Path.{_∙_}
 use lib.ListN.{length}
 use Rattle.row_format.specs.Places.{offsetWidth}
 use Rattle.row_format.specs.Table.{rangeEnd}

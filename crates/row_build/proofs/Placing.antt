@@ -1,0 +1,101 @@
+-- From the row's length to the row in the output.
+use Prim.Native.Nat.{ℕ, _+_, _≤_, _<_}
+use mathlib.Core.Path.{_≡_, refl, sym, ap, _∙_, subst}
+use mathlib.Core.Bool.{true}
+use mathlib.Core.List.{List, _++_, map}
+use native.Mathlib.Nat.{zero-add}
+use native.Mathlib.Omega.{arith}
+use borrow.Author.Tests.{lt-ltb, le-ltb}
+use lib.ListN.{length, take, drop, take-append-drop}
+use lib.Seq.{sets, length-sets, length-take-le}
+use Rattle.error.specs.declared.Refusal.{Refusal}
+use Rattle.error.specs.declared.Refusal.the-variants.{RowLimit, NoRoom}
+use Rattle.error.specs.declared.Answer.{Answer}
+use Rattle.error.specs.declared.Answer.the-variants as Answer
+use Rattle.error.specs.Answer.{Outcome, unchanged}
+use Rattle.laws.proofs.Bytes.{sets-over}
+use Rattle.laws.proofs.Stores.{sets-append}
+use Rattle.row_format.specs.Places.{offsetWidth, rowLimit}
+use Rattle.row_format.specs.Table.{Cell}
+use Rattle.row_format.specs.Row.{packedFlag, header, builtRow}
+use Rattle.row_format.proofs.Row.{length-header, length-row, slots-fit}
+use Rattle.row_layout.specs.declared.RowLayout.{RowLayout}
+use Rattle.row_layout.specs.Layout.{minimumOf}
+use Rattle.datatype.specs.declared.DataType.{DataType}
+use Rattle.datatype.specs.Types.{shapeOf}
+use Rattle.datatype.specs.Check.{typesIn}
+use Rattle.row_build.specs.Stored.{Tested, good, refused, onTested, cellsFrom}
+use Rattle.row_build.specs.Build.{rowPlaced, buildValues}
+use Rattle.row_build.specs.Steps.{nullRow, valuesIn, Buildable, measured, cellsGiven, cellsIn, rowOf, Fillable}
+use Rattle.row_build.proofs.Nulls.{length-null-row, accepted-nulls}
+use Rattle.row_build.proofs.Cells.{cells-fit}
+use Rattle.row_build.proofs.Measuring.{counted, IsDone}
+
+-- ---- stored over what is no longer
+
+sets-longer : (l xs ys : List ℕ) → length xs ≤ length l → length xs ≤ length ys → sets (sets l 0 xs) 0 ys ≡ sets l 0 ys
+sets-longer l xs ys h k =
+    let n : length (take (length xs) ys) ≡ length xs = length-take-le (length xs) ys k in
+    let e : ys ≡ take (length xs) ys ++ drop (length xs) ys = sym (take-append-drop (length xs) ys) in
+    ap (sets (sets l 0 xs) 0) e ∙ sets-append (sets l 0 xs) 0 (take (length xs) ys) (drop (length xs) ys)
+    ∙ ap (λ (z : List ℕ). sets z (0 + length (take (length xs) ys)) (drop (length xs) ys)) (sets-over l 0 xs (rw zero-add h) (take (length xs) ys) (sym n))
+    ∙ sym (sets-append l 0 (take (length xs) ys) (drop (length xs) ys)) ∙ ap (sets l 0) (sym e)
+
+sets-again : (l xs : List ℕ) → length xs ≤ length l → sets l 0 xs ≡ sets (sets l 0 xs) 0 xs
+sets-again l xs h = sym (sets-over l 0 xs (rw zero-add h) xs refl)
+
+-- ---- cells that were measured
+
+all-good : (m : ℕ) (ts : List DataType) (q : Tested (List Cell)) {n : ℕ} → Answer.Done n ≡ measured m ts q → q ≡ good (cellsGiven q)
+all-good m ts (good cs) e = refl
+all-good m ts (refused u) e = absurd (subst IsDone e tt)
+
+-- the first refusal is the call's
+pub build-refused : (ts : List DataType) (q : Tested (List Cell)) (out : List ℕ) (m : ℕ) {e : Refusal} (k : List Cell → Outcome) → Answer.Refused e ≡ measured m ts q → unchanged out e ≡ onTested q (unchanged out) k
+build-refused ts (good cs) out m k f = absurd (subst IsDone (sym f) tt)
+build-refused ts (refused u) out m k f = ap (λ (a : Answer). (a, out)) f
+
+module _ {s : List ℕ} {l : RowLayout} {list area : List ℕ} (b : Buildable s l list area) {n : ℕ} (d : Answer.Done n ≡ measured (minimumOf l true) (typesIn s) (cellsFrom 0 (typesIn s) (valuesIn list) area)) where
+  cells-good : cellsFrom 0 (typesIn s) (valuesIn list) area ≡ good (cellsIn s list area)
+  cells-good = all-good (minimumOf l true) (typesIn s) (cellsFrom 0 (typesIn s) (valuesIn list) area) d
+
+  length-is : length (rowOf s list area) ≡ n
+  length-is =
+      let f = cells-fit area 0 (typesIn s) (valuesIn list) cells-good (b .count) in
+      let e = length-row offsetWidth (header packedFlag (map shapeOf (typesIn s))) (length-header packedFlag (map shapeOf (typesIn s))) f (slots-fit f) in
+      let m = ap (λ (k : RowLayout). minimumOf k true) (b .accepted .layout) in
+      let z = ap counted (rw cells-good at d) in
+      omega (arith, e, m, z)
+
+  pub least : minimumOf l true ≤ n
+  least = let z = ap counted (rw cells-good at d) in omega (arith, z)
+
+  module _ (out : List ℕ) where
+    whole : rowPlaced rowLimit out (rowOf s list area) ≡ buildValues offsetWidth rowLimit (typesIn s) (valuesIn list) area out
+    whole = sym (ap (λ (q : Tested (List Cell)). onTested q (unchanged out) (λ cs. rowPlaced rowLimit out (builtRow offsetWidth (map shapeOf (typesIn s)) cs))) cells-good)
+
+    pub too-long : rowLimit < n → unchanged out RowLimit ≡ buildValues offsetWidth rowLimit (typesIn s) (valuesIn list) area out
+    too-long h = rw (length-is, lt-ltb rowLimit n h) at whole
+
+    module _ (h : n ≤ rowLimit) where
+      pub no-room : length out < n → unchanged out NoRoom ≡ buildValues offsetWidth rowLimit (typesIn s) (valuesIn list) area out
+      no-room k = rw (length-is, le-ltb rowLimit n h, lt-ltb (length out) n k) at whole
+
+      module _ (k : n ≤ length out) {first : List ℕ} (e : first ≡ sets out 0 (nullRow l)) where
+        least-row : length (nullRow l) ≤ length out
+        least-row = rw length-null-row (omega (arith, least))
+
+        pub fillable : Fillable s l list area first
+        fillable =
+            record {
+              given = b;
+              all = cells-good;
+              nulls = e ∙ sets-again out (nullRow l) least-row ∙ ap (λ (z : List ℕ). sets z 0 (nullRow l)) (sym e) ∙ ap (sets first 0) (accepted-nulls (b .accepted));
+              room = rw (length-is, e, length-sets) k;
+              short = rw length-is h;
+            }
+
+        pub row-placed : {last : List ℕ} → last ≡ sets first 0 (rowOf s list area) → (Answer.Done n, last) ≡ buildValues offsetWidth rowLimit (typesIn s) (valuesIn list) area out
+        row-placed f =
+            let same = f ∙ ap (λ (z : List ℕ). sets z 0 (rowOf s list area)) e ∙ sets-longer out (nullRow l) (rowOf s list area) least-row (rw (length-null-row, length-is) least) in
+            ap (λ (z : List ℕ). (Answer.Done n, z)) same ∙ rw (length-is, le-ltb rowLimit n h, le-ltb (length out) n k) at whole

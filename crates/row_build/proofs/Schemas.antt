@@ -1,0 +1,94 @@
+-- What the check of a schema says of its columns.
+use Prim.Native.Nat.{ℕ, zero, suc, _≤_, _<_}
+use mathlib.Core.Path.{_≡_, refl, sym, ap, subst}
+use mathlib.Core.Bool.{Bool, true, false, cond}
+use mathlib.Core.List.{List, [], _∷_, map}
+use native.Mathlib.Omega.{arith}
+use borrow.Author.Tests.{ltb-false}
+use lib.Dec.{ltb}
+use lib.ListN.{length}
+use Rattle.error.specs.declared.Refusal.the-variants.{BadSchema}
+use Rattle.laws.proofs.Truths.{cases}
+use Rattle.row_format.specs.declared.Shape.the-variants.{Fixed, Varlen}
+use Rattle.row_format.specs.Places.{through, endAfter, minimum}
+use Rattle.row_format.proofs.Places.{round-up-ge}
+use Rattle.datatype.specs.declared.DataType.{DataType}
+use Rattle.datatype.specs.declared.DataType.the-variants as T
+use Rattle.datatype.specs.declared.Record.{Record}
+use Rattle.datatype.specs.declared.Record.the-variants.{Column, Refused}
+use Rattle.datatype.specs.Types.{alignmentOf, sizeOf, isVarlen, shapeOf}
+use Rattle.datatype.specs.Schema.{Parsed, types, refused, records, limited, schemaOf, recordAt}
+use Rattle.datatype.proofs.Walk.{none-left, some-left, not-refused, first-left}
+
+-- ---- a packed row is not longer than a padded one
+
+aligned : (t : DataType) → 0 < alignmentOf t
+aligned T.SmallInt = omega arith
+aligned T.Int = omega arith
+aligned T.BigInt = omega arith
+aligned T.Real = omega arith
+aligned T.DoublePrecision = omega arith
+aligned (T.Numeric p s) = omega arith
+aligned (T.Decimal p s) = omega arith
+aligned T.Bool = omega arith
+aligned (T.Char n) = omega arith
+aligned (T.Character n) = omega arith
+aligned (T.Varchar n) = omega arith
+aligned T.Date = omega arith
+aligned T.Time = omega arith
+aligned (T.Bit n) = omega arith
+aligned T.Timestamp = omega arith
+
+column-le : (t : DataType) (v : Bool) (x y : ℕ) → x ≤ y → endAfter true (cond v Varlen (Fixed (sizeOf t) (alignmentOf t))) x ≤ endAfter false (cond v Varlen (Fixed (sizeOf t) (alignmentOf t))) y
+column-le t true x y h = h
+column-le t false x y h = omega (arith, round-up-ge (alignmentOf t) y (aligned t))
+
+packed-le : (ts : List DataType) (x y : ℕ) → x ≤ y → through (endAfter true) x (map shapeOf ts) ≤ through (endAfter false) y (map shapeOf ts)
+packed-le [] x y h = h
+packed-le (t ∷ ts) x y h = packed-le ts (endAfter true (shapeOf t) x) (endAfter false (shapeOf t) y) (column-le t (isVarlen t) x y h)
+
+-- ---- an accepted schema: its rows are within the limit, and its columns are at most 256
+
+abbrev IsTypes : Parsed → Type 0
+IsTypes (types ts) = Unit {0}
+IsTypes (refused e) = ⊥
+
+abbrev typesOf : Parsed → List DataType
+typesOf (types ts) = ts
+typesOf (refused e) = []
+
+record Passed (w limit : ℕ) (q : Parsed) (ts : List DataType) : Type 0 where
+  all : q ≡ types ts
+  padded : minimum w false (map shapeOf ts) ≤ limit
+
+passed : (w limit len : ℕ) (q : Parsed) {ts : List DataType} → limited w limit len q ≡ types ts → Passed w limit q ts
+passed w limit len (refused e) f = absurd (subst IsTypes (sym f) tt)
+passed w limit len (types us) {ts} f = within (ltb limit (minimum w false (map shapeOf us))) refl f
+  where
+    within : (t : Bool) → ltb limit (minimum w false (map shapeOf us)) ≡ t → cond t (refused (BadSchema len)) (types us) ≡ types ts → Passed w limit (types us) ts
+    within true k g = absurd (subst IsTypes (sym g) tt)
+    within false k g = subst (Passed w limit (types us)) (ap typesOf g) (record { all = refl; padded = ltb-false limit (minimum w false (map shapeOf us)) k })
+
+-- a record more than the columns behind it
+more-types : (m : ℕ) (s : List ℕ) (at : ℕ) (ts : List DataType) (q : Record) → recordAt s at ≡ q → at < length s → records (suc m) s at ≡ types ts
+    → ((next : ℕ) (us : List DataType) → records m s next ≡ types us → length us ≤ m) → length ts ≤ suc m
+more-types m s at ts (Refused u) f h g rest = absurd (not-refused s at (suc m) g h f)
+more-types m s at ts (Column t next) f h g rest =
+    let p = first-left s at (suc m) g h m refl f in
+    let k = rest next (p .tail) (p .ahead) in
+    rw (p .split) (omega (arith, k))
+
+few-types : (n : ℕ) (s : List ℕ) (at : ℕ) (ts : List DataType) → records n s at ≡ types ts → length ts ≤ n
+few-types zero s at ts e = cases at (length s) (λ h. absurd (omega (arith, some-left s at 0 e h))) (λ h. rw (none-left s at 0 e h) (omega arith))
+few-types (suc m) s at ts e = cases at (length s) (λ h. more-types m s at ts (recordAt s at) refl h e (few-types m s)) (λ h. rw (none-left s at (suc m) e h) (omega arith))
+
+module _ (w limit : ℕ) (s : List ℕ) {ts : List DataType} (f : schemaOf w limit s ≡ types ts) where
+  of-schema : Passed w limit (records 256 s 0) ts
+  unfolding schemaOf
+  of-schema = passed w limit (length s) (records 256 s 0) f
+
+  pub schema-minimum : minimum w true (map shapeOf ts) ≤ limit
+  schema-minimum = omega (arith, of-schema .padded, packed-le ts 0 0 (omega arith))
+
+  pub schema-few : length ts ≤ 256
+  schema-few = few-types 256 s 0 ts (of-schema .all)
