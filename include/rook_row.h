@@ -32,12 +32,37 @@ typedef struct {
     size_t length;
 } rook_text_answer;
 
+/* A row of nulls at the front of `out`.
+ * Refuses with 1 and 2 (schema), 14 (out too short). */
+rook_row_answer rook_row_fresh(const uint8_t *schema, size_t schema_length, uint8_t *out, size_t out_length);
+
+/* The row of a value list, one record for each column, at the front of `out`. Texts and bit strings are ranges of
+ * `text`, of at most 65,535 bytes. Nothing past the row is changed.
+ * Refuses with 1 and 2 (schema), 10 (value list), 11 and 12 (a column's value), 13 (row above 65,535 bytes),
+ * 14 (out too short). */
+rook_row_answer rook_row_build(const uint8_t *schema, size_t schema_length, const uint8_t *values, size_t values_length,
+                               const uint8_t *text, size_t text_length, uint8_t *out, size_t out_length);
+
 /* The wanted columns of a row, as a value list at the front of `out`: a record for each column of the schema, null for
  * an unwanted one. The list's text area is the row itself. `wanted` has column numbers in any order, repeats allowed,
  * unknown ones ignored; `wanted_count` is their number. 18 bytes a column are always enough for `out`.
  * Refuses with 1 and 2 (schema), 4, 3, 5, 6, 3 (row), 7 and 8 (a wanted column), 14 (out too short). */
 rook_row_answer rook_row_read(const uint8_t *schema, size_t schema_length, const uint8_t *row, size_t row_length,
                               const uint16_t *wanted, size_t wanted_count, uint8_t *out, size_t out_length);
+
+/* Column `column` of the row in the first `row_length` bytes of `buf` set to the one value of the list, in place;
+ * `length` is the row's length afterwards. Bytes past the new end are as before. After a refusal `length` is
+ * `row_length`, so that it can be stored in any case.
+ * Refuses with 1 and 2 (schema), 14 (row_length beyond buf), 15 (the row is not sound), 9 (no such column), 10 (not
+ * exactly one good record), 11 and 12 (the value; null is 11), 13 (row above 65,535 bytes), 14 (buf too short). */
+rook_row_answer rook_row_set(const uint8_t *schema, size_t schema_length, uint8_t *buf, size_t buf_length,
+                             size_t row_length, size_t column, const uint8_t *values, size_t values_length,
+                             const uint8_t *text, size_t text_length);
+
+/* The column set to null, in place. The slot of a fixed column stays as it is.
+ * Refuses with 1 and 2 (schema), 14 (row_length beyond buf), 15 (the row is not sound), 9 (no such column). */
+rook_row_answer rook_row_set_null(const uint8_t *schema, size_t schema_length, uint8_t *buf, size_t buf_length,
+                                  size_t row_length, size_t column);
 
 /* Where the text of a column stands in the row: a Char with its blanks, a Varchar as it is. A null has number 0 and
  * start and length 0; a text that is empty and not null has its own start.

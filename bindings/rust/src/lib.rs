@@ -2,13 +2,21 @@
 //!
 //! ```
 //! // Document 01's row 2: columns 1, "AB" and null.
-//! let row = [3, 0, 1, 0x80, 4, 0x0D, 0, 1, 0, 0, 0, 0, 0, 0x41, 0x42];
-//! let schema = [2, 11, 5, 0, 1];
+//! let schema = [2, 11, 5, 0, 1]; // Int, Varchar(5), SmallInt
+//! let values = [2, 1, 0, 0, 0, 9, 0, 0, 2, 0, 0]; // Int 1, a Varchar of 2 bytes from byte 0 of the text, null
+//! let mut row = [0; 15];
+//! assert_eq!(rook_row::build(&schema, &values, b"AB", &mut row), Ok(15));
+//! assert_eq!(row, [3, 0, 1, 0x80, 4, 0x0D, 0, 1, 0, 0, 0, 0, 0, 0x41, 0x42]);
 //! let mut out = [0; 54];
 //! assert_eq!(rook_row::read(&schema, &row, &[0, 1, 2], &mut out), Ok(11));
 //! assert_eq!(out[..11], [2, 1, 0, 0, 0, 9, 13, 0, 2, 0, 0]);
 //! assert_eq!(rook_row::text(&schema, &row, 1), Ok(&b"AB"[..]));
 //! assert_eq!(rook_row::same_content(&schema, &row, &row), Ok(true));
+//! let mut buf = [0; 20];
+//! buf[..15].copy_from_slice(&row);
+//! assert_eq!(rook_row::set(&schema, &mut buf, 15, 1, &[9, 0, 0, 5, 0], b"ABCDE"), Ok(18));
+//! assert_eq!(rook_row::text(&schema, &buf[..18], 1), Ok(&b"ABCDE"[..]));
+//! assert_eq!(rook_row::set_null(&schema, &mut buf, 18, 1), Ok(13));
 //! assert_eq!(rook_row::is_null(&row, 1), Ok(false));
 //! assert_eq!(rook_row::is_null(&row, 2), Ok(true));
 //! assert_eq!(rook_row::is_null(&row, 3).unwrap_err().number, 9);
@@ -54,6 +62,26 @@ struct TextAnswer {
 }
 
 extern "C" {
+    fn rook_row_set(
+        schema: *const u8,
+        schema_length: usize,
+        buf: *mut u8,
+        buf_length: usize,
+        row_length: usize,
+        column: usize,
+        values: *const u8,
+        values_length: usize,
+        text: *const u8,
+        text_length: usize,
+    ) -> RowAnswer;
+    fn rook_row_set_null(
+        schema: *const u8,
+        schema_length: usize,
+        buf: *mut u8,
+        buf_length: usize,
+        row_length: usize,
+        column: usize,
+    ) -> RowAnswer;
     fn rook_row_text(
         schema: *const u8,
         schema_length: usize,
@@ -69,6 +97,22 @@ extern "C" {
         b: *const u8,
         b_length: usize,
     ) -> FlagAnswer;
+    fn rook_row_fresh(
+        schema: *const u8,
+        schema_length: usize,
+        out: *mut u8,
+        out_length: usize,
+    ) -> RowAnswer;
+    fn rook_row_build(
+        schema: *const u8,
+        schema_length: usize,
+        values: *const u8,
+        values_length: usize,
+        text: *const u8,
+        text_length: usize,
+        out: *mut u8,
+        out_length: usize,
+    ) -> RowAnswer;
     fn rook_row_read(
         schema: *const u8,
         schema_length: usize,
@@ -87,6 +131,37 @@ fn refusal(number: u32, place: usize) -> Option<Refusal> {
     (number != 0).then_some(Refusal { number, place })
 }
 
+/// A row of nulls at the front of `out`; hands back its length.
+pub fn fresh(schema: &[u8], out: &mut [u8]) -> Result<usize, Refusal> {
+    // SAFETY: pointers and lengths are those of slices; `out` is borrowed alone, the others are only read.
+    let answer =
+        unsafe { rook_row_fresh(schema.as_ptr(), schema.len(), out.as_mut_ptr(), out.len()) };
+    refusal(answer.number, answer.place).map_or(Ok(answer.length), Err)
+}
+
+/// The row of a value list at the front of `out`; hands back its length. Texts and bit strings are ranges of `text`.
+pub fn build(
+    schema: &[u8],
+    values: &[u8],
+    text: &[u8],
+    out: &mut [u8],
+) -> Result<usize, Refusal> {
+    // SAFETY: as above.
+    let answer = unsafe {
+        rook_row_build(
+            schema.as_ptr(),
+            schema.len(),
+            values.as_ptr(),
+            values.len(),
+            text.as_ptr(),
+            text.len(),
+            out.as_mut_ptr(),
+            out.len(),
+        )
+    };
+    refusal(answer.number, answer.place).map_or(Ok(answer.length), Err)
+}
+
 /// The wanted columns of a row as a value list at the front of `out`; hands back its length. A record for each column of
 /// the schema, null for an unwanted one; texts are ranges of the row. 18 bytes a column are always enough.
 pub fn read(schema: &[u8], row: &[u8], wanted: &[u16], out: &mut [u8]) -> Result<usize, Refusal> {
@@ -101,6 +176,55 @@ pub fn read(schema: &[u8], row: &[u8], wanted: &[u16], out: &mut [u8]) -> Result
             wanted.len(),
             out.as_mut_ptr(),
             out.len(),
+        )
+    };
+    refusal(answer.number, answer.place).map_or(Ok(answer.length), Err)
+}
+
+/// A column of the row in the first `row_length` bytes of `buf` set to the one value of the list, in place; hands back
+/// the row's length afterwards. After a refusal nothing has changed.
+pub fn set(
+    schema: &[u8],
+    buf: &mut [u8],
+    row_length: usize,
+    column: usize,
+    values: &[u8],
+    text: &[u8],
+) -> Result<usize, Refusal> {
+    // SAFETY: pointers and lengths are those of slices; `buf` is borrowed alone, the others are only read.
+    let answer = unsafe {
+        rook_row_set(
+            schema.as_ptr(),
+            schema.len(),
+            buf.as_mut_ptr(),
+            buf.len(),
+            row_length,
+            column,
+            values.as_ptr(),
+            values.len(),
+            text.as_ptr(),
+            text.len(),
+        )
+    };
+    refusal(answer.number, answer.place).map_or(Ok(answer.length), Err)
+}
+
+/// The column set to null, in place; the slot of a fixed column stays as it is.
+pub fn set_null(
+    schema: &[u8],
+    buf: &mut [u8],
+    row_length: usize,
+    column: usize,
+) -> Result<usize, Refusal> {
+    // SAFETY: as above.
+    let answer = unsafe {
+        rook_row_set_null(
+            schema.as_ptr(),
+            schema.len(),
+            buf.as_mut_ptr(),
+            buf.len(),
+            row_length,
+            column,
         )
     };
     refusal(answer.number, answer.place).map_or(Ok(answer.length), Err)

@@ -1,1 +1,3 @@
 pub mod History
+pub mod Demand
+pub mod Worked

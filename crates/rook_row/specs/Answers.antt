@@ -14,13 +14,14 @@ use Rattle.row_text.specs.declared.ColumnText.the-variants as Text
 use Rattle.rook_row.specs.declared.FlagAnswer.{FlagAnswer}
 use Rattle.rook_row.specs.declared.TextAnswer.{TextAnswer}
 
-abbrev pub rowAnswer : Answer → RowAnswer
-rowAnswer (Done n) = record { number = 0; place = 0; length = n }
-rowAnswer (Refused e) = record { number = numberOf e; place = placeOf e; length = 0 }
+-- a refusal hands out n: 0, or for an edit the row's length, so that a caller who stores it loses nothing
+abbrev pub rowAnswer : ℕ → Answer → RowAnswer
+rowAnswer n (Done m) = record { number = 0; place = 0; length = m }
+rowAnswer n (Refused e) = record { number = numberOf e; place = placeOf e; length = n }
 
--- with the bytes of the output
-abbrev pub rowOutcome : Outcome → RowAnswer × List ℕ
-rowOutcome o = (rowAnswer (o .0), o .1)
+-- with the bytes of the lent output
+abbrev pub rowOutcome : ℕ → Outcome → RowAnswer × List ℕ
+rowOutcome n o = (rowAnswer n (o .0), o .1)
 
 abbrev pub flagAnswer : Flag → FlagAnswer
 flagAnswer (Flag.Is b) = record { number = 0; place = 0; flag = bitValue b }

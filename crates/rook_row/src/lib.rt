@@ -7,7 +7,9 @@ ghost use mathlib.Core.Path.{_≡_};
 ghost use Rattle.row_format.specs.Places.{offsetWidth, rowLimit};
 ghost use Rattle.laws.specs.Bits.{bitValue};
 ghost use Rattle.null_bitmap.specs.Bitmap.{nullFlag};
+ghost use Rattle.row_build.specs.Build.{freshCall, buildCall};
 ghost use Rattle.row_decode.specs.Read.{readCall};
+ghost use Rattle.row_edit.specs.Edit.{setCall, setNullCall};
 ghost use Rattle.row_same.specs.Rows.{sameCall};
 ghost use Rattle.row_text.specs.Text.{textCall};
 ghost use Rattle.text.specs.Rfc3629.{isText};
@@ -35,8 +37,9 @@ pub struct TextAnswer {
     pub length: usize,
 }
 
-fn row_answer(answer: Answer) -> RowAnswer
-    ensures { λ r. ⌜ r ≡ rowAnswer answer ⌝ }
+// A refusal hands out `otherwise`.
+fn row_answer(answer: Answer, otherwise: usize) -> RowAnswer
+    ensures { λ r. ⌜ r ≡ rowAnswer otherwise answer ⌝ }
 {
     match answer {
         Answer::Done(n) => RowAnswer {
@@ -47,7 +50,7 @@ fn row_answer(answer: Answer) -> RowAnswer
         Answer::Refused(e) => RowAnswer {
             number: e.number(),
             place: e.place(),
-            length: 0,
+            length: otherwise,
         },
     }
 }
@@ -69,6 +72,30 @@ fn flag_answer(answer: Flag) -> FlagAnswer
     }
 }
 
+// A row of nulls at the front of `out`; `length` is its length.
+#[no_mangle]
+pub extern "C" fn rook_row_fresh(schema: &[u8], out: &mut [u8]) -> RowAnswer
+    ensures { λ r. ⌜ (r, now (out .exit)) ≡ rowOutcome 0 (freshCall offsetWidth rowLimit (now (schema .entry)) (now (out .entry))) ⌝ }
+{
+    row_answer(row_build::fresh(schema, out), 0)
+}
+
+// The row of a value list at the front of `out`; `length` is its length. The list's ranges lie in `text`.
+#[no_mangle]
+pub extern "C" fn rook_row_build(
+    schema: &[u8],
+    values: &[u8],
+    text: &[u8],
+    out: &mut [u8],
+) -> RowAnswer
+    ensures { λ r. ⌜ (r, now (out .exit)) ≡ rowOutcome 0 (buildCall offsetWidth rowLimit (now (schema .entry)) (now (values .entry)) (now (text .entry)) (now (out .entry))) ⌝ }
+{
+    row_answer(
+        row_build::serialize_nullable_typed_row(schema, values, text, out),
+        0,
+    )
+}
+
 // The wanted columns of a row as a value list at the front of `out`; `length` is its length. The list's text area is the row.
 #[no_mangle]
 pub extern "C" fn rook_row_read(
@@ -77,9 +104,43 @@ pub extern "C" fn rook_row_read(
     wanted: &[u16],
     out: &mut [u8],
 ) -> RowAnswer
-    ensures { λ r. ⌜ (r, now (out .exit)) ≡ rowOutcome (readCall offsetWidth rowLimit (now (schema .entry)) (now (row .entry)) (now (wanted .entry)) (now (out .entry))) ⌝ }
+    ensures { λ r. ⌜ (r, now (out .exit)) ≡ rowOutcome 0 (readCall offsetWidth rowLimit (now (schema .entry)) (now (row .entry)) (now (wanted .entry)) (now (out .entry))) ⌝ }
 {
-    row_answer(row_decode::decode(schema, row, wanted, out))
+    row_answer(row_decode::decode(schema, row, wanted, out), 0)
+}
+
+// Column `column` of the row in the first `row_length` bytes of `buf` set to the one value of the list; `length` is the row's length afterwards.
+#[no_mangle]
+pub extern "C" fn rook_row_set(
+    schema: &[u8],
+    buf: &mut [u8],
+    row_length: usize,
+    column: usize,
+    values: &[u8],
+    text: &[u8],
+) -> RowAnswer
+    ensures { λ r. ⌜ (r, now (buf .exit)) ≡ rowOutcome «row_length» (setCall offsetWidth rowLimit (now (schema .entry)) (now (buf .entry)) «row_length» column (now (values .entry)) (now (text .entry))) ⌝ }
+{
+    row_answer(
+        row_edit::set_value(schema, buf, row_length, column, values, text),
+        row_length,
+    )
+}
+
+// The column set to null.
+#[no_mangle]
+pub extern "C" fn rook_row_set_null(
+    schema: &[u8],
+    buf: &mut [u8],
+    row_length: usize,
+    column: usize,
+) -> RowAnswer
+    ensures { λ r. ⌜ (r, now (buf .exit)) ≡ rowOutcome «row_length» (setNullCall offsetWidth rowLimit (now (schema .entry)) (now (buf .entry)) «row_length» column) ⌝ }
+{
+    row_answer(
+        row_edit::set_null(schema, buf, row_length, column),
+        row_length,
+    )
 }
 
 // The text of a column: where it stands in the row. A null has number 0 and an empty range at 0.

@@ -9,3 +9,4 @@ pub mod Build
 pub mod Zeroed
 pub mod Cells
 pub mod Rising
+pub mod Sizes

@@ -1,4 +1,4 @@
--- Every row that is built of accepted values is sound.
+-- Every packed row of accepted values is sound.
 use Prim.Native.Nat.{ℕ, _+_, _%_, _^_, _≤_, _<_}
 use mathlib.Core.Path.{_≡_, refl, sym, ap, _∙_, subst}
 use mathlib.Core.Bool.{Bool, true, false, cond}
@@ -17,11 +17,12 @@ use Rattle.row_format.specs.declared.Shape.{Shape}
 use Rattle.row_format.specs.declared.Shape.the-variants.{Fixed, Varlen}
 use Rattle.row_format.specs.Places.{varlens, slotStart, bitmapSize, bitmapStart, offsetWidth}
 use Rattle.row_format.specs.Table.{Cell, bytes, lay}
-use Rattle.row_format.specs.Row.{packedFlag, header, nullBit, bitmap, varlenCells, rowWith, slotsOf, builtRow, slotSize, FitsCell}
+use Rattle.row_format.specs.Row.{packedFlag, header, nullBit, bitmap, varlenCells, rowWith, slotSize, FitsSlot, FitsCell}
 use Rattle.row_format.proofs.Places.{packed-inside}
 use Rattle.row_format.proofs.Bitmap.{length-bitmap, bitmap-bit}
-use Rattle.row_format.proofs.Row.{length-header, header-columns, header-varlens, length-row, length-slots, length-varlens, slots-fit, of-rank}
-use Rattle.row_format.proofs.Cells.{unlessNull, columnBytes, cell-built}
+use Rattle.row_format.proofs.Row.{length-header, header-columns, header-varlens, length-row, length-slots, length-varlens, of-rank}
+use Rattle.row_format.proofs.Cells.{unlessNull, columnBytes, cell-row}
+use Rattle.row_format.proofs.Zeroed.{Agree}
 use Rattle.row_layout.specs.declared.RowLayout.{RowLayout}
 use Rattle.row_layout.specs.Layout.{minimumOf}
 use Rattle.datatype.specs.declared.DataType.{DataType}
@@ -82,18 +83,21 @@ good-frame limit l p r a n v f m =
     let h : 4 ≤ length r = omega arith in
     rw (le-ltb limit (length r) a, le-ltb (length r) 4 h, eq-eqb (columnCount r) (l .«num_columns») n, eq-eqb (varlenField r % packedFlag) (l .«num_varlen_cols») v, f, le-ltb (length r) (minimumOf l p) m)
 
--- ---- the row
+-- ---- a packed row of such cells, whatever the slots of its null columns hold
 
-fits-all : {ts : List DataType} {cs : List Cell} → Forall₂ Writes ts cs → Forall₂ FitsCell (map shapeOf ts) cs
+pub fits-all : {ts : List DataType} {cs : List Cell} → Forall₂ Writes ts cs → Forall₂ FitsCell (map shapeOf ts) cs
 fits-all nil = nil
 fits-all (cons w e) = cons (writes-fits w) (fits-all e)
 
-module _ {ts : List DataType} {cs : List Cell} (written : Forall₂ Writes ts cs) (fits : length (builtRow offsetWidth (map shapeOf ts) cs) < 256 ^ offsetWidth) where
+module _ {ts : List DataType} {cs : List Cell} {slots : List (List ℕ)} (written : Forall₂ Writes ts cs) (fit : Forall₂ FitsSlot (map shapeOf ts) slots) (agree : Agree (map shapeOf ts) cs slots) (fits : length (rowWith offsetWidth (header packedFlag (map shapeOf ts)) (map shapeOf ts) cs slots) < 256 ^ offsetWidth) where
   abbrev ss : List Shape
   ss = map shapeOf ts
 
   abbrev head : List ℕ
   head = header packedFlag ss
+
+  abbrev row : List ℕ
+  row = rowWith offsetWidth head ss cs slots
 
   abbrev bits : List ℕ
   bits = bitmap (bitmapSize (length ss)) cs
@@ -101,12 +105,12 @@ module _ {ts : List DataType} {cs : List Cell} (written : Forall₂ Writes ts cs
   cells : Forall₂ FitsCell ss cs
   cells = fits-all written
 
-  row-parts : builtRow offsetWidth ss cs ≡ lay offsetWidth (head ++ bits) (concat (slotsOf ss cs)) (varlenCells ss cs)
+  row-parts : row ≡ lay offsetWidth (head ++ bits) (concat slots) (varlenCells ss cs)
   unfolding rowWith
   row-parts = refl
 
-  parts : Parts true ts head bits (concat (slotsOf ss cs)) (varlenCells ss cs)
-  parts = record { four = length-header packedFlag ss; bitmap = length-bitmap (bitmapSize (length ss)) cs; fixed = length-slots (slots-fit cells); cells = length-varlens cells; fits = rw row-parts at fits }
+  parts : Parts true ts head bits (concat slots) (varlenCells ss cs)
+  parts = record { four = length-header packedFlag ss; bitmap = length-bitmap (bitmapSize (length ss)) cs; fixed = length-slots fit; cells = length-varlens cells; fits = rw row-parts at fits }
 
   module _ (i : ℕ) (h : i < length ts) where
     abbrev cell : Cell
@@ -124,35 +128,35 @@ module _ {ts : List DataType} {cs : List Cell} (written : Forall₂ Writes ts cs
         let any : getD cs i (some []) ≡ cell = ap (λ (l : List Cell). getD l 0 none) (sym (drop-cons cs i (some []) k) ∙ drop-cons cs i none k) in
         bitmap-bit (bitmapSize (length ss)) cs i (omega (arith, below)) ∙ ap nullBit any
 
-    slot-is : (b : List ℕ) → cell ≡ some b → isVarlen (typeAt ts i) ≡ false → take (sizeOf (typeAt ts i)) (drop (slotStart true ss i) (concat (slotsOf ss cs))) ≡ b
+    slot-is : (b : List ℕ) → cell ≡ some b → isVarlen (typeAt ts i) ≡ false → take (sizeOf (typeAt ts i)) (drop (slotStart true ss i) (concat slots)) ≡ b
     slot-is b e v =
         let shape : getD ss i Varlen ≡ Fixed (sizeOf (typeAt ts i)) (alignmentOf (typeAt ts i)) = shape-at ts i ∙ rw v in
-        let inside : slotStart true ss i + sizeOf (typeAt ts i) ≤ length (concat (slotsOf ss cs)) = rw (parts .fixed) (rw (ap slotSize shape) at (packed-inside ss i below)) in
-        let bit : bitAt i (drop bitmapStart (builtRow offsetWidth ss cs)) ≡ 0 = rw row-parts (bit-of parts i h) ∙ bit-is ∙ rw e in
-        let read : unlessNull 0 (columnBytes offsetWidth ss i (Fixed (sizeOf (typeAt ts i)) (alignmentOf (typeAt ts i))) (builtRow offsetWidth ss cs)) ≡ some b
-        = rw (bit, shape) at (cell-built offsetWidth cells i below fits) ∙ e in
+        let inside : slotStart true ss i + sizeOf (typeAt ts i) ≤ length (concat slots) = rw (parts .fixed) (rw (ap slotSize shape) at (packed-inside ss i below)) in
+        let bit : bitAt i (drop bitmapStart row) ≡ 0 = rw row-parts (bit-of parts i h) ∙ bit-is ∙ rw e in
+        let read : unlessNull 0 (columnBytes offsetWidth ss i (Fixed (sizeOf (typeAt ts i)) (alignmentOf (typeAt ts i))) row) ≡ some b
+        = rw (bit, shape) at (cell-row offsetWidth head (length-header packedFlag ss) cells fit agree i below fits) ∙ e in
         sym (slot-of parts (slotStart true ss i) (sizeOf (typeAt ts i)) inside) ∙ rw row-parts at (ap bytes read)
 
-    by-kind : (x : Bool) → isVarlen (typeAt ts i) ≡ x → soundPart true ts bits (concat (slotsOf ss cs)) (varlenCells ss cs) i ≡ true
+    by-kind : (x : Bool) → isVarlen (typeAt ts i) ≡ x → soundPart true ts bits (concat slots) (varlenCells ss cs) i ≡ true
     by-kind true v = rw (v, bit-is, of-rank i cells below (shape-at ts i ∙ rw v) .cell) (written-cell (typeAt ts i) cell holds)
     by-kind false v = rw (v, bit-is) (written-slot (typeAt ts i) cell _ holds (λ b e. slot-is b e v))
 
-  pub built-sound-in : isSoundIn (layoutFor ts) true ts (builtRow offsetWidth ss cs) ≡ true
-  built-sound-in = rw row-parts (laid-sound parts (λ i h. by-kind i h (isVarlen (typeAt ts i)) refl))
+  pub cells-sound-in : isSoundIn (layoutFor ts) true ts row ≡ true
+  cells-sound-in = rw row-parts (laid-sound parts (λ i h. by-kind i h (isVarlen (typeAt ts i)) refl))
 
-  built-long : minimumOf (layoutFor ts) true ≤ length (builtRow offsetWidth ss cs)
-  built-long = rw (length-row offsetWidth head (length-header packedFlag ss) cells (slots-fit cells)) (omega arith)
+  cells-long : minimumOf (layoutFor ts) true ≤ length row
+  cells-long = rw (length-row offsetWidth head (length-header packedFlag ss) cells fit) (omega arith)
 
   -- its header is read back
-  pub built-frame : (limit : ℕ) → length ts ≤ 256 → length (builtRow offsetWidth ss cs) ≤ limit → frameOf limit (layoutFor ts) (builtRow offsetWidth ss cs) ≡ Good true
+  pub cells-frame : (limit : ℕ) → length ts ≤ 256 → length row ≤ limit → frameOf limit (layoutFor ts) row ≡ Good true
   unfolding lay
-  built-frame limit few short =
+  cells-frame limit few short =
       let n : length ss ≡ length ts = length-map ts shapeOf in
-      let v : varlens ss < 32768 = omega (arith, built-long, fits) in
+      let v : varlens ss < 32768 = omega (arith, cells-long, fits) in
       let four = length-header packedFlag ss in
-      let rest : List ℕ = bits ++ drop (length (head ++ bits)) (builtRow offsetWidth ss cs) in
-      let cut : builtRow offsetWidth ss cs ≡ head ++ rest = row-parts ∙ rw row-parts (rw (drop-append-seam, append-assoc)) in
-      let columns : columnCount (builtRow offsetWidth ss cs) ≡ length ss = rw cut (ap fromLe (take-append-le 2 head rest (omega (arith, four))) ∙ header-columns packedFlag ss (omega arith)) in
-      let field : varlenField (builtRow offsetWidth ss cs) ≡ varlens ss + packedFlag =
+      let rest : List ℕ = bits ++ drop (length (head ++ bits)) row in
+      let cut : row ≡ head ++ rest = row-parts ∙ rw row-parts (rw (drop-append-seam, append-assoc)) in
+      let columns : columnCount row ≡ length ss = rw cut (ap fromLe (take-append-le 2 head rest (omega (arith, four))) ∙ header-columns packedFlag ss (omega arith)) in
+      let field : varlenField row ≡ varlens ss + packedFlag =
       rw cut (ap fromLe (ap (take 2) (drop-append-le 2 head rest (omega (arith, four))) ∙ take-append-le 2 (drop 2 head) rest (rw (length-drop, four) (omega arith))) ∙ header-varlens packedFlag ss (omega arith)) in
-      good-frame limit (layoutFor ts) true (builtRow offsetWidth ss cs) short columns (rw field (omega arith)) (rw field (le-leb packedFlag (varlens ss + packedFlag) (omega arith))) built-long
+      good-frame limit (layoutFor ts) true row short columns (rw field (omega arith)) (rw field (le-leb packedFlag (varlens ss + packedFlag) (omega arith))) cells-long

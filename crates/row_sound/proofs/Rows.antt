@@ -18,11 +18,13 @@ use Rattle.row_format.specs.declared.Shape.{Shape}
 use Rattle.row_format.specs.declared.Shape.the-variants.{Fixed, Varlen}
 use Rattle.row_format.specs.Places.{varlens, fixedSize, rankOf, slotStart, bitmapStart, bitmapSize, tableStart, fixedStart, offsetWidth}
 use Rattle.row_format.specs.Table.{Cell, bytes, lay, firstOffset, rangeEnd}
-use Rattle.row_format.specs.Row.{packedFlag, builtRow, slotSize}
+use Rattle.row_format.specs.Row.{packedFlag, header, rowWith, builtRow, slotSize, FitsSlot}
 use Rattle.row_format.specs.Edit.{rangeStart, editedRow}
 use Rattle.row_format.specs.Rising.{heldAt, heldCells, Between}
 use Rattle.row_format.proofs.Places.{rank-inside, slot-inside}
 use Rattle.row_format.proofs.Edit.{length-edited-fixed, length-edited}
+use Rattle.row_format.proofs.Row.{slots-fit}
+use Rattle.row_format.proofs.Zeroed.{Agree, agree-written}
 use Rattle.row_format.proofs.Rising.{length-held, held-at}
 use Rattle.row_layout.specs.declared.RowLayout.{RowLayout}
 use Rattle.row_layout.specs.Layout.{sizeIn, minimumOf}
@@ -40,7 +42,7 @@ use Rattle.row_sound.specs.Sound.{soundColumn, isSoundIn, isSound, sound
 use Rattle.row_sound.specs.Written.{Writes, null}
 use Rattle.row_sound.proofs.Columns.{offsetsOf, sound-at, sound-ranges, sound-long, sound-lay}
 use Rattle.row_sound.proofs.Laid.{soundPart, Parts, shape-at, size-in, column-lay}
-use Rattle.row_sound.proofs.Built.{writes-fits, built-frame, built-sound-in}
+use Rattle.row_sound.proofs.Built.{writes-fits, fits-all, cells-frame, cells-sound-in}
 use Rattle.row_sound.proofs.Edits.{edited}
 
 -- ---- what the test says
@@ -182,9 +184,13 @@ module _ {limit : ℕ} {ts : List DataType} {p : Bool} {r : List ℕ} (s : Sound
           sound = subst (λ (x : List ℕ). isSoundIn (layoutFor ts) p ts x ≡ true) (sym same) (e .sound-in);
         }
 
--- ---- a row that is built
+-- ---- a row that is laid out of accepted values, whatever the slots of its null columns hold; one that is built
+
+pub cells-row : (limit : ℕ) {ts : List DataType} {cs : List Cell} {slots : List (List ℕ)} → limit < 256 ^ offsetWidth → Forall₂ Writes ts cs → Forall₂ FitsSlot (map shapeOf ts) slots → Agree (map shapeOf ts) cs slots → length ts ≤ 256
+    → length (rowWith offsetWidth (header packedFlag (map shapeOf ts)) (map shapeOf ts) cs slots) ≤ limit → SoundRow limit ts true (rowWith offsetWidth (header packedFlag (map shapeOf ts)) (map shapeOf ts) cs slots)
+cells-row limit small written fit agree few short =
+    record { frame = cells-frame written fit agree (omega arith) limit few short; sound = cells-sound-in written fit agree (omega arith) }
 
 pub built-row : (limit : ℕ) {ts : List DataType} {cs : List Cell} → limit < 256 ^ offsetWidth → Forall₂ Writes ts cs → length ts ≤ 256 → length (builtRow offsetWidth (map shapeOf ts) cs) ≤ limit
     → SoundRow limit ts true (builtRow offsetWidth (map shapeOf ts) cs)
-built-row limit small written few short =
-    record { frame = built-frame written (omega arith) limit few short; sound = built-sound-in written (omega arith) }
+built-row limit small written few short = cells-row limit small written (slots-fit (fits-all written)) (agree-written (fits-all written)) few short

@@ -1,9 +1,14 @@
 -- 01, "Platform rows worked out": the cases marked (P), each as what the definitions compute beside what 01 states. S is Int, Varchar(5), SmallInt.
 use Prim.Native.Nat.{ℕ}
 use mathlib.Core.Bool.{true, false}
-use mathlib.Core.List.{List, [], _∷_, map}
+use mathlib.Core.List.{List, [], _∷_, _++_, map}
 use mathlib.Core.Option.{none, some}
 use mathlib.Core.Path.{_≡_}
+use lib.ListN.{replicate}
+use Rattle.error.specs.declared.Answer.{Answer}
+use Rattle.error.specs.declared.Answer.the-variants.{Done, Refused}
+use Rattle.error.specs.Refusal.{numberOf as numberFor, placeOf}
+use Rattle.error.specs.Answer.{Outcome}
 use Rattle.laws.specs.Bits.{bitValue}
 use Rattle.laws.specs.Bytes.{toLe}
 use Rattle.row_format.specs.declared.Shape.{Shape}
@@ -25,6 +30,8 @@ use Rattle.stored_form.specs.declared.SlotRead.the-variants.{Value, NoValue}
 use Rattle.stored_form.specs.Number.{numberOf}
 use Rattle.stored_form.specs.Write.{storedForm}
 use Rattle.stored_form.specs.Read.{readSlot}
+use Rattle.row_build.specs.Build.{freshCall, buildCall}
+use Rattle.row_edit.specs.Edit.{setCall, setNullCall}
 
 pub record Case : Type 0 where
   pub computed : List ℕ
@@ -42,9 +49,12 @@ shapesIn (refused r) = []
 unfoldable pub columns : List ℕ → List Shape
 columns schema = shapesIn (schemaOf offsetWidth rowLimit schema)
 
+abbrev pub schema : List ℕ
+schema = 2 ∷ 11 ∷ 5 ∷ 0 ∷ 1 ∷ []
+
 unfoldable pub S : List Shape
 unfolding columns
-S = columns (2 ∷ 11 ∷ 5 ∷ 0 ∷ 1 ∷ [])
+S = columns schema
 
 unfoldable pub row : List Cell → List ℕ
 unfolding S
@@ -64,17 +74,45 @@ time z = told (readSlot T.Time 0 (toLe 8 (ofZ w64 z)))
 abbrev pub date : ℤ → List ℕ
 date z = told (readSlot T.Date 0 (toLe 4 (ofZ w32 z)))
 
+-- 0 and the length, or number and place; then the lent bytes
+abbrev pub answered : Answer → List ℕ
+answered (Done n) = 0 ∷ n ∷ []
+answered (Refused e) = numberFor e ∷ placeOf e ∷ []
+
+abbrev pub outcome : Outcome → List ℕ
+outcome o = answered (o .0) ++ o .1
+
+-- row 2 in a buffer with a byte more
+abbrev pub row2 : List ℕ
+row2 = 3 ∷ 0 ∷ 1 ∷ 0x80 ∷ 4 ∷ 0x0D ∷ 0 ∷ 1 ∷ 0 ∷ 0 ∷ 0 ∷ 0 ∷ 0 ∷ 0x41 ∷ 0x42 ∷ 0xAA ∷ []
+
 unfoldable pub table : List Case
 unfolding row columns
 table =
     -- 1. S fresh
     record { computed = row (none ∷ none ∷ none ∷ []); stated = 3 ∷ 0 ∷ 1 ∷ 0x80 ∷ 7 ∷ 0 ∷ 0 ∷ 0 ∷ 0 ∷ 0 ∷ 0 ∷ 0 ∷ 0 ∷ [] }
+    ∷ record {
+      computed = outcome (freshCall offsetWidth rowLimit schema (replicate 14 0xAA));
+      stated = 0 ∷ 13 ∷ 3 ∷ 0 ∷ 1 ∷ 0x80 ∷ 7 ∷ 0 ∷ 0 ∷ 0 ∷ 0 ∷ 0 ∷ 0 ∷ 0 ∷ 0 ∷ 0xAA ∷ [];
+    }
     -- 2. S of 1, "AB", null
     ∷ record { computed = row (one ∷ some (0x41 ∷ 0x42 ∷ []) ∷ none ∷ []); stated = 3 ∷ 0 ∷ 1 ∷ 0x80 ∷ 4 ∷ 0x0D ∷ 0 ∷ 1 ∷ 0 ∷ 0 ∷ 0 ∷ 0 ∷ 0 ∷ 0x41 ∷ 0x42 ∷ [] }
+    ∷ record {
+      computed = outcome (buildCall offsetWidth rowLimit schema (2 ∷ 1 ∷ 0 ∷ 0 ∷ 0 ∷ 9 ∷ 0 ∷ 0 ∷ 2 ∷ 0 ∷ 0 ∷ []) (0x41 ∷ 0x42 ∷ []) (replicate 16 0xAA));
+      stated = 0 ∷ 15 ∷ row2;
+    }
     -- 3. column 1 of it empty
     ∷ record { computed = row (one ∷ some [] ∷ none ∷ []); stated = 3 ∷ 0 ∷ 1 ∷ 0x80 ∷ 4 ∷ 0x0D ∷ 0 ∷ 1 ∷ 0 ∷ 0 ∷ 0 ∷ 0 ∷ 0 ∷ [] }
+    ∷ record {
+      computed = outcome (setCall offsetWidth rowLimit schema row2 15 1 (9 ∷ 0 ∷ 0 ∷ 0 ∷ 0 ∷ []) []);
+      stated = 0 ∷ 13 ∷ 3 ∷ 0 ∷ 1 ∷ 0x80 ∷ 4 ∷ 0x0D ∷ 0 ∷ 1 ∷ 0 ∷ 0 ∷ 0 ∷ 0 ∷ 0 ∷ 0x41 ∷ 0x42 ∷ 0xAA ∷ [];
+    }
     -- 4. column 1 null instead
     ∷ record { computed = row (one ∷ none ∷ none ∷ []); stated = 3 ∷ 0 ∷ 1 ∷ 0x80 ∷ 6 ∷ 0 ∷ 0 ∷ 1 ∷ 0 ∷ 0 ∷ 0 ∷ 0 ∷ 0 ∷ [] }
+    ∷ record {
+      computed = outcome (setNullCall offsetWidth rowLimit schema row2 15 1);
+      stated = 0 ∷ 13 ∷ 3 ∷ 0 ∷ 1 ∷ 0x80 ∷ 6 ∷ 0 ∷ 0 ∷ 1 ∷ 0 ∷ 0 ∷ 0 ∷ 0 ∷ 0 ∷ 0x41 ∷ 0x42 ∷ 0xAA ∷ [];
+    }
     -- 5. SmallInt, Int: minimum packed, padded
     ∷ record { computed = map (λ p. minimum offsetWidth p (columns (1 ∷ 2 ∷ []))) (true ∷ false ∷ []); stated = 11 ∷ 13 ∷ [] }
     -- 6. Numeric(4,2) of -12.34, Numeric(3,0) of 7

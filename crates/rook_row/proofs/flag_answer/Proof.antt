@@ -1,10 +1,6 @@
 use borrow.Author.Needs.{needs}
 use Rattle.rook_row.proofs.flag_answer.Statement.{statement}
 use Rattle.rook_row.proofs.flag_answer.Tie as tie
-use Rattle.rook_row.proofs.flag_answer.Reads as reads
-use Rattle.rook_row.proofs.flag_answer.Lts as lts
-use Rattle.error.proofs.Refusal.number.Reads as number-reads
-use Rattle.error.proofs.Refusal.place.Reads as place-reads
 use Rattle.laws.proofs.Bits.{bool-bit}
 
 enum-known-answer : tie.Need-enum-known-answer

@@ -1,10 +1,6 @@
 use borrow.Author.Needs.{needs}
 use Rattle.rook_row.proofs.rook_row_is_null.Statement.{statement}
 use Rattle.rook_row.proofs.rook_row_is_null.Tie as tie
-use Rattle.rook_row.proofs.rook_row_is_null.Reads as reads
-use Rattle.rook_row.proofs.rook_row_is_null.Lts as lts
-use Rattle.null_bitmap.proofs.is_column_null_in_row.Reads as is-column-null-in-row-reads
-use Rattle.rook_row.proofs.flag_answer.Reads as flag-answer-reads
 
 is-column-null-in-row-requires : tie.Need-is-column-null-in-row-requires
 is-column-null-in-row-requires c κs = search needs

@@ -1,10 +1,6 @@
 use borrow.Author.Needs.{needs}
 use Rattle.rook_row.proofs.rook_row_read.Statement.{statement}
 use Rattle.rook_row.proofs.rook_row_read.Tie as tie
-use Rattle.rook_row.proofs.rook_row_read.Reads as reads
-use Rattle.rook_row.proofs.rook_row_read.Lts as lts
-use Rattle.rook_row.proofs.row_answer.Reads as row-answer-reads
-use Rattle.row_decode.proofs.decode.Reads as decode-reads
 
 decode-requires : tie.Need-decode-requires
 decode-requires c κs = search needs

@@ -1,10 +1,6 @@
 use borrow.Author.Needs.{needs}
 use Rattle.rook_row.proofs.row_answer.Statement.{statement}
 use Rattle.rook_row.proofs.row_answer.Tie as tie
-use Rattle.rook_row.proofs.row_answer.Reads as reads
-use Rattle.rook_row.proofs.row_answer.Lts as lts
-use Rattle.error.proofs.Refusal.number.Reads as number-reads
-use Rattle.error.proofs.Refusal.place.Reads as place-reads
 
 enum-known-answer : tie.Need-enum-known-answer
 enum-known-answer c = search needs

@@ -1,0 +1,21 @@
+-- Every history leaves a sound row, so its next edit is judged by its own conditions.
+use Prim.Native.Nat.{ℕ, _<_}
+use mathlib.Core.Bool.{Bool, true}
+use mathlib.Core.List.{List}
+use mathlib.Core.Path.{_≡_, _∙_}
+use borrow.Author.Tests.{lt-leb}
+use lib.ListN.{length}
+use Rattle.error.specs.Answer.{Outcome}
+use Rattle.row_format.specs.Places.{offsetWidth, rowLimit}
+use Rattle.datatype.specs.declared.DataType.{DataType}
+use Rattle.row_edit.specs.Edit.{opened}
+use Rattle.history.specs.Demand.{History, left, Accepts}
+use Rattle.history.proofs.Kept.{kept-sound, open-kept}
+use Rattle.history.proofs.Histories.{wide, kept}
+
+module _ {schema : List ℕ} {ts : List DataType} (h : History schema ts) where
+  opens : (i : ℕ) (f : List DataType → Bool → Outcome) → i < length ts → opened offsetWidth rowLimit schema (left h .buf) (left h .row-length) i f ≡ f ts true
+  opens i f l = open-kept rowLimit schema ts (h .columns) wide (kept h) i f ∙ rw (lt-leb (length ts) i l)
+
+  pub accepts : Accepts h
+  accepts = record { sound = kept-sound rowLimit schema ts (h .columns) wide (kept h); set = λ i list area b l e. opens i _ l ∙ rw e; set-null = λ i l. opens i _ l }

@@ -1,0 +1,91 @@
+-- How a call ends: refused, with the buffer as it was, or with a row in the buffer's first bytes.
+use Prim.Native.Nat.{ℕ, _≤_, _<_}
+use mathlib.Core.Bool.{Bool, true, false, cond}
+use mathlib.Core.List.{List, [], _∷_}
+use mathlib.Core.Path.{_≡_, refl, sym, ap, subst}
+use borrow.Author.Tests.{ltb-false, leb-false}
+use lib.Dec.{leb, ltb}
+use lib.ListN.{length, getD}
+use Rattle.laws.proofs.Bytes.{AllBytes}
+use Rattle.laws.proofs.Truths.{by-cond}
+use Rattle.error.specs.declared.Refusal.{Refusal}
+use Rattle.error.specs.declared.Refusal.the-variants as No
+use Rattle.error.specs.Answer.{Outcome, unchanged, placed}
+use Rattle.datatype.specs.declared.DataType.{DataType}
+use Rattle.value.specs.declared.DataValue.{DataValue}
+use Rattle.value.specs.declared.DataValue.the-variants.{Null}
+use Rattle.value.specs.Kinds.{matches}
+use Rattle.value.specs.Ranges.{textOf}
+use Rattle.value_list.specs.Records.{Sized}
+use Rattle.value_list.specs.Lists.{Values, values, refused, valuesOf, checked, AllSized}
+use Rattle.value_list.proofs.Lists.{checked-taken, values-sized}
+use Rattle.stored_form.specs.Write.{accepted, storedForm}
+use Rattle.row_build.specs.Stored as Stored
+use Rattle.row_build.specs.Stored.{Tested, good, onTested, storedIn}
+use Rattle.row_build.specs.Build.{onValues, rowPlaced}
+use Rattle.row_edit.specs.Edit.{held, given}
+use Rattle.history.specs.History.{oneValue}
+
+-- ---- the outcome o of a call on a buffer; P is what is known of a row that it wrote
+
+pub data Ends (buf : List ℕ) (P : List ℕ → Type 0) (o : Outcome) : Type 0 where
+  refusal : (e : Refusal) → o ≡ unchanged buf e → Ends buf P o
+  written : (r : List ℕ) → o ≡ held buf r → P r → Ends buf P o
+
+module _ {buf : List ℕ} {P : List ℕ → Type 0} where
+  -- 9
+  pub column-ends : (n i : ℕ) (o : Outcome) → (i < n → Ends buf P o) → Ends buf P (cond (leb n i) (unchanged buf No.NoSuchColumn) o)
+  column-ends n i o f = by-cond (Ends buf P) (leb n i) (unchanged buf No.NoSuchColumn) o (λ h. refusal No.NoSuchColumn refl) (λ h. f (leb-false n i h))
+
+  pub tested-ends : {A : Type 0} (q : Tested A) (k : A → Outcome) → ((x : A) → q ≡ good x → Ends buf P (k x)) → Ends buf P (onTested q (unchanged buf) k)
+  tested-ends (good x) k f = f x refl
+  tested-ends (Stored.refused e) k f = refusal e refl
+
+  -- 13, then 14
+  pub placed-ends : (limit : ℕ) (r : List ℕ) → (length r ≤ limit → length r ≤ length buf → P r) → Ends buf P (rowPlaced limit buf r)
+  placed-ends limit r f =
+      by-cond (Ends buf P) (ltb limit (length r)) (unchanged buf No.RowLimit) (placed buf r) (λ h. refusal No.RowLimit refl)
+      (λ h. by-cond (Ends buf P) (ltb (length buf) (length r)) (unchanged buf No.NoRoom) (held buf r) (λ g. refusal No.NoRoom refl)
+      (λ g. written r refl (f (ltb-false limit (length r) h) (ltb-false (length buf) (length r) g))))
+
+-- ---- a value that was accepted
+
+pub record Chosen (t : DataType) (v : DataValue) (area b : List ℕ) : Type 0 where
+  pub match : matches t v ≡ true
+  pub accept : accepted t v area ≡ true
+  pub form : b ≡ storedForm t v (textOf area v)
+
+abbrev IsGood : {A : Type 0} → Tested A → Type 0
+IsGood (good x) = Unit {0}
+IsGood (Stored.refused e) = ⊥
+
+pub stored-chosen : (i : ℕ) (t : DataType) (v : DataValue) (area b : List ℕ) → storedIn i t v area ≡ good b → Chosen t v area b
+stored-chosen i t v area b e = of-tests (matches t v) (accepted t v area) refl refl e
+  where
+    of-tests : (x y : Bool) → matches t v ≡ x → accepted t v area ≡ y
+        → cond x (cond y (good (storedForm t v (textOf area v))) (Stored.refused (No.Unsuitable i))) (Stored.refused (No.WrongKind i)) ≡ good b → Chosen t v area b
+    of-tests true true m a q = record { match = m; accept = a; form = cc }
+    of-tests true false m a q = absurd (subst IsGood (sym q) tt)
+    of-tests false y m a q = absurd (subst IsGood (sym q) tt)
+
+first-sized : (vs : List DataValue) → AllSized vs → Sized (getD vs 0 Null)
+first-sized [] f = tt
+first-sized (v ∷ vs) f = f .0
+
+-- the one value of a set
+pub record Taken (t : DataType) (list area b : List ℕ) : Type 0 where
+  pub chosen : Chosen t (oneValue (valuesOf list)) area b
+  pub sized : Sized (oneValue (valuesOf list))
+
+pub given-taken : (limit : ℕ) (t : DataType) (i : ℕ) (list area b : List ℕ) → AllBytes list → given limit t i list area ≡ good b → Taken t list area b
+given-taken limit t i list area b a e = of-values (checked limit 1 (length area) list) refl e
+  where
+    of-values : (q : Values) → checked limit 1 (length area) list ≡ q → onValues q Stored.refused (λ vs. storedIn i t (getD vs 0 Null) area) ≡ good b → Taken t list area b
+    of-values (refused r) c q = absurd (subst IsGood (sym q) tt)
+    of-values (values vs) c q =
+        let all = checked-taken limit 1 (length area) list c .all in
+        let one : getD vs 0 Null ≡ oneValue (valuesOf list) = sym (ap oneValue all) in
+        record {
+          chosen = subst (λ v. Chosen t v area b) one (stored-chosen i t (getD vs 0 Null) area b q);
+          sized = subst Sized one (first-sized vs (values-sized list a all));
+        }

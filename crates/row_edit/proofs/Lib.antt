@@ -1,0 +1,4 @@
+pub mod Placing
+pub mod Ready
+pub mod Stored
+pub mod Opening
