@@ -14,6 +14,7 @@ bench: target/staticlib/librook_row.a target/staticlib/librook_probe.a
 	cargo run --release --offline --quiet --manifest-path native/Cargo.toml --bin bench_text
 	oracle/prepare
 	cd oracle && cargo run --release --offline --quiet --bin bench_read
+	cd oracle && cargo run --release --offline --quiet --bin bench_build
 
 # The comparison with the Rust for longer: make differential SECONDS=600 SEED=7
 SECONDS = 300

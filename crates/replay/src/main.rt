@@ -21,6 +21,8 @@ const SLOT: u8 = 5;
 
 const READ: u8 = 6;
 
+const BUILT: u8 = 7;
+
 const PLANTED: u8 = 128;
 
 // The answers to one call. Of the planted ones, which are wrong, `found` were told apart.
@@ -38,6 +40,7 @@ struct Tallies {
     stored: Tally,
     slot: Tally,
     read: Tally,
+    built: Tally,
     unknown: u64,
     done: bool,
 }
@@ -219,6 +222,14 @@ fn same_read(schema: &[u8], row: &[u8], wanted: &[u8], answer: &[u8]) -> bool {
     same_columns(schema, row, &list, n, answer)
 }
 
+fn same_built(schema: &[u8], values: &[u8], area: &[u8], answer: &[u8]) -> bool {
+    let mut out = [0; 2048];
+    match row_build::serialize_nullable_typed_row(schema, values, area, &mut out) {
+        Answer::Done(n) => same_handed(0, n, &out, answer),
+        Answer::Refused(e) => same_handed(e.number(), 0, &out, answer),
+    }
+}
+
 // A record's kind is its first byte, then come its fields. An empty one fills a block up.
 fn run(tallies: Tallies, record: &[u8]) -> Tallies {
     let mut next = tallies;
@@ -248,6 +259,8 @@ fn run(tallies: Tallies, record: &[u8]) -> Tallies {
         next.slot = counted(next.slot, same_slot(a, b, c, d), planted);
     } else if kind == READ {
         next.read = counted(next.read, same_read(a, b, c, d), planted);
+    } else if kind == BUILT {
+        next.built = counted(next.built, same_built(a, b, c, d), planted);
     } else {
         next.unknown = one_more(next.unknown);
     }
@@ -298,6 +311,7 @@ fn run_all(buffer: &mut [u8]) -> Tallies {
         stored: no_tally(),
         slot: no_tally(),
         read: no_tally(),
+        built: no_tally(),
         unknown: 0,
         done: false,
     };
@@ -318,6 +332,7 @@ fn main() {
     say_tally(b"value stored: ", tallies.stored);
     say_tally(b"slot read: ", tallies.slot);
     say_tally(b"row read: ", tallies.read);
+    say_tally(b"row built: ", tallies.built);
     say(b"records not understood: ");
     io::print_decimal(STDOUT_FILENO, tallies.unknown);
     say(b"\n");

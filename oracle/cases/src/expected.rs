@@ -101,12 +101,7 @@ fn record(value: &Option<DataValue>, row: &[u8], layout: &Layout, place: Place) 
         Place::Fixed { start, .. } => start as u16,
         Place::Varchar { rank } => offset(row, layout, rank),
     };
-    let range = TextRange { start, ..range };
-    let record = match own {
-        Record::Char(_) => Record::Char(range),
-        Record::Varchar(_) => Record::Varchar(range),
-        _ => Record::Bit(range),
-    };
+    let record = own.with_range(TextRange { start, ..range });
     assert!(is_value(&record, row, value.as_ref()), "{value:?}");
     record
 }
@@ -161,9 +156,28 @@ pub fn null_flag(row: &[u8], column: usize) -> Result<bool, Refusal> {
     }
 }
 
+/// The row of nulls.
+pub fn fresh(types: &[DataType]) -> Vec<u8> {
+    match rust::fresh(types) {
+        Outcome::Ok(row) => row,
+        other => panic!("a fresh row came to {other:?}"),
+    }
+}
+
+/// What the Rust says of a list with so many good records: its count is the one
+/// refusal 10 that the Rust has.
+pub fn counted(types: &[DataType], records: usize) -> Outcome<Vec<u8>> {
+    rust::build(types, &vec![None; records])
+}
+
 /// The row of a build, or its refusal. After a refusal the columns are built one
 /// by one, the others null, to learn the place.
 pub fn build(types: &[DataType], list: &ValueList) -> Result<Vec<u8>, (u32, usize)> {
+    if let Ok(records) = list.all_records()
+        && records.len() != types.len()
+    {
+        assert_eq!(counted(types, records.len()), Outcome::Internal);
+    }
     let given = list
         .to_rust(types)
         .map_err(|refusal| (refusal.number, refusal.place))?;

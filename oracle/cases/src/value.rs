@@ -132,6 +132,16 @@ impl Record {
         }
     }
 
+    /// The record with another text range, if its kind has one.
+    pub fn with_range(self, range: TextRange) -> Self {
+        match self {
+            Record::Char(_) => Record::Char(range),
+            Record::Varchar(_) => Record::Varchar(range),
+            Record::Bit(_) => Record::Bit(range),
+            other => other,
+        }
+    }
+
     /// Whether the record's kind is that of the column's type. Null has none.
     pub fn matches(&self, ty: &DataType) -> bool {
         let kind = match ty {
@@ -210,9 +220,8 @@ impl ValueList {
         Some(Self::of_records(&records?, text))
     }
 
-    /// The records, or refusal 10: the first unknown or cut record, then the
-    /// count, then the text area.
-    pub fn records(&self, count: usize) -> Result<Vec<Record>, Refusal> {
+    /// The records, however many, or refusal 10: the first unknown or cut one.
+    pub fn all_records(&self) -> Result<Vec<Record>, Refusal> {
         let mut records = Vec::new();
         let mut at = 0;
         while at < self.bytes.len() {
@@ -220,6 +229,13 @@ impl ValueList {
             records.push(record);
             at += length;
         }
+        Ok(records)
+    }
+
+    /// The records, or refusal 10: the first unknown or cut record, then the
+    /// count, then the text area.
+    pub fn records(&self, count: usize) -> Result<Vec<Record>, Refusal> {
+        let records = self.all_records()?;
         if records.len() != count {
             return Err(Refusal::new(10, self.bytes.len()));
         }

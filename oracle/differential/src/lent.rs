@@ -30,6 +30,28 @@ pub fn output(rng: &mut Rng, room: usize) -> Vec<u8> {
     rng.bytes(GUARD + room + GUARD)
 }
 
+/// The length of an output beside that of the result.
+#[derive(Debug, Clone, Copy)]
+pub enum Room {
+    Longer,
+    Equal,
+    OneShort,
+    Shorter,
+    Empty,
+}
+
+/// An output for a result of this length, with room or not.
+pub fn any_output(rng: &mut Rng, needed: usize) -> (Room, Vec<u8>) {
+    let (room, length) = match rng.below(16) {
+        0..=3 if needed > 0 => (Room::OneShort, needed - 1),
+        4 if needed > 1 => (Room::Shorter, rng.between(1, needed - 1)),
+        5 if needed > 1 => (Room::Empty, 0),
+        6..=10 => (Room::Equal, needed),
+        _ => (Room::Longer, needed + rng.between(1, 40)),
+    };
+    (room, output(rng, length))
+}
+
 /// The output without its guards.
 pub fn inside(output: &mut [u8]) -> &mut [u8] {
     let end = output.len() - GUARD;
@@ -50,6 +72,16 @@ pub fn called<A, const N: usize>(
         answer,
         output,
         kept: *black_box(&lent) == inputs,
+    }
+}
+
+/// What a call leaves that writes to its output alone, and only reads the rest.
+pub fn written<A>(output: &[u8], call: impl FnOnce(&mut [u8]) -> A) -> After<A> {
+    let mut output = output.to_vec();
+    After {
+        answer: call(inside(&mut output)),
+        output,
+        kept: true,
     }
 }
 

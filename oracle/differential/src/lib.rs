@@ -2,8 +2,10 @@
 //! one comparison on one generated input; `port` reaches the port's calls on
 //! rows, `probe` its inner functions, `lent` tells what a call left. The program
 //! `differential` runs comparisons for a time, the program `record` writes a
-//! sample of the Rust's answers to a file, the program `bench_read` measures.
+//! sample of the Rust's answers to a file, `bench_read` and `bench_build` measure
+//! with what `bench` has.
 
+pub mod bench;
 pub mod compare;
 pub mod lent;
 pub mod port;

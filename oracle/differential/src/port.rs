@@ -30,6 +30,24 @@ struct Text {
 }
 
 unsafe extern "C" {
+    fn rook_row_fresh(
+        schema: *const u8,
+        schema_length: usize,
+        out: *mut u8,
+        out_length: usize,
+    ) -> Row;
+
+    fn rook_row_build(
+        schema: *const u8,
+        schema_length: usize,
+        values: *const u8,
+        values_length: usize,
+        text: *const u8,
+        text_length: usize,
+        out: *mut u8,
+        out_length: usize,
+    ) -> Row;
+
     fn rook_row_read(
         schema: *const u8,
         schema_length: usize,
@@ -61,26 +79,51 @@ unsafe extern "C" {
     fn rook_row_is_null(row: *const u8, row_length: usize, column: usize) -> Flag;
 }
 
-/// The wanted columns of a row, as a value list in `out`.
-pub fn read(schema: &mut [u8], row: &mut [u8], wanted: &mut [u16], out: &mut [u8]) -> RowAnswer {
+/// The row of nulls, in `out`.
+pub fn fresh(schema: &mut [u8], out: &mut [u8]) -> RowAnswer {
     // SAFETY: pointers and lengths are those of slices, each borrowed alone.
-    let answer = unsafe {
+    row(unsafe {
+        rook_row_fresh(
+            schema.as_mut_ptr(),
+            schema.len(),
+            out.as_mut_ptr(),
+            out.len(),
+        )
+    })
+}
+
+/// The row of a value list, in `out`.
+pub fn build(schema: &mut [u8], values: &mut [u8], text: &mut [u8], out: &mut [u8]) -> RowAnswer {
+    // SAFETY: as above.
+    row(unsafe {
+        rook_row_build(
+            schema.as_mut_ptr(),
+            schema.len(),
+            values.as_mut_ptr(),
+            values.len(),
+            text.as_mut_ptr(),
+            text.len(),
+            out.as_mut_ptr(),
+            out.len(),
+        )
+    })
+}
+
+/// The wanted columns of a row, as a value list in `out`.
+pub fn read(schema: &mut [u8], bytes: &mut [u8], wanted: &mut [u16], out: &mut [u8]) -> RowAnswer {
+    // SAFETY: as above.
+    row(unsafe {
         rook_row_read(
             schema.as_mut_ptr(),
             schema.len(),
-            row.as_mut_ptr(),
-            row.len(),
+            bytes.as_mut_ptr(),
+            bytes.len(),
             wanted.as_mut_ptr(),
             wanted.len(),
             out.as_mut_ptr(),
             out.len(),
         )
-    };
-    RowAnswer {
-        number: answer.number,
-        place: answer.place,
-        length: answer.length,
-    }
+    })
 }
 
 /// The text of a column, as a part of the row.
@@ -122,6 +165,14 @@ pub fn same_content(schema: &mut [u8], a: &mut [u8], b: &mut [u8]) -> FlagAnswer
 pub fn is_null(row: &mut [u8], column: usize) -> FlagAnswer {
     // SAFETY: as above.
     flag(unsafe { rook_row_is_null(row.as_mut_ptr(), row.len(), column) })
+}
+
+fn row(answer: Row) -> RowAnswer {
+    RowAnswer {
+        number: answer.number,
+        place: answer.place,
+        length: answer.length,
+    }
 }
 
 fn flag(answer: Flag) -> FlagAnswer {

@@ -13,13 +13,14 @@
 //! | 4 | schema of one column, value list, text area; answer: variant, stored form |
 //! | 5 | schema of one column, its bytes, their place (8 bytes); answer: variant, value record |
 //! | 6 | schema, row, wanted columns (2 bytes each); answer: variant, value list |
+//! | 7 | schema, value list, text area; answer: variant, row |
 //!
 //! A variant is 0 for `Ok`, 1 for `Internal`, 2 for `TypeMismatch`, 3 for a panic.
 //! 128 added to a kind says that the answer was changed by hand: a run must find
 //! it wrong.
 
 use crate::compare::value::{self, Handed};
-use crate::compare::{layout, null_flag, rows, text};
+use crate::compare::{build, layout, null_flag, rows, text};
 use cases::LIMIT;
 use cases::expected::{self, Refusal};
 use cases::generate::schema::any_schema;
@@ -35,6 +36,7 @@ const LAYOUT: u8 = 3;
 const STORED: u8 = 4;
 const SLOT: u8 = 5;
 const READ: u8 = 6;
+const BUILT: u8 = 7;
 const PLANTED: u8 = 128;
 
 /// The seed that the file is made from.
@@ -180,6 +182,22 @@ fn row_read(rng: &mut Rng) -> Option<Record> {
     handed(READ, vec![given.schema, given.row, wanted], answer)
 }
 
+fn row_built(rng: &mut Rng) -> Option<Record> {
+    let given = match rng.below(3) {
+        0 => build::refused_given(rng)?,
+        _ => build::any_given(rng),
+    };
+    let list = given.list;
+    let answer = match build::rust_row(&given.types, &list)? {
+        Outcome::Ok(row) => Ok(row),
+        Outcome::Internal => Err(11),
+        Outcome::TypeMismatch => Err(12),
+        _ => return None,
+    };
+    let inputs = vec![write_schema(&given.types), list.bytes, list.text];
+    handed(BUILT, inputs, answer)
+}
+
 /// So many records, and before each hundred one with a wrong answer.
 fn samples(rng: &mut Rng, make: fn(&mut Rng) -> Option<Record>, count: usize, out: &mut Vec<u8>) {
     let next = |rng: &mut Rng| {
@@ -216,5 +234,6 @@ pub fn file() -> Vec<u8> {
     samples(&mut rng, value_stored, 400, &mut out);
     samples(&mut rng, slot_read, 400, &mut out);
     samples(&mut rng, row_read, 800, &mut out);
+    samples(&mut rng, row_built, 800, &mut out);
     out
 }

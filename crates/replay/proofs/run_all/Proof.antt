@@ -28,6 +28,9 @@ no-tally-requires-5 c κs = search needs
 no-tally-requires-6 : tie.Need-no-tally-requires-6 Inv-loop μ-loop
 no-tally-requires-6 c κs = search needs
 
+no-tally-requires-7 : tie.Need-no-tally-requires-7 Inv-loop μ-loop
+no-tally-requires-7 c κs = search needs
+
 loop-holds : tie.Need-loop-holds Inv-loop μ-loop
 loop-holds c = refl
 
@@ -67,6 +70,7 @@ run-all-spec =
     no-tally-requires-4
     no-tally-requires-5
     no-tally-requires-6
+    no-tally-requires-7
     loop-holds
     step-requires
     sub-turns

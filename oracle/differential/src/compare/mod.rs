@@ -2,7 +2,10 @@
 
 use crate::Comparison;
 
+pub mod build;
 pub mod column_text;
+pub mod edit;
+pub mod fresh;
 pub mod layout;
 pub mod null_flag;
 pub mod read;
@@ -11,7 +14,7 @@ pub mod same_content;
 pub mod text;
 pub mod value;
 
-pub const ALL: [Comparison; 9] = [
+pub const ALL: [Comparison; 11] = [
     ("text", text::compare),
     ("schema and layout", layout::compare),
     ("null flag", null_flag::compare),
@@ -21,4 +24,6 @@ pub const ALL: [Comparison; 9] = [
     ("read of every subset", read::every_subset),
     ("column text", column_text::compare),
     ("same content", same_content::compare),
+    ("fresh", fresh::compare),
+    ("build", build::compare),
 ];

@@ -2,8 +2,8 @@
 //! nulls and errors by variant on 01's domain. The model judges all of it:
 //! number, place, length and every lent byte.
 
-use super::rows::{self, Given, apart, counted, judge};
-use crate::lent::{After, GUARD, called, inside, output};
+use super::rows::{self, Given, apart, counted, fitting, handed, judge};
+use crate::lent::{After, GUARD, Room, any_output, called, written};
 use crate::{Compared, hex, port};
 use cases::expected::{self, Refusal};
 use cases::generate::row::any_row;
@@ -18,14 +18,6 @@ use std::hint::black_box;
 /// The most bytes of a value list: 256 Numerics.
 const LONGEST: usize = 256 * 18;
 
-#[derive(Debug, Clone, Copy)]
-enum Room {
-    Longer,
-    Equal,
-    OneShort,
-    Shorter,
-}
-
 /// What a read is lent: the output with its guards.
 struct Lent<'a> {
     schema: &'a [u8],
@@ -34,16 +26,10 @@ struct Lent<'a> {
     output: Vec<u8>,
 }
 
-/// An output for a result, and whether it has room.
-fn any_output(rng: &mut Rng, schema: &[u8], row: &[u8], wanted: &[u16]) -> (Room, Vec<u8>) {
+/// An output, and whether the list of this read has room in it.
+fn output_for(rng: &mut Rng, schema: &[u8], row: &[u8], wanted: &[u16]) -> (Room, Vec<u8>) {
     let needed = model::read(schema, row, wanted, &mut [0; LONGEST]).length;
-    let (room, length) = match rng.below(8) {
-        0 | 1 if needed > 0 => (Room::OneShort, needed - 1),
-        2 if needed > 1 => (Room::Shorter, rng.below(needed - 1)),
-        3..=5 => (Room::Equal, needed),
-        _ => (Room::Longer, needed + rng.between(1, 40)),
-    };
-    (room, output(rng, length))
+    any_output(rng, needed)
 }
 
 impl Lent<'_> {
@@ -58,21 +44,16 @@ impl Lent<'_> {
     }
 
     fn model(&self) -> After<RowAnswer> {
-        let mut output = self.output.clone();
-        After {
-            answer: model::read(self.schema, self.row, self.wanted, inside(&mut output)),
-            output,
-            kept: true,
-        }
+        written(&self.output, |out| {
+            model::read(self.schema, self.row, self.wanted, out)
+        })
     }
 
     /// The value list of what the Rust reads, or the refusal.
     fn told(&self) -> Result<Vec<u8>, Refusal> {
         let types = rows::columns(self.schema)?;
         let values = expected::read(&types, self.row, self.wanted)?;
-        let list = expected::list(&types, self.row, &values);
-        let fits = list.len() + 2 * GUARD <= self.output.len();
-        fits.then_some(list).ok_or(Refusal::Number(14, 0))
+        fitting(expected::list(&types, self.row, &values), &self.output)
     }
 
     fn input(&self) -> String {
@@ -91,25 +72,13 @@ impl Lent<'_> {
         let difference = apart("model", &port, &self.model(), || self.input());
         (
             port.answer.number,
-            difference.or_else(|| apart("Rust", &listed(&port), &self.told(), || self.input())),
+            difference.or_else(|| apart("Rust", &handed(&port), &self.told(), || self.input())),
         )
     }
 
     fn judge(&self, number: u32) -> &'static str {
         let types = rows::columns(self.schema).unwrap_or_default();
         judge(number, || rust::read(&types, self.row, self.wanted))
-    }
-}
-
-/// The list that a call handed back, or its refusal.
-fn listed(after: &After<RowAnswer>) -> Result<Vec<u8>, Refusal> {
-    let answer = after.answer;
-    match answer.number {
-        0 => {
-            let list = after.output.get(GUARD..GUARD + answer.length);
-            Ok(list.unwrap_or_default().to_vec())
-        }
-        number => Err(Refusal::of((number, answer.place))),
     }
 }
 
@@ -122,7 +91,7 @@ pub fn compare(rng: &mut Rng) -> Compared {
         row,
     } = rows::any_given(rng);
     let (wanted_sort, wanted) = any_wanted(rng, types.len());
-    let (room, output) = any_output(rng, &schema, &row, &wanted);
+    let (room, output) = output_for(rng, &schema, &row, &wanted);
     let lent = Lent {
         schema: &schema,
         row: &row,
@@ -150,7 +119,7 @@ pub fn every_subset(rng: &mut Rng) -> Compared {
     let schema = write_schema(&types);
     let mut difference = None;
     for wanted in subsets(columns) {
-        let (_, output) = any_output(rng, &schema, &row, &wanted);
+        let (_, output) = output_for(rng, &schema, &row, &wanted);
         let lent = Lent {
             schema: &schema,
             row: &row,

@@ -1,12 +1,14 @@
 //! What the comparisons of calls on rows share: a schema with a row, its own or
 //! not, and what the Rust and 01 tell of it.
 
+use crate::lent::{After, GUARD};
 use cases::expected::Refusal;
 use cases::generate::row::any_row;
 use cases::generate::schema::{self, any_schema, any_type};
 use cases::rng::Rng;
 use cases::rust::Outcome;
 use cases::schema::{read_schema, write_schema};
+use model::RowAnswer;
 use rookdb::types::datatype::DataType;
 
 /// A schema and a row.
@@ -104,6 +106,24 @@ pub fn judge<T>(number: u32, rust: impl FnOnce() -> Outcome<T>) -> &'static str 
     } else {
         "judged by 01 alone"
     }
+}
+
+/// The bytes that a call handed back in its output, or its refusal.
+pub fn handed(after: &After<RowAnswer>) -> Result<Vec<u8>, Refusal> {
+    let answer = after.answer;
+    match answer.number {
+        0 => {
+            let bytes = after.output.get(GUARD..GUARD + answer.length);
+            Ok(bytes.unwrap_or_default().to_vec())
+        }
+        number => Err(Refusal::of((number, answer.place))),
+    }
+}
+
+/// What is handed back of a result in this output: 14 if it has no room.
+pub fn fitting(bytes: Vec<u8>, output: &[u8]) -> Result<Vec<u8>, Refusal> {
+    let fits = bytes.len() + 2 * GUARD <= output.len();
+    fits.then_some(bytes).ok_or(Refusal::Number(14, 0))
 }
 
 /// Each sort once.

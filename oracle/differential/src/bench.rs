@@ -1,0 +1,83 @@
+//! What the benchmarks share: rows of a station's platforms, and the time that a
+//! call takes. Each figure is the least over rounds in which all take turns, so
+//! that other work on the machine counts little. There are so many rows that the
+//! processor cannot learn them.
+
+use cases::rng::Rng;
+use rookdb::chrono::{Duration, NaiveDate};
+use rookdb::types::datatype::DataType;
+use rookdb::types::value::DataValue;
+use std::hint::black_box;
+use std::time::Instant;
+
+const ROUNDS: usize = 201;
+const ROWS: usize = 1000;
+
+/// A platform's occupation: station, platform, track, train, line, arrival,
+/// departure, whether it is out of plan.
+fn occupation() -> [DataType; 8] {
+    [
+        DataType::Varchar(40),
+        DataType::SmallInt,
+        DataType::Char(4),
+        DataType::Int,
+        DataType::Varchar(12),
+        DataType::Timestamp,
+        DataType::Timestamp,
+        DataType::Bool,
+    ]
+}
+
+/// One occupation: no line for one in eight, no departure for one in eight.
+fn values(rng: &mut Rng) -> [Option<DataValue>; 8] {
+    let station = rng.pick(&["Aber", "Neustadt Süd", "Bad Wilhelmsruh (Hauptbahnhof)"]);
+    let line = rng.pick(&["RB 12", "RE 4", "S 41"]);
+    let arrival = NaiveDate::from_ymd_opt(2026, 11, 15)
+        .and_then(|day| day.and_hms_opt(0, 0, 0))
+        .expect("a day")
+        + Duration::seconds(rng.below(86_400) as i64);
+    let departure = arrival + Duration::seconds(30 + rng.below(600) as i64);
+    let line = DataValue::Varchar(line.into());
+    [
+        Some(DataValue::Varchar(station.into())),
+        Some(DataValue::SmallInt(rng.between(1, 24) as i16)),
+        Some(DataValue::Char(format!("{}A", rng.between(1, 24)))),
+        Some(DataValue::Int(rng.between(10_000, 99_999) as i32)),
+        (!rng.one_in(8)).then_some(line),
+        Some(DataValue::Timestamp(arrival)),
+        (!rng.one_in(8)).then_some(DataValue::Timestamp(departure)),
+        Some(DataValue::Bool(rng.one_in(2))),
+    ]
+}
+
+/// The columns of so many occupations side by side.
+pub fn columns(occupations: usize) -> Vec<DataType> {
+    (0..occupations).flat_map(|_| occupation()).collect()
+}
+
+/// The values of all rows of so many occupations.
+pub fn rows(rng: &mut Rng, occupations: usize) -> Vec<Vec<Option<DataValue>>> {
+    let mut row = || (0..occupations).flat_map(|_| values(rng)).collect();
+    (0..ROWS).map(|_| row()).collect()
+}
+
+/// Nanoseconds for one of the items.
+#[inline(never)]
+pub fn time<T>(items: &[T], mut call: impl FnMut(&T)) -> f64 {
+    let start = Instant::now();
+    for item in items {
+        call(black_box(item));
+    }
+    start.elapsed().as_nanos() as f64 / items.len() as f64
+}
+
+/// The least of each time over the rounds.
+pub fn least<const N: usize>(mut round: impl FnMut() -> [f64; N]) -> [f64; N] {
+    let mut least = [f64::MAX; N];
+    for _ in 0..ROUNDS {
+        for (least, time) in least.iter_mut().zip(round()) {
+            *least = least.min(time);
+        }
+    }
+    least
+}

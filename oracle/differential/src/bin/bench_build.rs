@@ -1,0 +1,84 @@
+//! Time for one row built, ours against the Rust's `serialize_nullable_typed_row`,
+//! and for one fresh row against `Row::new` then `serialize`, in one run on the
+//! same values. The Rust hands back a vector of its own and `Row::new` takes one
+//! of the columns; ours writes to a buffer that is lent.
+
+use cases::rng::Rng;
+use cases::rust;
+use cases::schema::write_schema;
+use cases::value::ValueList;
+use differential::bench::{columns, least, rows, time};
+use rookdb::types::datatype::DataType;
+use rookdb::types::row::{Row, serialize_nullable_typed_row};
+use rookdb::types::value::DataValue;
+use std::hint::black_box;
+
+/// The values of a row in both forms.
+type Values = (Vec<Option<DataValue>>, ValueList);
+
+fn bench_build(types: &[DataType], rows: &[Values]) -> [f64; 2] {
+    let schema = write_schema(types);
+    let mut out = vec![0; 65_535];
+    for (values, list) in rows {
+        let length = rook_row::build(&schema, &list.bytes, &list.text, &mut out);
+        let row = rust::build(types, values).ok().expect("a row");
+        assert_eq!(out[..length.expect("a row")], row);
+    }
+    least(|| {
+        [
+            time(rows, |(values, _)| {
+                black_box(serialize_nullable_typed_row(types, values).expect("a row"));
+            }),
+            time(rows, |(_, list)| {
+                let length = rook_row::build(&schema, &list.bytes, &list.text, &mut out);
+                black_box((length.expect("a row"), &out));
+            }),
+        ]
+    })
+}
+
+fn bench_fresh(types: &[DataType]) -> [f64; 2] {
+    let schema = write_schema(types);
+    let mut out = vec![0; 65_535];
+    let times = [(); 1000];
+    least(|| {
+        [
+            time(&times, |_| {
+                black_box(Row::new(black_box(types).to_vec()).serialize());
+            }),
+            time(&times, |_| {
+                let length = rook_row::fresh(black_box(&schema), &mut out);
+                black_box((length.expect("a row"), &out));
+            }),
+        ]
+    })
+}
+
+fn say(name: &str, [rust, ours]: [f64; 2]) {
+    println!("{name:<26}{rust:>12.1}{ours:>10.1}{:>12.2}", ours / rust);
+}
+
+fn main() {
+    let mut rng = Rng::new(1);
+    println!(
+        "{:<26}{:>12}{:>10}{:>12}",
+        "ns for a row", "the Rust", "ours", "to the Rust"
+    );
+    for occupations in [1, 8] {
+        let types = columns(occupations);
+        let listed = |values: Vec<_>| {
+            let list = ValueList::of_rust(&values).expect("short texts");
+            (values, list)
+        };
+        let rows: Vec<_> = rows(&mut rng, occupations)
+            .into_iter()
+            .map(listed)
+            .collect();
+        let columns = types.len();
+        say(
+            &format!("build, {columns} columns"),
+            bench_build(&types, &rows),
+        );
+        say(&format!("fresh, {columns} columns"), bench_fresh(&types));
+    }
+}

@@ -1,0 +1,401 @@
+//! Building, against `serialize_nullable_typed_row`: rows byte for byte and errors
+//! by variant on 01's domain. The model judges all of it: number, place, length
+//! and every lent byte.
+
+use super::rows::{self, apart, counted, fitting, handed};
+use crate::lent::{After, GUARD, any_output, called, output, written};
+use crate::{Compared, hex, port};
+use cases::LIMIT;
+use cases::expected::{self, Refusal};
+use cases::generate::list::{self, any_list};
+use cases::generate::schema::any_type;
+use cases::rng::Rng;
+use cases::rust::{self, Outcome};
+use cases::value::{Record, TextRange, ValueList};
+use model::RowAnswer;
+use rookdb::types::datatype::DataType;
+
+/// Columns, and a value list that was made for them.
+pub struct Given {
+    pub sort: String,
+    pub types: Vec<DataType>,
+    pub list: ValueList,
+}
+
+pub fn any_given(rng: &mut Rng) -> Given {
+    match rng.below(32) {
+        0 => long_row(rng),
+        1..=3 => area_end(rng),
+        _ => {
+            let types = rows::any_types(rng);
+            let (sort, list) = any_list(rng, &types);
+            of_sort(sort, types, list.values)
+        }
+    }
+}
+
+fn of_sort(sort: list::Sort, types: Vec<DataType>, list: ValueList) -> Given {
+    let sort = format!("list {sort:?}");
+    Given { sort, types, list }
+}
+
+/// A list with a value that the Rust refuses, if the one tried is such.
+pub fn refused_given(rng: &mut Rng) -> Option<Given> {
+    let types = rows::any_types(rng);
+    let sort = rng.pick(&[list::Sort::OtherKind, list::Sort::Unsuitable]);
+    let list = list::list(rng, &types, sort)?;
+    Some(of_sort(sort, types, list.values))
+}
+
+/// A row at the limit or above it, with Varchars that reach so far.
+fn long_row(rng: &mut Rng) -> Given {
+    loop {
+        let columns = rng.pick(&[0, 1, 3, 9, 200]);
+        let mut types: Vec<_> = (0..columns).map(|_| any_type(rng, 40)).collect();
+        let long = match rng.below(3) {
+            0 => vec![65_535],
+            1 => vec![40_000, 40_000],
+            _ => vec![7, 33_000, 9, 33_000],
+        };
+        for n in long {
+            types.insert(rng.below(types.len() + 1), DataType::Varchar(n));
+        }
+        let sort = rng.pick(&[list::Sort::RowAtLimit, list::Sort::RowAbove]);
+        if let Some(list) = list::list(rng, &types, sort) {
+            return of_sort(sort, types, list.values);
+        }
+    }
+}
+
+/// A range that ends at the end of the text area or a byte past it, or an empty
+/// one there; the area is empty, short or at its limit.
+fn area_end(rng: &mut Rng) -> Given {
+    let n = rng.pick(&[0, 1, 5, 8, 9, 40, 65_535]);
+    let mut types: Vec<_> = (0..rng.below(3)).map(|_| any_type(rng, 40)).collect();
+    let at = rng.below(types.len() + 1);
+    let ty = match rng.below(4) {
+        0 => DataType::Bit(n),
+        1 => DataType::Char(n.min(40)),
+        2 => DataType::Character(n.min(40)),
+        _ => DataType::Varchar(n),
+    };
+    types.insert(at, ty.clone());
+    let length: usize = match ty {
+        _ if rng.one_in(4) => 0,
+        DataType::Bit(n) => usize::from(n).div_ceil(8),
+        DataType::Char(n) | DataType::Character(n) => n.into(),
+        _ => n.into(),
+    };
+    let area = match rng.below(4) {
+        0 => length,
+        1 => LIMIT - rng.below(2),
+        _ => (length + rng.below(20)).min(LIMIT),
+    };
+    let past = rng.below(2);
+    let start = (area + past).saturating_sub(length).min(LIMIT) as u16;
+    let length = length as u16;
+    let range = TextRange { start, length };
+    let mut records = vec![Record::Null; types.len()];
+    records[at] = match ty {
+        DataType::Bit(_) => Record::Bit(range),
+        DataType::Varchar(_) => Record::Varchar(range),
+        _ => Record::Char(range),
+    };
+    let list = ValueList::of_records(&records, vec![b'x'; area]);
+    let sort = match range.end() <= area {
+        true => "list at the area's end".into(),
+        false => "list past the area's end".into(),
+    };
+    Given { sort, types, list }
+}
+
+/// What the Rust comes to, where it has these values.
+pub fn rust_row(types: &[DataType], list: &ValueList) -> Option<Outcome<Vec<u8>>> {
+    let given = list.to_rust(types).ok()?;
+    let all = given.outside.is_none();
+    all.then(|| rust::build(types, &given.values))
+}
+
+/// What a build is lent: the output with its guards.
+struct Lent<'a> {
+    schema: &'a [u8],
+    list: &'a ValueList,
+    output: Vec<u8>,
+}
+
+impl Lent<'_> {
+    fn port(&self) -> After<RowAnswer> {
+        let inputs = [self.schema, &self.list.bytes, &self.list.text];
+        called(&self.output, inputs, |[schema, values, text], out| {
+            port::build(schema, values, text, out)
+        })
+    }
+
+    fn model(&self) -> After<RowAnswer> {
+        written(&self.output, |out| {
+            model::build(self.schema, &self.list.bytes, &self.list.text, out)
+        })
+    }
+
+    /// The row of the Rust, or the refusal.
+    fn told(&self) -> Result<Vec<u8>, Refusal> {
+        let types = rows::columns(self.schema)?;
+        let row = expected::build(&types, self.list).map_err(Refusal::of)?;
+        fitting(row, &self.output)
+    }
+
+    fn input(&self) -> String {
+        format!(
+            "schema {}, values {}, text of {} bytes {}, {} bytes of output",
+            hex(self.schema),
+            hex(&self.list.bytes),
+            self.list.text.len(),
+            hex(&self.list.text),
+            self.output.len() - 2 * GUARD
+        )
+    }
+
+    /// The port's answer, and the difference if there is one.
+    fn compare(&self) -> (RowAnswer, Option<String>) {
+        let port = self.port();
+        let difference = apart("model", &port, &self.model(), || self.input());
+        (
+            port.answer,
+            difference.or_else(|| apart("Rust", &handed(&port), &self.told(), || self.input())),
+        )
+    }
+
+    /// Who judges an answer beside the model: the Rust where its outcome is that
+    /// of the number in 01's table, else 01 alone.
+    fn judge(&self, number: u32) -> &'static str {
+        let by_rust = match number {
+            0 => true,
+            10 => self.asked_count() == Some(Outcome::Internal),
+            11 => self.asked() == Some(Outcome::Internal),
+            12 => self.asked() == Some(Outcome::TypeMismatch),
+            _ => false,
+        };
+        match by_rust {
+            true => "judged by the Rust",
+            false => "judged by 01 alone",
+        }
+    }
+
+    fn asked(&self) -> Option<Outcome<Vec<u8>>> {
+        rust_row(&rows::columns(self.schema).ok()?, self.list)
+    }
+
+    /// What the Rust says of the number of good records.
+    fn asked_count(&self) -> Option<Outcome<Vec<u8>>> {
+        let types = rows::columns(self.schema).ok()?;
+        let records = self.list.all_records().ok()?;
+        Some(expected::counted(&types, records.len()))
+    }
+}
+
+/// An output for the result, with room or not; for a refusal of any length.
+fn output_for(rng: &mut Rng, schema: &[u8], list: &ValueList) -> (String, Vec<u8>) {
+    let answer = model::build(schema, &list.bytes, &list.text, &mut [0; LIMIT]);
+    if answer.number == 0 {
+        let (room, output) = any_output(rng, answer.length);
+        return (format!("output {room:?}"), output);
+    }
+    let (name, room) = match rng.below(4) {
+        0 => ("empty", 0),
+        1 => ("above every row's length", LIMIT + 2000),
+        _ => ("short", rng.between(1, 300)),
+    };
+    (format!("refused, output {name}"), output(rng, room))
+}
+
+pub fn compare(rng: &mut Rng) -> Compared {
+    let Given { sort, types, list } = any_given(rng);
+    let (schema_sort, schema) = rows::any_schema_for(rng, &types);
+    let (room, output) = output_for(rng, &schema, &list);
+    let lent = Lent {
+        schema: &schema,
+        list: &list,
+        output,
+    };
+    let (answer, difference) = lent.compare();
+    let number = answer.number;
+    Compared {
+        sorts: counted(vec![
+            schema_sort,
+            sort,
+            room,
+            format!("answer {number}"),
+            lent.judge(number).to_string(),
+            match (answer.length, list.text.len()) {
+                (LIMIT, _) => "row of 65,535 bytes".into(),
+                (_, LIMIT) => "text area of 65,535 bytes".into(),
+                (_, 65_536) => "text area of 65,536 bytes".into(),
+                _ => "row and text area of other lengths".into(),
+            },
+        ]),
+        difference,
+    }
+}
+
+#[cfg(test)]
+mod tests {
+    use super::Lent;
+    use crate::lent::GUARD;
+    use cases::LIMIT;
+    use cases::schema::write_schema;
+    use cases::value::{DATES, Record, TIMES, TIMESTAMPS, TextRange, ValueList};
+    use rookdb::types::datatype::DataType;
+
+    /// Number, place and length of a build in an output of this room, which the
+    /// model and the Rust confirm.
+    fn built(types: &[DataType], list: &ValueList, room: usize) -> (u32, usize, usize) {
+        let lent = Lent {
+            schema: &write_schema(types),
+            list,
+            output: vec![0xAA; room + 2 * GUARD],
+        };
+        let (answer, difference) = lent.compare();
+        assert_eq!(difference, None);
+        (answer.number, answer.place, answer.length)
+    }
+
+    fn text(length: usize) -> Record {
+        let length = length as u16;
+        Record::Varchar(TextRange { start: 0, length })
+    }
+
+    #[test]
+    fn case_10() {
+        let s = [DataType::Int, DataType::Varchar(5), DataType::SmallInt];
+        let of_s = |bytes: &[u8]| {
+            let records = [Record::Int(1), text(bytes.len()), Record::Null];
+            built(&s, &ValueList::of_records(&records, bytes.to_vec()), 40)
+        };
+        assert_eq!(of_s(b"ABCDE"), (0, 0, 13 + 5));
+        assert_eq!(of_s(b"ABCDEF"), (12, 1, 0));
+
+        let of_columns = |columns: usize| {
+            let records = vec![Record::Bool(1); columns];
+            let list = ValueList::of_records(&records, vec![]);
+            built(&vec![DataType::Bool; columns], &list, 400)
+        };
+        assert_eq!(of_columns(256), (0, 0, 4 + 32 + 256));
+        assert_eq!(of_columns(257), (2, 256, 0));
+
+        // Seven bytes stand before the payload.
+        let of_length = |row: usize, room: usize| {
+            let list = ValueList::of_records(&[text(row - 7)], vec![b'x'; LIMIT]);
+            built(&[DataType::Varchar(65_535)], &list, room)
+        };
+        assert_eq!(of_length(65_535, 65_535), (0, 0, 65_535));
+        assert_eq!(of_length(65_535, 65_534), (14, 0, 0));
+        assert_eq!(of_length(65_536, 65_536), (13, 0, 0));
+        assert_eq!(of_length(65_536, 0), (13, 0, 0));
+    }
+
+    /// The ends of a type's values, which it takes, and what is one past them.
+    fn ends(ty: &DataType) -> (Vec<Record>, Vec<Record>) {
+        match *ty {
+            DataType::SmallInt => ([i16::MIN, i16::MAX].map(Record::SmallInt).to_vec(), vec![]),
+            DataType::Int => ([i32::MIN, i32::MAX].map(Record::Int).to_vec(), vec![]),
+            DataType::BigInt => ([i64::MIN, i64::MAX].map(Record::BigInt).to_vec(), vec![]),
+            DataType::Real => (
+                [0, 0x8000_0000, 0x7F80_0000, u32::MAX]
+                    .map(Record::Real)
+                    .to_vec(),
+                vec![],
+            ),
+            DataType::DoublePrecision => (
+                [0, 1 << 63, 0x7FF0_0000_0000_0000, u64::MAX]
+                    .map(Record::DoublePrecision)
+                    .to_vec(),
+                vec![],
+            ),
+            DataType::Numeric { precision, scale } | DataType::Decimal { precision, scale } => {
+                let above = 10_i128.pow(precision.into());
+                let of = |unscaled| Record::Numeric { unscaled, scale };
+                let mut past = [above, -above, i128::MIN, i128::MAX].map(of).to_vec();
+                for scale in [scale.wrapping_sub(1), scale + 1] {
+                    past.push(Record::Numeric { unscaled: 0, scale });
+                }
+                ([0, above - 1, 1 - above].map(of).to_vec(), past)
+            }
+            DataType::Bool => (
+                [0, 1].map(Record::Bool).to_vec(),
+                [2, 255].map(Record::Bool).to_vec(),
+            ),
+            DataType::Char(n) | DataType::Character(n) => (
+                [0, n].map(|n| Record::Char(range(n))).to_vec(),
+                vec![Record::Char(range(n + 1))],
+            ),
+            DataType::Varchar(n) => (
+                [0, n].map(|n| Record::Varchar(range(n))).to_vec(),
+                vec![Record::Varchar(range(n + 1))],
+            ),
+            DataType::Bit(n) => {
+                let bytes = n.div_ceil(8);
+                (
+                    vec![Record::Bit(range(bytes))],
+                    [bytes.wrapping_sub(1), bytes + 1]
+                        .map(|n| Record::Bit(range(n)))
+                        .to_vec(),
+                )
+            }
+            DataType::Date => (
+                [*DATES.start(), *DATES.end()].map(Record::Date).to_vec(),
+                [DATES.start() - 1, DATES.end() + 1, i32::MIN, i32::MAX]
+                    .map(Record::Date)
+                    .to_vec(),
+            ),
+            DataType::Time => (
+                [*TIMES.start(), *TIMES.end()].map(Record::Time).to_vec(),
+                [-1, TIMES.end() + 1, i64::MIN, i64::MAX]
+                    .map(Record::Time)
+                    .to_vec(),
+            ),
+            DataType::Timestamp => (
+                [*TIMESTAMPS.start(), *TIMESTAMPS.end()]
+                    .map(Record::Timestamp)
+                    .to_vec(),
+                [
+                    TIMESTAMPS.start() - 1,
+                    TIMESTAMPS.end() + 1,
+                    i64::MIN,
+                    i64::MAX,
+                ]
+                .map(Record::Timestamp)
+                .to_vec(),
+            ),
+        }
+    }
+
+    fn range(length: u16) -> TextRange {
+        TextRange { start: 0, length }
+    }
+
+    #[test]
+    fn the_ends_of_every_type() {
+        let mut types = cases::generate::value::TYPES.to_vec();
+        for precision in 1..=38 {
+            for scale in [0, precision / 2, precision] {
+                types.push(DataType::Numeric { precision, scale });
+            }
+        }
+        for n in [0, 1, 8, 9, 16, 40, 300] {
+            types.extend([DataType::Char(n), DataType::Varchar(n), DataType::Bit(n)]);
+        }
+        for ty in types {
+            let (good, past) = ends(&ty);
+            let build = |record| {
+                let list = ValueList::of_records(&[record], vec![b'x'; 400]);
+                built(std::slice::from_ref(&ty), &list, 400).0
+            };
+            for record in good {
+                assert_eq!(build(record), 0, "{ty:?} {record:?}");
+            }
+            for record in past {
+                assert_eq!(build(record), 12, "{ty:?} {record:?}");
+            }
+        }
+    }
+}

@@ -1,0 +1,297 @@
+//! Histories of edits, against `Row::deserialize`, then `set_value` or `set_null`,
+//! then `serialize`, call by call on the row that the calls before left: rows byte
+//! for byte and errors by variant on 01's domain. The model judges all of it:
+//! number, place, length and every lent byte. A history from a fresh row leaves
+//! what the builder makes of the last accepted values.
+
+use super::rows::{self, apart, fitting, handed};
+use crate::lent::{After, GUARD, called, inside, output, written};
+use crate::{Compared, hex, port};
+use cases::expected::{self, Refusal};
+use cases::generate::history::history;
+use cases::generate::row::{any_row, sound_row};
+use cases::history::Call;
+use cases::rng::Rng;
+use cases::row::{is_sound, zero_null_slots};
+use cases::rust::{self, Outcome};
+use cases::schema::write_schema;
+use cases::value::{self, Record, ValueList, append};
+use model::RowAnswer;
+use rookdb::types::datatype::DataType;
+use std::collections::BTreeMap;
+
+/// The calls that are compared: schema, buffer, row length, column, and for a set
+/// the value list with its text area.
+pub struct Calls {
+    pub set: fn(&mut [u8], &mut [u8], usize, usize, &mut [u8], &mut [u8]) -> RowAnswer,
+    pub set_null: fn(&mut [u8], &mut [u8], usize, usize) -> RowAnswer,
+}
+
+/// What an edit is lent: the buffer with its guards, and the row length stated.
+struct Lent<'a> {
+    schema: &'a [u8],
+    buffer: &'a [u8],
+    row_length: usize,
+    call: &'a Call,
+}
+
+impl Lent<'_> {
+    fn port(&self, calls: &Calls) -> After<RowAnswer> {
+        let length = self.row_length;
+        match self.call {
+            Call::SetNull { column } => called(self.buffer, [self.schema], |[schema], buffer| {
+                (calls.set_null)(schema, buffer, length, *column)
+            }),
+            Call::Set { column, values } => {
+                let inputs = [self.schema, &values.bytes, &values.text];
+                called(self.buffer, inputs, |[schema, list, text], buffer| {
+                    (calls.set)(schema, buffer, length, *column, list, text)
+                })
+            }
+        }
+    }
+
+    fn model(&self) -> After<RowAnswer> {
+        written(self.buffer, |buffer| match self.call {
+            Call::SetNull { column } => {
+                model::set_null(self.schema, buffer, self.row_length, *column)
+            }
+            Call::Set { column, values } => {
+                let (list, text) = (&values.bytes, &values.text);
+                model::set(self.schema, buffer, self.row_length, *column, list, text)
+            }
+        })
+    }
+
+    fn row(&self) -> Option<&[u8]> {
+        let inside = GUARD..self.buffer.len() - GUARD;
+        self.buffer[inside].get(..self.row_length)
+    }
+
+    /// The row of the Rust, or the refusal.
+    fn told(&self) -> Result<Vec<u8>, Refusal> {
+        let types = rows::columns(self.schema)?;
+        let row = self.row().ok_or(Refusal::Number(14, 0))?;
+        let row = expected::edit(&types, row, self.call).map_err(Refusal::of)?;
+        fitting(row, self.buffer)
+    }
+
+    fn input(&self) -> String {
+        format!(
+            "schema {}, row length {}, buffer {}, {:?}",
+            hex(self.schema),
+            self.row_length,
+            hex(&self.buffer[GUARD..self.buffer.len() - GUARD]),
+            self.call
+        )
+    }
+
+    /// What the port leaves, and the difference if there is one.
+    fn compare(&self, calls: &Calls) -> (After<RowAnswer>, Option<String>) {
+        let port = self.port(calls);
+        let difference = apart("model", &port, &self.model(), || self.input())
+            .or_else(|| apart("Rust", &handed(&port), &self.told(), || self.input()));
+        (port, difference)
+    }
+
+    /// Who judges an answer beside the model: the Rust where its outcome is that
+    /// of the number in 01's table, else 01 alone.
+    fn judge(&self, number: u32) -> &'static str {
+        let by_rust = match number {
+            0 => true,
+            9 | 11 => self.asked() == Some(Outcome::Internal),
+            12 => self.asked() == Some(Outcome::TypeMismatch),
+            _ => false,
+        };
+        match by_rust {
+            true => "judged by the Rust",
+            false => "judged by 01 alone",
+        }
+    }
+
+    /// What the Rust comes to, where it has this value.
+    fn asked(&self) -> Option<Outcome<Vec<u8>>> {
+        let types = rows::columns(self.schema).ok()?;
+        let row = self.row().filter(|row| is_sound(&types, row))?;
+        match self.call {
+            Call::SetNull { column } => Some(rust::set_null(&types, row, *column)),
+            Call::Set { column, values } => {
+                // The column is judged before the value.
+                let ty = types.get(*column).unwrap_or(&DataType::Int);
+                let record = match column < &types.len() {
+                    true => *values.records(1).ok()?.first()?,
+                    false => Record::Int(0),
+                };
+                let value = value::to_rust(ty, &record, &values.text).ok()??;
+                Some(rust::set(&types, row, *column, &value))
+            }
+        }
+    }
+}
+
+/// The last accepted values: of each column null, or a record with its text.
+struct Sheet(Vec<(Record, Vec<u8>)>);
+
+impl Sheet {
+    fn of_nulls(columns: usize) -> Self {
+        Sheet(vec![(Record::Null, vec![]); columns])
+    }
+
+    fn accept(&mut self, call: &Call) {
+        match call {
+            Call::SetNull { column } => self.0[*column] = (Record::Null, vec![]),
+            Call::Set { column, values } => {
+                let record = values.records(1).expect("an accepted list")[0];
+                let range = record.range().and_then(|range| range.of(&values.text));
+                self.0[*column] = (record, range.unwrap_or_default().to_vec());
+            }
+        }
+    }
+
+    /// The entries as one list, the texts end to end.
+    fn list(&self) -> ValueList {
+        let mut text = Vec::new();
+        let entry = |(record, bytes): &(Record, Vec<u8>)| match record.range() {
+            Some(_) => record.with_range(append(bytes, &mut text).expect("the texts of a row")),
+            None => *record,
+        };
+        let records: Vec<Record> = self.0.iter().map(entry).collect();
+        ValueList::of_records(&records, text)
+    }
+}
+
+const FRESH: &str = "from fresh";
+
+/// A row to begin with, and its sort.
+fn any_start(rng: &mut Rng, types: &[DataType]) -> (&'static str, Vec<u8>) {
+    match rng.below(16) {
+        0..=7 => (FRESH, expected::fresh(types)),
+        8..=14 => ("from a sound row", sound_row(rng, types)),
+        _ => ("from any row", any_row(rng, types).1),
+    }
+}
+
+/// The room past the row, in which later calls must fit.
+fn any_spare(rng: &mut Rng) -> usize {
+    match rng.below(16) {
+        0..=2 => 0,
+        3..=6 => rng.between(1, 20),
+        7 => 70_000,
+        _ => rng.between(20, 600),
+    }
+}
+
+/// A length that is not the row's, seldom.
+fn false_length(rng: &mut Rng, length: usize, buffer: usize) -> Option<usize> {
+    match rng.below(64) {
+        0 => Some(buffer + rng.pick(&[1, 2, 70_000])),
+        1 => Some(rng.between(0, buffer)).filter(|&other| other != length),
+        2 => Some(usize::MAX),
+        _ => None,
+    }
+}
+
+pub fn compare_with(calls: &Calls, rng: &mut Rng) -> Compared {
+    let types = rows::any_types(rng);
+    let (start, row) = any_start(rng, &types);
+    let (schema_sort, schema) = rows::any_schema_for(rng, &types);
+    let spare = any_spare(rng);
+    let mut buffer = output(rng, row.len() + spare);
+    inside(&mut buffer)[..row.len()].copy_from_slice(&row);
+    let mut length = row.len();
+    // Whether the sheet tells what the calls leave.
+    let told = start == FRESH && schema == write_schema(&types);
+    let mut sheet = Sheet::of_nulls(types.len());
+    let mut sorts = BTreeMap::from([(schema_sort, 1), (format!("history {start}"), 1)]);
+    let mut count = |sort: String| *sorts.entry(sort).or_default() += 1;
+    let calls_made = rng.between(1, 12);
+    for call in &history(rng, &types, calls_made) {
+        let stated = false_length(rng, length, row.len() + spare);
+        let lent = Lent {
+            schema: &schema,
+            buffer: &buffer,
+            row_length: stated.unwrap_or(length),
+            call,
+        };
+        let (port, difference) = lent.compare(calls);
+        let number = port.answer.number;
+        let name = match call {
+            Call::Set { .. } => "set",
+            Call::SetNull { .. } => "set null",
+        };
+        count(format!("{name}: answer {number}"));
+        count(format!("{name}: {}", lent.judge(number)));
+        if difference.is_some() {
+            let sorts = sorts.into_iter().collect();
+            return Compared { sorts, difference };
+        }
+        // A call with another length than the row's is not of the history.
+        if number == 0 && stated.is_none() {
+            length = port.answer.length;
+            buffer = port.output;
+            if told {
+                sheet.accept(call);
+            }
+        }
+    }
+    let mut difference = None;
+    if told {
+        count("what a history leaves".into());
+        let mut left = inside(&mut buffer)[..length].to_vec();
+        zero_null_slots(&types, &mut left);
+        let list = sheet.list();
+        let input = || format!("schema {}, last accepted {list:?}", hex(&schema));
+        difference = apart(
+            "Rust",
+            &Ok(left.clone()),
+            &expected::build(&types, &list),
+            input,
+        );
+        let built = called(
+            &vec![0; length + 2 * GUARD],
+            [&schema, &list.bytes, &list.text],
+            |[schema, list, text], out| port::build(schema, list, text, out),
+        );
+        difference = difference.or_else(|| apart("port", &Ok(left), &handed(&built), input));
+    }
+    let sorts = sorts.into_iter().collect();
+    Compared { sorts, difference }
+}
+
+#[cfg(test)]
+mod tests {
+    use super::{Calls, compare_with};
+    use cases::rng::Rng;
+    use std::collections::BTreeMap;
+
+    /// The model in the port's place: it and the Rust agree, and every answer of
+    /// the table occurs.
+    #[test]
+    fn the_judges_agree() {
+        let calls = Calls {
+            set: |schema, buffer, length, column, list, text| {
+                model::set(schema, buffer, length, column, list, text)
+            },
+            set_null: |schema, buffer, length, column| {
+                model::set_null(schema, buffer, length, column)
+            },
+        };
+        let mut seen = BTreeMap::new();
+        for case in 0..6000 {
+            let compared = compare_with(&calls, &mut Rng::new(case));
+            assert_eq!(compared.difference, None, "case {case}");
+            for (sort, count) in compared.sorts {
+                *seen.entry(sort).or_insert(0) += count;
+            }
+        }
+        for number in [0, 1, 2, 9, 10, 11, 12, 13, 14, 15] {
+            assert!(
+                seen.contains_key(&format!("set: answer {number}")),
+                "{number}: {seen:?}"
+            );
+        }
+        for number in [0, 1, 2, 9, 14, 15] {
+            assert!(seen.contains_key(&format!("set null: answer {number}")));
+        }
+    }
+}
