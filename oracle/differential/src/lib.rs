@@ -2,8 +2,8 @@
 //! one comparison on one generated input; `port` reaches the port's calls on
 //! rows, `probe` its inner functions, `lent` tells what a call left. The program
 //! `differential` runs comparisons for a time, the program `record` writes a
-//! sample of the Rust's answers to a file, `bench_read` and `bench_build` measure
-//! with what `bench` has.
+//! sample of the Rust's answers to a file, `bench_read`, `bench_build` and
+//! `bench_edit` measure with what `bench` has.
 
 pub mod bench;
 pub mod compare;

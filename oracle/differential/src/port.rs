@@ -59,6 +59,28 @@ unsafe extern "C" {
         out_length: usize,
     ) -> Row;
 
+    fn rook_row_set(
+        schema: *const u8,
+        schema_length: usize,
+        buffer: *mut u8,
+        buffer_length: usize,
+        row_length: usize,
+        column: usize,
+        values: *const u8,
+        values_length: usize,
+        text: *const u8,
+        text_length: usize,
+    ) -> Row;
+
+    fn rook_row_set_null(
+        schema: *const u8,
+        schema_length: usize,
+        buffer: *mut u8,
+        buffer_length: usize,
+        row_length: usize,
+        column: usize,
+    ) -> Row;
+
     fn rook_row_text(
         schema: *const u8,
         schema_length: usize,
@@ -122,6 +144,52 @@ pub fn read(schema: &mut [u8], bytes: &mut [u8], wanted: &mut [u16], out: &mut [
             wanted.len(),
             out.as_mut_ptr(),
             out.len(),
+        )
+    })
+}
+
+/// A column of the row that the buffer begins with, set to a value.
+pub fn set(
+    schema: &mut [u8],
+    buffer: &mut [u8],
+    row_length: usize,
+    column: usize,
+    values: &mut [u8],
+    text: &mut [u8],
+) -> RowAnswer {
+    // SAFETY: as above.
+    row(unsafe {
+        rook_row_set(
+            schema.as_mut_ptr(),
+            schema.len(),
+            buffer.as_mut_ptr(),
+            buffer.len(),
+            row_length,
+            column,
+            values.as_mut_ptr(),
+            values.len(),
+            text.as_mut_ptr(),
+            text.len(),
+        )
+    })
+}
+
+/// A column of the row that the buffer begins with, set to null.
+pub fn set_null(
+    schema: &mut [u8],
+    buffer: &mut [u8],
+    row_length: usize,
+    column: usize,
+) -> RowAnswer {
+    // SAFETY: as above.
+    row(unsafe {
+        rook_row_set_null(
+            schema.as_mut_ptr(),
+            schema.len(),
+            buffer.as_mut_ptr(),
+            buffer.len(),
+            row_length,
+            column,
         )
     })
 }

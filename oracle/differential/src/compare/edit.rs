@@ -191,6 +191,16 @@ fn false_length(rng: &mut Rng, length: usize, buffer: usize) -> Option<usize> {
     }
 }
 
+/// A history of the port's calls.
+pub fn compare(rng: &mut Rng) -> Compared {
+    let calls = Calls {
+        set: port::set,
+        set_null: port::set_null,
+    };
+    compare_with(&calls, rng)
+}
+
+/// A history of one to twelve of these calls.
 pub fn compare_with(calls: &Calls, rng: &mut Rng) -> Compared {
     let types = rows::any_types(rng);
     let (start, row) = any_start(rng, &types);

@@ -14,7 +14,7 @@ pub mod same_content;
 pub mod text;
 pub mod value;
 
-pub const ALL: [Comparison; 11] = [
+pub const ALL: [Comparison; 12] = [
     ("text", text::compare),
     ("schema and layout", layout::compare),
     ("null flag", null_flag::compare),
@@ -26,4 +26,5 @@ pub const ALL: [Comparison; 11] = [
     ("same content", same_content::compare),
     ("fresh", fresh::compare),
     ("build", build::compare),
+    ("edit", edit::compare),
 ];
