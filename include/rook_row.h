@@ -2,7 +2,8 @@
  *
  * A slice passes as a pointer and then its length; lent slices do not overlap. An empty slice may have any pointer.
  * Every result comes back by value. `number` is 0 for done, else the number of the refusal; `place` goes with it
- * (README.md has the table). A refusal changes no lent byte, and hands out 0 beside number and place. */
+ * (README.md has the table). A refusal changes no lent byte, and hands out 0 beside
+ * number and place; a refused edit hands back the row length that it got. */
 #ifndef ROOK_ROW_H
 #define ROOK_ROW_H
 
