@@ -1,11 +1,12 @@
 -- Every history leaves a sound row, so its next edit is judged by its own conditions.
-use Prim.Native.Nat.{ℕ, _<_}
+use Prim.Native.Nat.{ℕ, _<_, _≤_}
 use mathlib.Core.Bool.{Bool, true}
 use mathlib.Core.List.{List}
 use mathlib.Core.Path.{_≡_, _∙_}
-use borrow.Author.Tests.{lt-leb}
+use borrow.Author.Tests.{lt-leb, le-leb}
 use lib.ListN.{length}
-use Rattle.error.specs.Answer.{Outcome}
+use Rattle.error.specs.declared.Refusal.the-variants.{NoSuchColumn}
+use Rattle.error.specs.Answer.{Outcome, unchanged}
 use Rattle.row_format.specs.Places.{offsetWidth, rowLimit}
 use Rattle.datatype.specs.declared.DataType.{DataType}
 use Rattle.row_edit.specs.Edit.{opened}
@@ -17,5 +18,8 @@ module _ {schema : List ℕ} {ts : List DataType} (h : History schema ts) where
   opens : (i : ℕ) (f : List DataType → Bool → Outcome) → i < length ts → opened offsetWidth rowLimit schema (left h .buf) (left h .row-length) i f ≡ f ts true
   opens i f l = open-kept rowLimit schema ts (h .columns) wide (kept h) i f ∙ rw (lt-leb (length ts) i l)
 
+  shut : (i : ℕ) (f : List DataType → Bool → Outcome) → length ts ≤ i → opened offsetWidth rowLimit schema (left h .buf) (left h .row-length) i f ≡ unchanged (left h .buf) NoSuchColumn
+  shut i f l = open-kept rowLimit schema ts (h .columns) wide (kept h) i f ∙ rw (le-leb (length ts) i l)
+
   pub accepts : Accepts h
-  accepts = record { sound = kept-sound rowLimit schema ts (h .columns) wide (kept h); set = λ i list area b l e. opens i _ l ∙ rw e; set-null = λ i l. opens i _ l }
+  accepts = record { sound = kept-sound rowLimit schema ts (h .columns) wide (kept h); set = λ i list area b l e. opens i _ l ∙ rw e; bad-value = λ i list area l e. opens i _ l ∙ rw e; no-column = λ i list area l. shut i _ l; no-null = λ i l. shut i _ l; set-null = λ i l. opens i _ l }

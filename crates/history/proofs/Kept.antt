@@ -40,12 +40,12 @@ use Rattle.row_sound.specs.declared.Soundness.the-variants.{Sound}
 use Rattle.row_sound.specs.Sound.{soundness}
 use Rattle.row_sound.proofs.Rows.{row-told, cells-row}
 use Rattle.row_build.specs.Build.{buildCall, freshRow, freshCall}
+use Rattle.row_build.proofs.Schemas.{schema-minimum, schema-few}
 use Rattle.row_edit.specs.Edit.{opened, edited, held, given}
 use Rattle.history.specs.History.{Call, setValue, setNull, State, called, handedBack, next, Entry, oneValue, noted, run, sheetAfter, texts, lastValues, entryCell, sheetCells}
 use Rattle.history.specs.Demand.{OfBytes, AllOfBytes}
 use Rattle.history.proofs.Entries.{SuitsEntry, blank-suits, set-suits, blank-cells, set-cells, entry-fits, cells-suit, cells-written, texts-le, length-values, values-sized, cells-read}
 use Rattle.history.proofs.Calls.{Ends, refusal, written, column-ends, tested-ends, placed-ends, given-taken}
-use Rattle.history.proofs.Columns.{taken, fresh-least}
 
 module _ (w limit : ℕ) (ts : List DataType) where
   abbrev pub ss : List Shape
@@ -141,7 +141,7 @@ module _ (limit : ℕ) (schema : List ℕ) (ts : List DataType) (columns : schem
     kept-sound =
         let short = k .short in
         let long = kept-length offsetWidth limit ts k in
-        rw (k .row) (row-told limit ts _ (cells-row limit wide (cells-written (k .suit)) (k .fit) (k .agree) (taken offsetWidth limit schema columns .count) (rw (← k .row) (omega arith))))
+        rw (k .row) (row-told limit ts _ (cells-row limit wide (cells-written (k .suit)) (k .fit) (k .agree) (schema-few offsetWidth limit schema columns) (rw (← k .row) (omega arith))))
 
     pub open-kept : (i : ℕ) (f : List DataType → Bool → Outcome) → opened offsetWidth limit schema buf n i f ≡ cond (leb (length ts) i) (unchanged buf NoSuchColumn) (f ts true)
     open-kept i f = rw (columns, le-ltb (length buf) n (k .room), kept-sound)
@@ -194,7 +194,7 @@ module _ (limit : ℕ) (schema : List ℕ) (ts : List DataType) (columns : schem
 
   fresh-kept : (out : List ℕ) → length (freshRow offsetWidth ts) ≤ length out → Kept offsetWidth limit ts (sets out 0 (freshRow offsetWidth ts)) (length (freshRow offsetWidth ts)) blank
   fresh-kept out room =
-      let least = fresh-least (taken offsetWidth limit schema columns) in
+      let least = schema-minimum offsetWidth limit schema columns in
       let r = freshRow offsetWidth ts in
       let f = fits-blank in
       let n : length r ≡ minimum offsetWidth true (map shapeOf ts) = ap (λ (m : ℕ). length (builtRow offsetWidth (map shapeOf ts) (replicate m none))) (sym (length-map ts shapeOf)) ∙ length-fresh offsetWidth (map shapeOf ts) in

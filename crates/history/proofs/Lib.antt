@@ -1,7 +1,6 @@
 pub mod Entries
 pub mod Calls
 pub mod Kept
-pub mod Columns
 pub mod Histories
 pub mod Accepts
 pub mod Worked

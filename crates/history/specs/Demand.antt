@@ -1,5 +1,5 @@
 -- Demand 3, and 01, "Histories of edits": "Demand 3 is one claim about the whole list, not one for each call."
-use Prim.Native.Nat.{ℕ, _+_, _<_}
+use Prim.Native.Nat.{ℕ, _+_, _<_, _≤_}
 use mathlib.Core.Bool.{true}
 use mathlib.Core.List.{List, [], _∷_, map}
 use mathlib.Core.Logic.{_↔_}
@@ -8,8 +8,10 @@ use mathlib.Core.Path.{_≡_}
 use lib.ListN.{length, getD, replicate}
 use mir.Syntax.{w8}
 use mir.Val.{Fits}
+use Rattle.error.specs.declared.Refusal.{Refusal}
+use Rattle.error.specs.declared.Refusal.the-variants.{NoSuchColumn}
 use Rattle.error.specs.declared.Answer.the-variants.{Done}
-use Rattle.error.specs.Answer.{placed}
+use Rattle.error.specs.Answer.{placed, unchanged}
 use Rattle.row_format.specs.Places.{offsetWidth, rowLimit, minimum}
 use Rattle.row_format.specs.Table.{Cell, payloads}
 use Rattle.row_format.specs.Row.{varlenCells}
@@ -22,7 +24,7 @@ use Rattle.datatype.specs.Check.{typeAt}
 use Rattle.value_list.specs.Lists.{listOf}
 use Rattle.row_sound.specs.declared.Soundness.the-variants.{Sound}
 use Rattle.row_sound.specs.Sound.{soundness}
-use Rattle.row_build.specs.Stored.{good}
+use Rattle.row_build.specs.Stored.{good, refused}
 use Rattle.row_build.specs.Build.{rowPlaced, buildCall, freshCall}
 use Rattle.row_edit.specs.Edit.{held, given}
 use Rattle.history.specs.History.{Call, setValue, setNull, State, rowOf, called, Entry, run, sheetAfter, texts, lastValues, sheetCells}
@@ -75,11 +77,15 @@ module _ {schema : List ℕ} {ts : List DataType} (h : History schema ts) where
     pub long : length row ≡ minimum offsetWidth true (map shapeOf ts) + length (payloads (varlenCells (map shapeOf ts) cells))
 
   -- ---- No history ends in a row that refuses every edit: the row left is sound, so a set of a column that is there, with a value that passes 10, 11 and 12,
-  -- is refused by nothing but 13 and 14 for the row it makes, and a set null of such a column by nothing.
+  -- is refused by nothing but 13 and 14 for the row it makes, and a set null of such a column by nothing. The other calls are refused by 9, or by what is
+  -- wrong with the value. So no call of a history answers 1, 2, 15, or 14 for the row length.
   pub record Accepts : Type 0 where
     pub sound : soundness rowLimit ts row ≡ Sound true
     pub set : (i : ℕ) (list area b : List ℕ) → i < length ts → given rowLimit (typeAt ts i) i list area ≡ good b
         → called offsetWidth rowLimit schema (setValue i list area) left ≡ rowPlaced rowLimit (left .buf) (editedRow offsetWidth true (map shapeOf ts) i (some b) row)
+    pub bad-value : (i : ℕ) (list area : List ℕ) {e : Refusal} → i < length ts → given rowLimit (typeAt ts i) i list area ≡ refused e → called offsetWidth rowLimit schema (setValue i list area) left ≡ unchanged (left .buf) e
+    pub no-column : (i : ℕ) (list area : List ℕ) → length ts ≤ i → called offsetWidth rowLimit schema (setValue i list area) left ≡ unchanged (left .buf) NoSuchColumn
+    pub no-null : (i : ℕ) → length ts ≤ i → called offsetWidth rowLimit schema (setNull i) left ≡ unchanged (left .buf) NoSuchColumn
     pub set-null : (i : ℕ) → i < length ts → called offsetWidth rowLimit schema (setNull i) left ≡ held (left .buf) (editedRow offsetWidth true (map shapeOf ts) i none row)
 
 -- ---- "For every two histories on one schema, the rows so zeroed are equal in length and in every byte exactly when both leave the same stored form, or null,

@@ -9,43 +9,15 @@ use lib.Dec.{ltb}
 use lib.ListN.{length}
 use Rattle.error.specs.declared.Refusal.the-variants.{BadSchema}
 use Rattle.laws.proofs.Truths.{cases}
-use Rattle.row_format.specs.declared.Shape.the-variants.{Fixed, Varlen}
-use Rattle.row_format.specs.Places.{through, endAfter, minimum}
-use Rattle.row_format.proofs.Places.{round-up-ge}
+use Rattle.row_format.specs.Places.{minimum}
+use Rattle.row_format.proofs.Sizes.{packed-least}
 use Rattle.datatype.specs.declared.DataType.{DataType}
-use Rattle.datatype.specs.declared.DataType.the-variants as T
 use Rattle.datatype.specs.declared.Record.{Record}
 use Rattle.datatype.specs.declared.Record.the-variants.{Column, Refused}
-use Rattle.datatype.specs.Types.{alignmentOf, sizeOf, isVarlen, shapeOf}
+use Rattle.datatype.specs.Types.{shapeOf}
 use Rattle.datatype.specs.Schema.{Parsed, types, refused, records, limited, schemaOf, recordAt}
+use Rattle.datatype.proofs.Again.{all-aligned}
 use Rattle.datatype.proofs.Walk.{none-left, some-left, not-refused, first-left}
-
--- ---- a packed row is not longer than a padded one
-
-aligned : (t : DataType) → 0 < alignmentOf t
-aligned T.SmallInt = omega arith
-aligned T.Int = omega arith
-aligned T.BigInt = omega arith
-aligned T.Real = omega arith
-aligned T.DoublePrecision = omega arith
-aligned (T.Numeric p s) = omega arith
-aligned (T.Decimal p s) = omega arith
-aligned T.Bool = omega arith
-aligned (T.Char n) = omega arith
-aligned (T.Character n) = omega arith
-aligned (T.Varchar n) = omega arith
-aligned T.Date = omega arith
-aligned T.Time = omega arith
-aligned (T.Bit n) = omega arith
-aligned T.Timestamp = omega arith
-
-column-le : (t : DataType) (v : Bool) (x y : ℕ) → x ≤ y → endAfter true (cond v Varlen (Fixed (sizeOf t) (alignmentOf t))) x ≤ endAfter false (cond v Varlen (Fixed (sizeOf t) (alignmentOf t))) y
-column-le t true x y h = h
-column-le t false x y h = omega (arith, round-up-ge (alignmentOf t) y (aligned t))
-
-packed-le : (ts : List DataType) (x y : ℕ) → x ≤ y → through (endAfter true) x (map shapeOf ts) ≤ through (endAfter false) y (map shapeOf ts)
-packed-le [] x y h = h
-packed-le (t ∷ ts) x y h = packed-le ts (endAfter true (shapeOf t) x) (endAfter false (shapeOf t) y) (column-le t (isVarlen t) x y h)
 
 -- ---- an accepted schema: its rows are within the limit, and its columns are at most 256
 
@@ -88,7 +60,7 @@ module _ (w limit : ℕ) (s : List ℕ) {ts : List DataType} (f : schemaOf w lim
   of-schema = passed w limit (length s) (records 256 s 0) f
 
   pub schema-minimum : minimum w true (map shapeOf ts) ≤ limit
-  schema-minimum = omega (arith, of-schema .padded, packed-le ts 0 0 (omega arith))
+  schema-minimum = omega (arith, of-schema .padded, packed-least w (all-aligned ts))
 
   pub schema-few : length ts ≤ 256
   schema-few = few-types 256 s 0 ts (of-schema .all)
