@@ -14,4 +14,4 @@ use Rattle.worked.specs.Cases.{Holds, columns, S, row, table}
 pub worked : Holds table
 unfolding table row S columns schemaOf rowWith lay rangeEnd rangeStart varlenEdit editedRow valuesOf soundColumn header octets digits encodeBcd
 worked =
-    (refl, (refl, (refl, (refl, (refl, (refl, (refl, (refl, (refl, (refl, (refl, (refl, (refl, (refl, (refl, (refl, (refl, (refl, tt))))))))))))))))))
+    (refl, (refl, (refl, (refl, (refl, (refl, (refl, (refl, (refl, (refl, (refl, (refl, (refl, (refl, (refl, (refl, (refl, (refl, (refl, (refl, tt))))))))))))))))))))

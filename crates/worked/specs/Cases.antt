@@ -1,4 +1,4 @@
--- 01, "Platform rows worked out": the cases marked (P), each as what the definitions compute beside what 01 states. S is Int, Varchar(5), SmallInt.
+-- 01, "Platform rows worked out": the cases marked (P) and case 11, each as what the definitions compute beside what 01 states. S is Int, Varchar(5), SmallInt.
 use Prim.Native.Nat.{ℕ}
 use mathlib.Core.Bool.{true, false}
 use mathlib.Core.List.{List, [], _∷_, _++_, map}
@@ -30,6 +30,7 @@ use Rattle.stored_form.specs.declared.SlotRead.the-variants.{Value, NoValue}
 use Rattle.stored_form.specs.Number.{numberOf}
 use Rattle.stored_form.specs.Write.{storedForm}
 use Rattle.stored_form.specs.Read.{readSlot}
+use Rattle.row_decode.specs.Read.{readCall}
 use Rattle.row_build.specs.Build.{freshCall, buildCall}
 use Rattle.row_edit.specs.Edit.{setCall, setNullCall}
 
@@ -86,6 +87,10 @@ outcome o = answered (o .0) ++ o .1
 abbrev pub row2 : List ℕ
 row2 = 3 ∷ 0 ∷ 1 ∷ 0x80 ∷ 4 ∷ 0x0D ∷ 0 ∷ 1 ∷ 0 ∷ 0 ∷ 0 ∷ 0 ∷ 0 ∷ 0x41 ∷ 0x42 ∷ 0xAA ∷ []
 
+-- "Row 2 with offset 0 and bitmap 04"
+abbrev pub row11 : List ℕ
+row11 = 3 ∷ 0 ∷ 1 ∷ 0x80 ∷ 4 ∷ 0 ∷ 0 ∷ 1 ∷ 0 ∷ 0 ∷ 0 ∷ 0 ∷ 0 ∷ 0x41 ∷ 0x42 ∷ []
+
 unfoldable pub table : List Case
 unfolding row columns
 table =
@@ -131,4 +136,7 @@ table =
       computed = map (λ s. bitValue (isText s)) ((0xED ∷ 0xA0 ∷ 0x80 ∷ []) ∷ (0xC0 ∷ 0x80 ∷ []) ∷ (0xF4 ∷ 0x90 ∷ 0x80 ∷ 0x80 ∷ []) ∷ (0xF4 ∷ 0x8F ∷ 0xBF ∷ 0xBF ∷ []) ∷ []);
       stated = 0 ∷ 0 ∷ 0 ∷ 1 ∷ [];
     }
+    -- 11, which is not marked: column 1 reads as null, an edit gives 15
+    ∷ record { computed = outcome (readCall offsetWidth rowLimit schema row11 (1 ∷ []) (replicate 4 0xAA)); stated = 0 ∷ 3 ∷ 0 ∷ 0 ∷ 0 ∷ 0xAA ∷ [] }
+    ∷ record { computed = outcome (setCall offsetWidth rowLimit schema row11 15 1 (9 ∷ 0 ∷ 0 ∷ 0 ∷ 0 ∷ []) []); stated = 15 ∷ 0 ∷ row11 }
     ∷ []
