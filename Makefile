@@ -1,13 +1,24 @@
-.PHONY: test demo bench differential
+.PHONY: test demo install bench differential
 
 # The gate: all proofs, all programs, and the comparison with the Rust.
 test:
 	.ci/run
 
-# The example in C, over the proved library.
+# A small table, row by row, as bytes and as values.
 demo: target/staticlib/librook_row.a
 	gcc -std=c11 -Wall -Wextra -Werror -O2 -Iinclude examples/demo.c target/staticlib/librook_row.a -o target/demo
 	target/demo
+
+# The library, its header and its pkg-config file: make install PREFIX=/usr/local DESTDIR=
+PREFIX = /usr/local
+DESTDIR =
+VERSION = 0.1.0
+folder = $(DESTDIR)$(abspath $(PREFIX))
+install: target/staticlib/librook_row.a
+	install -d $(folder)/lib/pkgconfig $(folder)/include
+	install -m 644 target/staticlib/librook_row.a $(folder)/lib/
+	install -m 644 include/rook_row.h $(folder)/include/
+	sed 's|@PREFIX@|$(abspath $(PREFIX))|; s|@VERSION@|$(VERSION)|' rook_row.pc.in > $(folder)/lib/pkgconfig/rook_row.pc
 
 # Time of each call, against the Rust.
 bench: target/staticlib/librook_row.a target/staticlib/librook_probe.a

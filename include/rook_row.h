@@ -1,9 +1,51 @@
-/* The typed-row codec, proved. Link with librook_row.a.
+/* The typed-row codec, proved for every input. Link with librook_row.a.
  *
- * A slice passes as a pointer and then its length; lent slices do not overlap. An empty slice may have any pointer.
- * Every result comes back by value. `number` is 0 for done, else the number of the refusal; `place` goes with it
- * (README.md has the table). A refusal changes no lent byte, and hands out 0 beside
- * number and place; a refused edit hands back the row length that it got. */
+ * Slices. A slice passes as a pointer and then its length, in bytes; `wanted` in column numbers. An empty slice may
+ * have any pointer. What a call writes to (`out`, `buf`) overlaps no other slice; slices that it only reads may
+ * overlap.
+ *
+ * Answers. Every answer comes back by value. `number` is 0 for done, else that of the refusal; `place` goes with it.
+ * Columns and bytes count from 0.
+ *
+ *   number                                                                         place
+ *    1  a schema record of unknown kind, or cut off                                its first byte in the schema
+ *    2  a 257th schema record; precision outside 1 to 38; scale above precision    its first byte in the schema
+ *       rows of the schema would be above 65,535 bytes                             the schema's length
+ *    3  row under 4 bytes, or under the schema's minimum                           0
+ *    4  row above 65,535 bytes                                                     0
+ *    5  the row's column count is not the schema's                                 0
+ *    6  the row's Varchar count is not the schema's                                0
+ *    7  a wanted Varchar's range leaves the row                                    the column
+ *    8  a wanted column's bytes are no value of its type                           the column
+ *    9  no such column                                                             0
+ *   10  a value record of unknown kind, or cut off                                 its first byte in the list
+ *       another number of records than is due                                      the list's length
+ *       text area above 65,535 bytes                                               0
+ *   11  a value of another kind than the column's type; null given to a set        the column
+ *   12  a value that its type does not hold, or a range past the text area        the column
+ *   13  the row would pass 65,535 bytes                                            0
+ *   14  no room in the lent output, or row_length beyond the buffer                0
+ *   15  the row to be edited is not sound                                          0
+ *
+ * What a refusal leaves. No lent byte is changed. What else the call hands out is 0, but the `length` of a refused
+ * edit is the `row_length` that it got, so that it can be stored in any case.
+ *
+ * Schema. A record for each column, end to end: a byte of kind, then its body. Numbers have their low byte first.
+ *   1 SmallInt   2 Int   3 BigInt   4 Real   5 DoublePrecision   8 Bool   12 Date   13 Time   15 Timestamp   no body
+ *   6 Numeric    7 Decimal                     precision, scale: a byte each
+ *   9 Char      10 Character    11 Varchar     n, the bytes of the text: two bytes
+ *  14 Bit                                      n, the bits: two bytes
+ *
+ * Value list. A record for each value, end to end: a byte of kind, then its body.
+ *   0 null                                     no body
+ *   1 SmallInt   2 Int   3 BigInt              2, 4, 8 bytes, two's complement
+ *   4 Real       5 DoublePrecision             4, 8 bytes
+ *   6 Numeric, Decimal                         the number without its point: 16 bytes, two's complement; scale: 1 byte
+ *   7 Bool                                     0 or 1: 1 byte
+ *   8 Char, Character   9 Varchar   12 Bit     start and length in the text area: two bytes each
+ *  10 Date                                     days from 1970-01-01: 4 bytes
+ *  11 Time                                     microseconds from midnight: 8 bytes
+ *  13 Timestamp                                microseconds from 1970-01-01: 8 bytes */
 #ifndef ROOK_ROW_H
 #define ROOK_ROW_H
 
@@ -17,7 +59,7 @@ extern "C" {
 typedef struct {
     uint32_t number;
     size_t place;
-    size_t length; /* bytes written */
+    size_t length; /* of what was written; for an edit the row's */
 } rook_row_answer;
 
 typedef struct {
@@ -33,56 +75,78 @@ typedef struct {
     size_t length;
 } rook_text_answer;
 
-/* A row of nulls at the front of `out`.
- * Refuses with 1 and 2 (schema), 14 (out too short). */
+/* The row of nulls.
+ * Gets a schema, and writes the row at the front of `out`; bytes past the row stay as they are.
+ * Answers with the row's length.
+ * Refuses with 1 and 2 (schema), 14 (out too short); then `out` is as it was, and `length` 0. */
 rook_row_answer rook_row_fresh(const uint8_t *schema, size_t schema_length, uint8_t *out, size_t out_length);
 
-/* The row of a value list, one record for each column, at the front of `out`. Texts and bit strings are ranges of
- * `text`, of at most 65,535 bytes. Nothing past the row is changed.
+/* The row of a value list.
+ * Gets a schema, a value list with one record for each column, and the text area in which its texts and bit strings
+ * lie, of at most 65,535 bytes; writes the row at the front of `out`. Bytes past the row stay as they are.
+ * Answers with the row's length.
  * Refuses with 1 and 2 (schema), 10 (value list), 11 and 12 (a column's value), 13 (row above 65,535 bytes),
- * 14 (out too short). */
+ * 14 (out too short); then `out` is as it was, and `length` 0. */
 rook_row_answer rook_row_build(const uint8_t *schema, size_t schema_length, const uint8_t *values, size_t values_length,
                                const uint8_t *text, size_t text_length, uint8_t *out, size_t out_length);
 
-/* The wanted columns of a row, as a value list at the front of `out`: a record for each column of the schema, null for
- * an unwanted one. The list's text area is the row itself. `wanted` has column numbers in any order, repeats allowed,
- * unknown ones ignored; `wanted_count` is their number. 18 bytes a column are always enough for `out`.
- * Refuses with 1 and 2 (schema), 4, 3, 5, 6, 3 (row), 7 and 8 (a wanted column), 14 (out too short). */
+/* The values of chosen columns of a row.
+ * Gets a schema, a row and `wanted_count` column numbers, in any order, repeats allowed, unknown ones ignored; writes
+ * a value list at the front of `out`, a record for each column of the schema, null for an unwanted one. The list's
+ * text area is the row itself. 18 bytes a column are always enough; bytes past the list stay as they are.
+ * Answers with the list's length.
+ * Refuses with 1 and 2 (schema), 4, 3, 5, 6, 3 (row), 7 and 8 (a wanted column), 14 (out too short); then `out` is
+ * as it was, and `length` 0. */
 rook_row_answer rook_row_read(const uint8_t *schema, size_t schema_length, const uint8_t *row, size_t row_length,
                               const uint16_t *wanted, size_t wanted_count, uint8_t *out, size_t out_length);
 
-/* Column `column` of the row in the first `row_length` bytes of `buf` set to the one value of the list, in place;
- * `length` is the row's length afterwards. Bytes past the new end are as before. After a refusal `length` is
- * `row_length`, so that it can be stored in any case.
+/* A column set to a value, in place.
+ * Gets a schema, a buffer whose first `row_length` bytes are the row, the column, a value list of exactly one record,
+ * not null, and its text area. The row grows or shrinks with a Varchar's text; bytes past the new end stay as they are.
+ * Answers with the row's length afterwards.
  * Refuses with 1 and 2 (schema), 14 (row_length beyond buf), 15 (the row is not sound), 9 (no such column), 10 (not
- * exactly one good record), 11 and 12 (the value; null is 11), 13 (row above 65,535 bytes), 14 (buf too short). */
+ * exactly one good record), 11 and 12 (the value; null is 11), 13 (row above 65,535 bytes), 14 (buf too short);
+ * then `buf` is as it was, and `length` is `row_length`. */
 rook_row_answer rook_row_set(const uint8_t *schema, size_t schema_length, uint8_t *buf, size_t buf_length,
                              size_t row_length, size_t column, const uint8_t *values, size_t values_length,
                              const uint8_t *text, size_t text_length);
 
-/* The column set to null, in place. The slot of a fixed column stays as it is.
- * Refuses with 1 and 2 (schema), 14 (row_length beyond buf), 15 (the row is not sound), 9 (no such column). */
+/* A column set to null, in place.
+ * Gets a schema, a buffer whose first `row_length` bytes are the row, and the column. The text of a Varchar is taken
+ * out; the slot of a fixed column stays as it is, only its bit says null. Bytes past the new end stay as they are.
+ * Answers with the row's length afterwards.
+ * Refuses with 1 and 2 (schema), 14 (row_length beyond buf), 15 (the row is not sound), 9 (no such column); then
+ * `buf` is as it was, and `length` is `row_length`. */
 rook_row_answer rook_row_set_null(const uint8_t *schema, size_t schema_length, uint8_t *buf, size_t buf_length,
                                   size_t row_length, size_t column);
 
-/* Where the text of a column stands in the row: a Char with its blanks, a Varchar as it is. A null has number 0 and
- * start and length 0; a text that is empty and not null has its own start.
- * Refuses with 1 and 2 (schema), 9 (no such column), 11 (not Char, Character or Varchar; place: the column), and then
- * as a read of that column: 4, 3, 5, 6, 3, 7, 8. */
+/* The text of a column.
+ * Gets a schema, a row and a column of type Char, Character or Varchar; writes nothing.
+ * Answers with where the text stands in the row: a Char with its blanks, a Varchar as it is. It is valid text. A null
+ * has start and length 0; a text that is empty and not null has its own start.
+ * Refuses with 1 and 2 (schema), 9 (no such column), 11 (another type; place: the column), and then as a read of
+ * that column: 4, 3, 5, 6, 3, 7, 8; then `start` and `length` are 0. */
 rook_text_answer rook_row_text(const uint8_t *schema, size_t schema_length, const uint8_t *row, size_t row_length,
                                size_t column);
 
-/* Whether two rows of one schema have the same content: flag is 1 if all columns read as the same. Floats compare by
- * value: the two zeros are equal, and every NaN equals every NaN.
- * Refuses with 1 and 2 (schema), then as a read of all columns of a, then of b. */
+/* Whether two rows have the same content.
+ * Gets a schema and two rows of it; writes nothing.
+ * Answers with flag 1 if all columns read as the same, else 0. Floats compare by value: the two zeros are equal, and
+ * every NaN equals every NaN.
+ * Refuses with 1 and 2 (schema), then as a read of all columns of a, then of b; then `flag` is 0. */
 rook_flag_answer rook_row_same_content(const uint8_t *schema, size_t schema_length, const uint8_t *a, size_t a_length,
                                        const uint8_t *b, size_t b_length);
 
-/* Whether column `column` of a row is null, by the row's own header and bitmap: flag is 1 for null.
- * Refuses with 4 (row above 65,535 bytes), 3 (row shorter than its header or bitmap), 9 (no such column); place 0. */
+/* Whether a column's bit says null.
+ * Gets a row and a column; it goes by the row's own header and bitmap, and writes nothing.
+ * Answers with flag 1 for null, else 0.
+ * Refuses with 4 (row above 65,535 bytes), 3 (row shorter than its header or bitmap), 9 (no such column), place 0;
+ * then `flag` is 0. */
 rook_flag_answer rook_row_is_null(const uint8_t *row, size_t row_length, size_t column);
 
-/* Whether bytes are text by RFC 3629 (UTF-8): 1 valid, 0 not. */
+/* Whether bytes are text by RFC 3629 (UTF-8).
+ * Gets any bytes; writes nothing, refuses nothing.
+ * Answers with 1 for text, else 0. */
 uint32_t rook_text_valid(const uint8_t *text, size_t text_length);
 
 #ifdef __cplusplus
