@@ -9,7 +9,10 @@ fn main() {
     };
     let archive = folder.join("librook_row.a");
     if !archive.exists() {
-        eprintln!("there is no {}: run `rt staticlib rook_row` in the repository, or set ROOK_ROW_LIB_DIR", archive.display());
+        eprintln!(
+            "there is no {}: run `rt staticlib rook_row` in the repository, or let ROOK_ROW_LIB_DIR name its folder",
+            archive.display()
+        );
         std::process::exit(1);
     }
     println!("cargo:rerun-if-changed={}", archive.display());

@@ -1,6 +1,6 @@
 //! The null flag against a few lines that say it: 4, 3, 9 against the header's count, 3 for a cut bitmap, then the bit.
 use native::Random;
-use rook_row::{is_null, Refusal};
+use rook_row::raw::{is_null, Refusal};
 
 fn plain(row: &[u8], column: usize) -> Result<bool, u32> {
     if row.len() > 65_535 {

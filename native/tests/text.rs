@@ -1,7 +1,7 @@
 //! The proved check against `std::str::from_utf8`.
 
 use native::{text, Random, ACCENTED, ASCII, THREE_BYTE};
-use rook_row::text_valid;
+use rook_row::raw::text_valid;
 
 fn agree(bytes: &[u8]) {
     assert_eq!(

@@ -2,7 +2,7 @@
 //! There are so many texts of each kind that the processor cannot learn them.
 
 use native::{text, Random, ACCENTED, ASCII, THREE_BYTE};
-use rook_row::text_valid;
+use rook_row::raw::text_valid;
 use std::hint::black_box;
 use std::time::Instant;
 

@@ -20,7 +20,7 @@ fn bench_build(types: &[DataType], rows: &[Values]) -> [f64; 2] {
     let schema = write_schema(types);
     let mut out = vec![0; 65_535];
     for (values, list) in rows {
-        let length = rook_row::build(&schema, &list.bytes, &list.text, &mut out);
+        let length = rook_row::raw::build(&schema, &list.bytes, &list.text, &mut out);
         let row = rust::build(types, values).ok().expect("a row");
         assert_eq!(out[..length.expect("a row")], row);
     }
@@ -30,7 +30,7 @@ fn bench_build(types: &[DataType], rows: &[Values]) -> [f64; 2] {
                 black_box(serialize_nullable_typed_row(types, values).expect("a row"));
             }),
             time(rows, |(_, list)| {
-                let length = rook_row::build(&schema, &list.bytes, &list.text, &mut out);
+                let length = rook_row::raw::build(&schema, &list.bytes, &list.text, &mut out);
                 black_box((length.expect("a row"), &out));
             }),
         ]
@@ -47,7 +47,7 @@ fn bench_fresh(types: &[DataType]) -> [f64; 2] {
                 black_box(Row::new(black_box(types).to_vec()).serialize());
             }),
             time(&times, |_| {
-                let length = rook_row::fresh(black_box(&schema), &mut out);
+                let length = rook_row::raw::fresh(black_box(&schema), &mut out);
                 black_box((length.expect("a row"), &out));
             }),
         ]

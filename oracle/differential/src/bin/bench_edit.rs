@@ -38,8 +38,10 @@ fn bench(
     let ours = |buffer: &mut [u8], row: &[u8]| {
         buffer[..row.len()].copy_from_slice(row);
         match value {
-            Some(_) => rook_row::set(&schema, buffer, row.len(), column, &list.bytes, &list.text),
-            None => rook_row::set_null(&schema, buffer, row.len(), column),
+            Some(_) => {
+                rook_row::raw::set(&schema, buffer, row.len(), column, &list.bytes, &list.text)
+            }
+            None => rook_row::raw::set_null(&schema, buffer, row.len(), column),
         }
         .expect("a good edit")
     };

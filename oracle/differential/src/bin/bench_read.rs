@@ -23,7 +23,7 @@ fn bench(name: &str, types: &[DataType], rows: &[Vec<u8>], wanted: &[u16]) {
                 black_box(deserialize_nullable_row(types, row).expect("a built row"));
             }),
             time(rows, |row| {
-                let length = rook_row::read(&schema, row, wanted, &mut out);
+                let length = rook_row::raw::read(&schema, row, wanted, &mut out);
                 black_box((length.expect("a built row"), &out));
             }),
         ]

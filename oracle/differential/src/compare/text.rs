@@ -48,7 +48,7 @@ pub fn rust(text: &[u8]) -> bool {
 
 pub fn compare(rng: &mut Rng) -> Compared {
     let (kind, text) = text(rng);
-    Compared::new(kind, rook_row::text_valid(&text), rust(&text), || {
+    Compared::new(kind, rook_row::raw::text_valid(&text), rust(&text), || {
         format!("text {}", hex(&text))
     })
 }

@@ -1,0 +1,277 @@
+//! The library's calls: slices in, numbers out. Schemas and value lists are bytes.
+//!
+//! ```
+//! use rook_row::raw;
+//!
+//! let schema = [2, 11, 5, 0, 1]; // Int, Varchar(5), SmallInt
+//! let values = [2, 1, 0, 0, 0, 9, 0, 0, 2, 0, 0]; // Int 1; a Varchar, 2 bytes from byte 0 of the text; null
+//! let mut buffer = [0; 20];
+//! assert_eq!(raw::build(&schema, &values, b"AB", &mut buffer), Ok(15));
+//! let row = [3, 0, 1, 0x80, 4, 0x0D, 0, 1, 0, 0, 0, 0, 0, 0x41, 0x42];
+//! assert_eq!(buffer[..15], row);
+//!
+//! // columns 0 and 1, as a value list whose text area is the row
+//! let mut list = [0; 54];
+//! assert_eq!(raw::read(&schema, &row, &[0, 1], &mut list), Ok(11));
+//! assert_eq!(list[..11], [2, 1, 0, 0, 0, 9, 13, 0, 2, 0, 0]);
+//! assert_eq!(raw::text(&schema, &row, 1), Ok(13..15));
+//! assert_eq!(raw::same_content(&schema, &row, &row), Ok(true));
+//! assert_eq!(raw::is_null(&row, 2), Ok(true));
+//! assert_eq!(raw::is_null(&row, 3), Err(raw::Refusal { number: 9, place: 0 }));
+//!
+//! // column 1 edited in place: longer, then null
+//! assert_eq!(raw::set(&schema, &mut buffer, 15, 1, &[9, 0, 0, 5, 0], b"ABCDE"), Ok(18));
+//! assert_eq!(raw::set_null(&schema, &mut buffer, 18, 1), Ok(13));
+//! ```
+use std::fmt;
+use std::ops::Range;
+
+/// Why a call refused: the format's number, and the place that goes with it.
+#[derive(Debug, Clone, Copy, PartialEq, Eq, Hash)]
+pub struct Refusal {
+    /// 1 to 15.
+    pub number: u32,
+    /// A byte of the schema or the value list, a column, or 0.
+    pub place: usize,
+}
+
+impl fmt::Display for Refusal {
+    fn fmt(&self, f: &mut fmt::Formatter<'_>) -> fmt::Result {
+        write!(f, "refused with {} at {}", self.number, self.place)
+    }
+}
+
+impl std::error::Error for Refusal {}
+
+#[repr(C)]
+struct RowAnswer {
+    number: u32,
+    place: usize,
+    length: usize,
+}
+
+#[repr(C)]
+struct FlagAnswer {
+    number: u32,
+    place: usize,
+    flag: usize,
+}
+
+#[repr(C)]
+struct TextAnswer {
+    number: u32,
+    place: usize,
+    start: usize,
+    length: usize,
+}
+
+// A slice passes as a pointer and a length; include/rook_row.h says the same in C.
+extern "C" {
+    fn rook_row_fresh(
+        schema: *const u8,
+        schema_length: usize,
+        out: *mut u8,
+        out_length: usize,
+    ) -> RowAnswer;
+    fn rook_row_build(
+        schema: *const u8,
+        schema_length: usize,
+        values: *const u8,
+        values_length: usize,
+        text: *const u8,
+        text_length: usize,
+        out: *mut u8,
+        out_length: usize,
+    ) -> RowAnswer;
+    fn rook_row_read(
+        schema: *const u8,
+        schema_length: usize,
+        row: *const u8,
+        row_length: usize,
+        wanted: *const u16,
+        wanted_count: usize,
+        out: *mut u8,
+        out_length: usize,
+    ) -> RowAnswer;
+    fn rook_row_set(
+        schema: *const u8,
+        schema_length: usize,
+        buf: *mut u8,
+        buf_length: usize,
+        row_length: usize,
+        column: usize,
+        values: *const u8,
+        values_length: usize,
+        text: *const u8,
+        text_length: usize,
+    ) -> RowAnswer;
+    fn rook_row_set_null(
+        schema: *const u8,
+        schema_length: usize,
+        buf: *mut u8,
+        buf_length: usize,
+        row_length: usize,
+        column: usize,
+    ) -> RowAnswer;
+    fn rook_row_text(
+        schema: *const u8,
+        schema_length: usize,
+        row: *const u8,
+        row_length: usize,
+        column: usize,
+    ) -> TextAnswer;
+    fn rook_row_same_content(
+        schema: *const u8,
+        schema_length: usize,
+        a: *const u8,
+        a_length: usize,
+        b: *const u8,
+        b_length: usize,
+    ) -> FlagAnswer;
+    fn rook_row_is_null(row: *const u8, row_length: usize, column: usize) -> FlagAnswer;
+    fn rook_text_valid(text: *const u8, text_length: usize) -> u32;
+}
+
+/// What the call handed out, if it was done.
+fn done<T>(number: u32, place: usize, result: T) -> Result<T, Refusal> {
+    match number {
+        0 => Ok(result),
+        _ => Err(Refusal { number, place }),
+    }
+}
+
+/// A row of nulls at the front of `out`; hands back its length.
+pub fn fresh(schema: &[u8], out: &mut [u8]) -> Result<usize, Refusal> {
+    // SAFETY, here and below: pointers and lengths are those of slices; what is written to is borrowed alone.
+    let answer =
+        unsafe { rook_row_fresh(schema.as_ptr(), schema.len(), out.as_mut_ptr(), out.len()) };
+    done(answer.number, answer.place, answer.length)
+}
+
+/// The row of a value list at the front of `out`; hands back its length. Texts and bit strings are ranges of `text`.
+pub fn build(schema: &[u8], values: &[u8], text: &[u8], out: &mut [u8]) -> Result<usize, Refusal> {
+    let answer = unsafe {
+        rook_row_build(
+            schema.as_ptr(),
+            schema.len(),
+            values.as_ptr(),
+            values.len(),
+            text.as_ptr(),
+            text.len(),
+            out.as_mut_ptr(),
+            out.len(),
+        )
+    };
+    done(answer.number, answer.place, answer.length)
+}
+
+/// The wanted columns of a row as a value list at the front of `out`; hands back its length. A record for each
+/// column of the schema, null for an unwanted one; texts are ranges of the row. 18 bytes a column are always
+/// enough.
+pub fn read(schema: &[u8], row: &[u8], wanted: &[u16], out: &mut [u8]) -> Result<usize, Refusal> {
+    let answer = unsafe {
+        rook_row_read(
+            schema.as_ptr(),
+            schema.len(),
+            row.as_ptr(),
+            row.len(),
+            wanted.as_ptr(),
+            wanted.len(),
+            out.as_mut_ptr(),
+            out.len(),
+        )
+    };
+    done(answer.number, answer.place, answer.length)
+}
+
+/// A column of the row in the first `row_length` bytes of `buf` set to the one value of the list, in place; hands
+/// back the row's length afterwards.
+pub fn set(
+    schema: &[u8],
+    buf: &mut [u8],
+    row_length: usize,
+    column: usize,
+    values: &[u8],
+    text: &[u8],
+) -> Result<usize, Refusal> {
+    let answer = unsafe {
+        rook_row_set(
+            schema.as_ptr(),
+            schema.len(),
+            buf.as_mut_ptr(),
+            buf.len(),
+            row_length,
+            column,
+            values.as_ptr(),
+            values.len(),
+            text.as_ptr(),
+            text.len(),
+        )
+    };
+    done(answer.number, answer.place, answer.length)
+}
+
+/// The column set to null, in place; the slot of a fixed column stays as it is.
+pub fn set_null(
+    schema: &[u8],
+    buf: &mut [u8],
+    row_length: usize,
+    column: usize,
+) -> Result<usize, Refusal> {
+    let answer = unsafe {
+        rook_row_set_null(
+            schema.as_ptr(),
+            schema.len(),
+            buf.as_mut_ptr(),
+            buf.len(),
+            row_length,
+            column,
+        )
+    };
+    done(answer.number, answer.place, answer.length)
+}
+
+/// Where the text of a column stands in the row: a Char with its blanks. A null has 0..0; a text that is empty and
+/// not null has its own start.
+pub fn text(schema: &[u8], row: &[u8], column: usize) -> Result<Range<usize>, Refusal> {
+    let answer = unsafe {
+        rook_row_text(
+            schema.as_ptr(),
+            schema.len(),
+            row.as_ptr(),
+            row.len(),
+            column,
+        )
+    };
+    done(
+        answer.number,
+        answer.place,
+        answer.start..answer.start + answer.length,
+    )
+}
+
+/// Whether two rows of one schema have the same content. Floats compare by value, and every NaN equals every NaN.
+pub fn same_content(schema: &[u8], a: &[u8], b: &[u8]) -> Result<bool, Refusal> {
+    let answer = unsafe {
+        rook_row_same_content(
+            schema.as_ptr(),
+            schema.len(),
+            a.as_ptr(),
+            a.len(),
+            b.as_ptr(),
+            b.len(),
+        )
+    };
+    done(answer.number, answer.place, answer.flag == 1)
+}
+
+/// Whether a column of a row is null, by the row's own header and bitmap.
+pub fn is_null(row: &[u8], column: usize) -> Result<bool, Refusal> {
+    let answer = unsafe { rook_row_is_null(row.as_ptr(), row.len(), column) };
+    done(answer.number, answer.place, answer.flag == 1)
+}
+
+/// Whether bytes are text by RFC 3629 (UTF-8).
+pub fn text_valid(text: &[u8]) -> bool {
+    unsafe { rook_text_valid(text.as_ptr(), text.len()) == 1 }
+}
