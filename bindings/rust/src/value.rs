@@ -2,7 +2,8 @@
 use std::borrow::Cow;
 
 /// The value of a column, its text or bits owned or borrowed. Equality is that of the parts: a NaN is unequal to
-/// itself. [`Row::same_content`](crate::Row::same_content) compares as the format does.
+/// itself, and every bit of a last byte counts. [`Row::same_content`](crate::Row::same_content) compares as the format
+/// does.
 #[derive(Debug, Clone, PartialEq)]
 pub enum Value<'a> {
     /// No value. A [`build`](crate::Row::build) takes it, a [`set`](crate::Row::set) does not.
@@ -34,7 +35,8 @@ pub enum Value<'a> {
     Date(i32),
     /// Microseconds from midnight, from 0 to 86,399,999,999.
     Time(i64),
-    /// For a `Bit`: the bits from the high one of the first byte on, as many bytes as they fill.
+    /// For a `Bit`: the bits from the high one of the first byte on, as many bytes as they fill. What is left of the
+    /// last byte does not count; a build or a set writes zeros there, a read hands out what is stored.
     Bit(Cow<'a, [u8]>),
     /// Microseconds from 1970-01-01 00:00, from -62,135,596,800,000,000 to 253,402,300,799,999,999.
     Timestamp(i64),

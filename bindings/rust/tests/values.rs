@@ -146,6 +146,22 @@ fn a_char_has_its_blanks() {
 }
 
 #[test]
+fn spare_bits_do_not_count() {
+    let schema = Schema::new(&[DataType::Bit(3)]);
+    let built = Row::build(&schema, &[Value::Bit(vec![0xBF].into())]).unwrap();
+    assert_eq!(
+        built.read(&schema).unwrap(),
+        [Value::Bit(vec![0xA0].into())]
+    );
+    let stored = Row::from_bytes(vec![1, 0, 0, 0x80, 0, 0xBF]);
+    assert_eq!(
+        stored.read(&schema).unwrap(),
+        [Value::Bit(vec![0xBF].into())]
+    );
+    assert_eq!(stored.same_content(&schema, &built), Ok(true));
+}
+
+#[test]
 fn same_content_by_value() {
     let schema = Schema::new(&[DataType::Real, DataType::DoublePrecision]);
     let row = |x, y| Row::build(&schema, &[Value::Real(x), Value::DoublePrecision(y)]).unwrap();
