@@ -47,6 +47,52 @@ fn columns() -> (Schema, Vec<Value<'static>>) {
 }
 
 #[test]
+fn every_type_has_its_record() {
+    let schema = Schema::new(&[
+        DataType::SmallInt,
+        DataType::Int,
+        DataType::BigInt,
+        DataType::Real,
+        DataType::DoublePrecision,
+        DataType::Numeric {
+            precision: 4,
+            scale: 2,
+        },
+        DataType::Decimal {
+            precision: 5,
+            scale: 0,
+        },
+        DataType::Bool,
+        DataType::Char(3),
+        DataType::Character(300),
+        DataType::Varchar(16),
+        DataType::Date,
+        DataType::Time,
+        DataType::Bit(11),
+        DataType::Timestamp,
+    ]);
+    let records: [&[u8]; 15] = [
+        &[1],
+        &[2],
+        &[3],
+        &[4],
+        &[5],
+        &[6, 4, 2],
+        &[7, 5, 0],
+        &[8],
+        &[9, 3, 0],
+        &[10, 0x2C, 1],
+        &[11, 16, 0],
+        &[12],
+        &[13],
+        &[14, 11, 0],
+        &[15],
+    ];
+    assert_eq!(schema.as_bytes(), records.concat());
+    assert_eq!(schema.columns(), 15);
+}
+
+#[test]
 fn every_type_is_read_back() {
     let (schema, values) = columns();
     assert_eq!(schema.columns(), 16);
