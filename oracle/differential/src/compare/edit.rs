@@ -113,18 +113,23 @@ impl Lent<'_> {
     fn asked(&self) -> Option<Outcome<Vec<u8>>> {
         let types = rows::columns(self.schema).ok()?;
         let row = self.row().filter(|row| is_sound(&types, row))?;
-        match self.call {
-            Call::SetNull { column } => Some(rust::set_null(&types, row, *column)),
-            Call::Set { column, values } => {
-                // The column is judged before the value.
-                let ty = types.get(*column).unwrap_or(&DataType::Int);
-                let record = match column < &types.len() {
-                    true => *values.records(1).ok()?.first()?,
-                    false => Record::Int(0),
-                };
-                let value = value::to_rust(ty, &record, &values.text).ok()??;
-                Some(rust::set(&types, row, *column, &value))
-            }
+        rust_edit(&types, row, self.call)
+    }
+}
+
+/// What the Rust makes of an edit of a sound row, where it has this value.
+pub fn rust_edit(types: &[DataType], row: &[u8], call: &Call) -> Option<Outcome<Vec<u8>>> {
+    match call {
+        Call::SetNull { column } => Some(rust::set_null(types, row, *column)),
+        Call::Set { column, values } => {
+            // The column is judged before the value.
+            let ty = types.get(*column).unwrap_or(&DataType::Int);
+            let record = match column < &types.len() {
+                true => *values.records(1).ok()?.first()?,
+                false => Record::Int(0),
+            };
+            let value = value::to_rust(ty, &record, &values.text).ok()??;
+            Some(rust::set(types, row, *column, &value))
         }
     }
 }
@@ -162,6 +167,10 @@ impl Sheet {
 
 const FRESH: &str = "from fresh";
 
+/// The most calls of a short history and of a long one.
+const SHORT: usize = 12;
+const LONG: usize = 400;
+
 /// A row to begin with, and its sort.
 fn any_start(rng: &mut Rng, types: &[DataType]) -> (&'static str, Vec<u8>) {
     match rng.below(16) {
@@ -191,6 +200,14 @@ fn false_length(rng: &mut Rng, length: usize, buffer: usize) -> Option<usize> {
     }
 }
 
+/// How many calls a history has: mostly a few, seldom hundreds.
+fn any_length(rng: &mut Rng) -> usize {
+    match rng.below(40) {
+        0 => rng.between(SHORT + 1, LONG),
+        _ => rng.between(1, SHORT),
+    }
+}
+
 /// A history of the port's calls.
 pub fn compare(rng: &mut Rng) -> Compared {
     let calls = Calls {
@@ -200,7 +217,7 @@ pub fn compare(rng: &mut Rng) -> Compared {
     compare_with(&calls, rng)
 }
 
-/// A history of one to twelve of these calls.
+/// A history of these calls, checked after each.
 pub fn compare_with(calls: &Calls, rng: &mut Rng) -> Compared {
     let types = rows::any_types(rng);
     let (start, row) = any_start(rng, &types);
@@ -214,7 +231,11 @@ pub fn compare_with(calls: &Calls, rng: &mut Rng) -> Compared {
     let mut sheet = Sheet::of_nulls(types.len());
     let mut sorts = BTreeMap::from([(schema_sort, 1), (format!("history {start}"), 1)]);
     let mut count = |sort: String| *sorts.entry(sort).or_default() += 1;
-    let calls_made = rng.between(1, 12);
+    let calls_made = any_length(rng);
+    let long = calls_made > SHORT;
+    if long {
+        count(format!("history of {} to {LONG} calls", SHORT + 1));
+    }
     for call in &history(rng, &types, calls_made) {
         let stated = false_length(rng, length, row.len() + spare);
         let lent = Lent {
@@ -231,6 +252,10 @@ pub fn compare_with(calls: &Calls, rng: &mut Rng) -> Compared {
         };
         count(format!("{name}: answer {number}"));
         count(format!("{name}: {}", lent.judge(number)));
+        if long {
+            let accepted = if number == 0 { "accepted" } else { "refused" };
+            count(format!("call of a long history, {accepted}"));
+        }
         if difference.is_some() {
             let sorts = sorts.into_iter().collect();
             return Compared { sorts, difference };
