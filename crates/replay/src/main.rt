@@ -23,6 +23,12 @@ const READ: u8 = 6;
 
 const BUILT: u8 = 7;
 
+const FRESH: u8 = 8;
+
+const SET: u8 = 9;
+
+const SET_NULL: u8 = 10;
+
 const PLANTED: u8 = 128;
 
 // The answers to one call. Of the planted ones, which are wrong, `found` were told apart.
@@ -41,6 +47,9 @@ struct Tallies {
     slot: Tally,
     read: Tally,
     built: Tally,
+    fresh: Tally,
+    set: Tally,
+    set_null: Tally,
     unknown: u64,
     done: bool,
 }
@@ -230,6 +239,86 @@ fn same_built(schema: &[u8], values: &[u8], area: &[u8], answer: &[u8]) -> bool 
     }
 }
 
+fn same_fresh(schema: &[u8], answer: &[u8]) -> bool {
+    let mut out = [0; 2048];
+    match row_build::fresh(schema, &mut out) {
+        Answer::Done(n) => same_handed(0, n, &out, answer),
+        Answer::Refused(e) => same_handed(e.number(), 0, &out, answer),
+    }
+}
+
+// What an edit left: its answer's variant, the row length after it, every byte of the buffer.
+fn same_left(number: u32, n: usize, buffer: &[u8], answer: &[u8]) -> bool {
+    if answer.len() < 9 {
+        return false;
+    }
+    let outcome = if number == 0 { 0 } else { variant(number) };
+    answer[0] == outcome
+        && endian::read_u64(answer, 1) as usize == n
+        && endian::same_bytes(buffer, &answer[9..])
+}
+
+// The numbers of an edit are the row length and the column.
+fn set_in(
+    schema: &[u8],
+    buffer: &mut [u8],
+    numbers: &[u8],
+    values: &[u8],
+    area: &[u8],
+    answer: &[u8],
+) -> bool {
+    if numbers.len() != 16 {
+        return false;
+    }
+    let n = endian::read_u64(numbers, 0) as usize;
+    let column = endian::read_u64(numbers, 8) as usize;
+    match row_edit::set_value(schema, buffer, n, column, values, area) {
+        Answer::Done(m) => same_left(0, m, buffer, answer),
+        Answer::Refused(e) => same_left(e.number(), n, buffer, answer),
+    }
+}
+
+fn set_null_in(schema: &[u8], buffer: &mut [u8], numbers: &[u8], answer: &[u8]) -> bool {
+    if numbers.len() != 16 {
+        return false;
+    }
+    let n = endian::read_u64(numbers, 0) as usize;
+    let column = endian::read_u64(numbers, 8) as usize;
+    match row_edit::set_null(schema, buffer, n, column) {
+        Answer::Done(m) => same_left(0, m, buffer, answer),
+        Answer::Refused(e) => same_left(e.number(), n, buffer, answer),
+    }
+}
+
+// The fields after the numbers are value list, text area and answer.
+fn same_set(schema: &[u8], buffer: &[u8], numbers: &[u8], fields: &[u8]) -> bool {
+    let n = buffer.len();
+    if n > 2048 {
+        return false;
+    }
+    let mut out = [0; 2048];
+    endian::copy(&mut out, 0, buffer);
+    let more = after(fields);
+    set_in(
+        schema,
+        &mut out[0..n],
+        numbers,
+        field(fields),
+        field(more),
+        field(after(more)),
+    )
+}
+
+fn same_set_null(schema: &[u8], buffer: &[u8], numbers: &[u8], answer: &[u8]) -> bool {
+    let n = buffer.len();
+    if n > 2048 {
+        return false;
+    }
+    let mut out = [0; 2048];
+    endian::copy(&mut out, 0, buffer);
+    set_null_in(schema, &mut out[0..n], numbers, answer)
+}
+
 // A record's kind is its first byte, then come its fields. An empty one fills a block up.
 fn run(tallies: Tallies, record: &[u8]) -> Tallies {
     let mut next = tallies;
@@ -261,6 +350,12 @@ fn run(tallies: Tallies, record: &[u8]) -> Tallies {
         next.read = counted(next.read, same_read(a, b, c, d), planted);
     } else if kind == BUILT {
         next.built = counted(next.built, same_built(a, b, c, d), planted);
+    } else if kind == FRESH {
+        next.fresh = counted(next.fresh, same_fresh(a, b), planted);
+    } else if kind == SET {
+        next.set = counted(next.set, same_set(a, b, c, after(rest)), planted);
+    } else if kind == SET_NULL {
+        next.set_null = counted(next.set_null, same_set_null(a, b, c, d), planted);
     } else {
         next.unknown = one_more(next.unknown);
     }
@@ -312,6 +407,9 @@ fn run_all(buffer: &mut [u8]) -> Tallies {
         slot: no_tally(),
         read: no_tally(),
         built: no_tally(),
+        fresh: no_tally(),
+        set: no_tally(),
+        set_null: no_tally(),
         unknown: 0,
         done: false,
     };
@@ -333,6 +431,9 @@ fn main() {
     say_tally(b"slot read: ", tallies.slot);
     say_tally(b"row read: ", tallies.read);
     say_tally(b"row built: ", tallies.built);
+    say_tally(b"fresh row: ", tallies.fresh);
+    say_tally(b"column set: ", tallies.set);
+    say_tally(b"column set null: ", tallies.set_null);
     say(b"records not understood: ");
     io::print_decimal(STDOUT_FILENO, tallies.unknown);
     say(b"\n");

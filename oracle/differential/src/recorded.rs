@@ -14,17 +14,23 @@
 //! | 5 | schema of one column, its bytes, their place (8 bytes); answer: variant, value record |
 //! | 6 | schema, row, wanted columns (2 bytes each); answer: variant, value list |
 //! | 7 | schema, value list, text area; answer: variant, row |
+//! | 8 | schema; answer: variant, row |
+//! | 9 | schema, buffer, row length and column (8 bytes each), value list, text area; answer: variant, row length (8 bytes), buffer |
+//! | 10 | schema, buffer, row length and column; answer: as for 9 |
 //!
 //! A variant is 0 for `Ok`, 1 for `Internal`, 2 for `TypeMismatch`, 3 for a panic.
 //! 128 added to a kind says that the answer was changed by hand: a run must find
 //! it wrong.
 
 use crate::compare::value::{self, Handed};
-use crate::compare::{build, layout, null_flag, rows, text};
+use crate::compare::{build, edit, layout, null_flag, rows, text};
 use cases::LIMIT;
 use cases::expected::{self, Refusal};
+use cases::generate::history::history;
+use cases::generate::row::sound_row;
 use cases::generate::schema::any_schema;
 use cases::generate::wanted::any_wanted;
+use cases::history::Call;
 use cases::rng::Rng;
 use cases::rust::{self, Outcome};
 use cases::schema::{read_schema, write_schema};
@@ -37,6 +43,9 @@ const STORED: u8 = 4;
 const SLOT: u8 = 5;
 const READ: u8 = 6;
 const BUILT: u8 = 7;
+const FRESH: u8 = 8;
+const SET: u8 = 9;
+const SET_NULL: u8 = 10;
 const PLANTED: u8 = 128;
 
 /// The seed that the file is made from.
@@ -130,6 +139,10 @@ fn handed(kind: u8, inputs: Vec<Vec<u8>>, handed: Handed) -> Option<Record> {
         Err(7) => vec![3],
         Err(_) => return None,
     };
+    short(kind, inputs, answer)
+}
+
+fn short(kind: u8, inputs: Vec<Vec<u8>>, answer: Vec<u8>) -> Option<Record> {
     let length: usize = inputs.iter().map(Vec::len).sum();
     (length + answer.len() <= LONGEST).then_some(Record {
         kind,
@@ -198,6 +211,54 @@ fn row_built(rng: &mut Rng) -> Option<Record> {
     handed(BUILT, inputs, answer)
 }
 
+fn row_fresh(rng: &mut Rng) -> Option<Record> {
+    let types = rows::any_types(rng);
+    let row = rust::fresh(&types).ok()?;
+    handed(FRESH, vec![write_schema(&types)], Ok(row))
+}
+
+fn column_set(rng: &mut Rng) -> Option<Record> {
+    edited(rng, |call| matches!(call, Call::Set { .. }))
+}
+
+fn column_set_null(rng: &mut Rng) -> Option<Record> {
+    edited(rng, |call| matches!(call, Call::SetNull { .. }))
+}
+
+/// An edit that is wanted, of a sound row in a buffer with room for the result.
+fn edited(rng: &mut Rng, is_wanted: fn(&Call) -> bool) -> Option<Record> {
+    let types = rows::any_types(rng);
+    let call = history(rng, &types, 1).pop().filter(is_wanted)?;
+    let row = sound_row(rng, &types);
+    let spare = rng.between(0, 60);
+    let buffer = [row.clone(), rng.bytes(spare)].concat();
+    let (variant, after) = match edit::rust_edit(&types, &row, &call)? {
+        Outcome::Ok(after) => (0, after),
+        Outcome::Internal => (1, row.clone()),
+        Outcome::TypeMismatch => (2, row.clone()),
+        _ => return None,
+    };
+    // Bytes past the row's new end are as before.
+    let tail = buffer.get(after.len()..)?;
+    let length = (after.len() as u64).to_le_bytes();
+    let answer = [&[variant], &length[..], &after, tail].concat();
+    let schema = write_schema(&types);
+    let numbers = |column: usize| {
+        let numbers = [row.len() as u64, column as u64];
+        numbers.into_iter().flat_map(u64::to_le_bytes).collect()
+    };
+    match call {
+        Call::SetNull { column } => {
+            let inputs = vec![schema, buffer, numbers(column)];
+            short(SET_NULL, inputs, answer)
+        }
+        Call::Set { column, values } => {
+            let inputs = vec![schema, buffer, numbers(column), values.bytes, values.text];
+            short(SET, inputs, answer)
+        }
+    }
+}
+
 /// So many records, and before each hundred one with a wrong answer.
 fn samples(rng: &mut Rng, make: fn(&mut Rng) -> Option<Record>, count: usize, out: &mut Vec<u8>) {
     let next = |rng: &mut Rng| {
@@ -235,5 +296,8 @@ pub fn file() -> Vec<u8> {
     samples(&mut rng, slot_read, 400, &mut out);
     samples(&mut rng, row_read, 800, &mut out);
     samples(&mut rng, row_built, 800, &mut out);
+    samples(&mut rng, row_fresh, 200, &mut out);
+    samples(&mut rng, column_set, 800, &mut out);
+    samples(&mut rng, column_set_null, 400, &mut out);
     out
 }

@@ -31,6 +31,15 @@ no-tally-requires-6 c κs = search needs
 no-tally-requires-7 : tie.Need-no-tally-requires-7 Inv-loop μ-loop
 no-tally-requires-7 c κs = search needs
 
+no-tally-requires-8 : tie.Need-no-tally-requires-8 Inv-loop μ-loop
+no-tally-requires-8 c κs = search needs
+
+no-tally-requires-9 : tie.Need-no-tally-requires-9 Inv-loop μ-loop
+no-tally-requires-9 c κs = search needs
+
+no-tally-requires-10 : tie.Need-no-tally-requires-10 Inv-loop μ-loop
+no-tally-requires-10 c κs = search needs
+
 loop-holds : tie.Need-loop-holds Inv-loop μ-loop
 loop-holds c = refl
 
@@ -71,6 +80,9 @@ run-all-spec =
     no-tally-requires-5
     no-tally-requires-6
     no-tally-requires-7
+    no-tally-requires-8
+    no-tally-requires-9
+    no-tally-requires-10
     loop-holds
     step-requires
     sub-turns
