@@ -1,15 +1,13 @@
 //! What is lent to a call of the port, and what is left of it.
 
 use crate::hex;
+use crate::memory::{Lending, Part, Slot};
 use cases::rng::Rng;
+use std::cell::RefCell;
 use std::fmt;
-use std::hint::black_box;
 
-/// The bytes on both sides of an output, which a call must leave alone.
-pub const GUARD: usize = 8;
-
-/// What is left of a call: its answer, the output with its guards, and whether
-/// the other lent bytes are as before.
+/// What is left of a call: its answer, the output, and whether the other lent
+/// bytes and the marks before each slice are as before.
 #[derive(PartialEq, Eq)]
 pub struct After<A> {
     pub answer: A,
@@ -19,15 +17,9 @@ pub struct After<A> {
 
 impl<A: fmt::Debug> fmt::Debug for After<A> {
     fn fmt(&self, f: &mut fmt::Formatter<'_>) -> fmt::Result {
-        let inside = GUARD..self.output.len().saturating_sub(GUARD);
-        let bytes = hex(self.output.get(inside).unwrap_or_default());
+        let bytes = hex(&self.output);
         write!(f, "{:?}, kept {}, {bytes}", self.answer, self.kept)
     }
-}
-
-/// An output of `room` bytes and its guards.
-pub fn output(rng: &mut Rng, room: usize) -> Vec<u8> {
-    rng.bytes(GUARD + room + GUARD)
 }
 
 /// The length of an output beside that of the result.
@@ -49,37 +41,58 @@ pub fn any_output(rng: &mut Rng, needed: usize) -> (Room, Vec<u8>) {
         6..=10 => (Room::Equal, needed),
         _ => (Room::Longer, needed + rng.between(1, 40)),
     };
-    (room, output(rng, length))
+    (room, rng.bytes(length))
 }
 
-/// The output without its guards.
-pub fn inside(output: &mut [u8]) -> &mut [u8] {
-    let end = output.len() - GUARD;
-    &mut output[GUARD..end]
+thread_local! {
+    /// What slices are lent from, by as many as a call needs.
+    static SLOTS: RefCell<Vec<Slot>> = const { RefCell::new(Vec::new()) };
 }
 
-/// The call on copies of this output and of these inputs. The copies are lent for
-/// writing, so that a byte which the call changed is seen.
+/// The call on this output and these inputs, each at the end of pages of its own.
+/// The inputs are lent for writing too, so that a byte which the call changed is
+/// seen.
 pub fn called<A, const N: usize>(
     output: &[u8],
     inputs: [&[u8]; N],
     call: impl FnOnce([&mut [u8]; N], &mut [u8]) -> A,
 ) -> After<A> {
-    let mut lent: [Vec<u8>; N] = inputs.map(<[u8]>::to_vec);
-    let mut output = output.to_vec();
-    let answer = call(lent.each_mut().map(Vec::as_mut_slice), inside(&mut output));
-    After {
-        answer,
-        output,
-        kept: *black_box(&lent) == inputs,
-    }
+    SLOTS.with_borrow_mut(|slots| {
+        slots.resize_with(slots.len().max(N + 1), || Slot::new(Lending::ToWrite));
+        let (out, slots) = slots.split_first_mut().expect("a slot");
+        let lent = std::array::from_fn(|i| slice(slots[i].put(inputs[i])));
+        let answer = call(lent, slice(out.put(output)));
+        let kept = inputs
+            .iter()
+            .zip(slots)
+            .all(|(input, slot)| slot.holds(input));
+        After {
+            answer,
+            output: out.bytes().to_vec(),
+            kept: kept && out.marked(),
+        }
+    })
+}
+
+/// A part that is lent and not looked at otherwise until it is given back.
+fn slice<'a>(part: Part) -> &'a mut [u8] {
+    // SAFETY: the part's slot stays, and is used again after the call only.
+    unsafe { std::slice::from_raw_parts_mut(part.pointer, part.length) }
+}
+
+/// The numbers of two bytes that lent bytes hold.
+pub fn numbers(bytes: &mut [u8]) -> &mut [u16] {
+    // SAFETY: every two bytes are a number.
+    let (before, numbers, after) = unsafe { bytes.align_to_mut() };
+    assert!(before.is_empty() && after.is_empty(), "whole numbers");
+    numbers
 }
 
 /// What a call leaves that writes to its output alone, and only reads the rest.
 pub fn written<A>(output: &[u8], call: impl FnOnce(&mut [u8]) -> A) -> After<A> {
     let mut output = output.to_vec();
     After {
-        answer: call(inside(&mut output)),
+        answer: call(&mut output),
         output,
         kept: true,
     }
@@ -90,23 +103,23 @@ pub fn asked<A, const N: usize>(
     inputs: [&[u8]; N],
     call: impl FnOnce([&mut [u8]; N]) -> A,
 ) -> After<A> {
-    called(&[0; 2 * GUARD], inputs, |lent, _| call(lent))
+    called(&[], inputs, |lent, _| call(lent))
 }
 
 /// What a call without an output leaves that answers so.
 pub fn told<A>(answer: A) -> After<A> {
     After {
         answer,
-        output: vec![0; 2 * GUARD],
+        output: vec![],
         kept: true,
     }
 }
 
 #[cfg(test)]
 mod tests {
-    use super::{GUARD, asked, called};
+    use super::{asked, called, numbers};
 
-    const OUTPUT: [u8; 4 + 2 * GUARD] = [0xAA; 4 + 2 * GUARD];
+    const OUTPUT: [u8; 4] = [0xAA; 4];
 
     #[test]
     fn a_changed_byte_is_seen() {
@@ -116,10 +129,18 @@ mod tests {
     }
 
     #[test]
-    fn the_output_is_between_its_guards() {
-        let after = called(&OUTPUT, [&[]], |_, out| out.fill(9));
-        assert_eq!(after.output[..GUARD], [0xAA; GUARD]);
-        assert_eq!(after.output[GUARD..][..4], [9; 4]);
-        assert_eq!(after.output[GUARD + 4..], [0xAA; GUARD]);
+    fn a_mark_is_seen() {
+        // SAFETY: the byte before the slice is a mark, of the slot's own memory.
+        let before = |slice: &mut [u8]| unsafe { *slice.as_mut_ptr().sub(1) ^= 1 };
+        assert!(!called(&OUTPUT, [&[1]], |_, out| before(out)).kept);
+        assert!(!called(&OUTPUT, [&[1]], |[a], _| before(a)).kept);
+    }
+
+    #[test]
+    fn the_output_is_handed_back() {
+        let after = called(&OUTPUT, [&[]], |_, out| out[1..].fill(9));
+        assert_eq!(after.output, [0xAA, 9, 9, 9]);
+        let after = asked([&[1, 0, 2, 1]], |[bytes]| numbers(bytes).to_vec());
+        assert_eq!(after.answer, [1, 258]);
     }
 }

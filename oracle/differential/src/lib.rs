@@ -1,6 +1,7 @@
 //! The port compared with the Rust. `compare` has a module for each call, with
 //! one comparison on one generated input; `port` reaches the port's calls on
-//! rows, `probe` its inner functions, `lent` tells what a call left. The program
+//! rows, `probe` its inner functions, `lent` tells what a call left,
+//! `memory` is where slices are lent from. The program
 //! `differential` runs comparisons for a time, the program `record` writes a
 //! sample of the Rust's answers to a file, `bench_read`, `bench_build` and
 //! `bench_edit` measure with what `bench` has.
@@ -8,6 +9,7 @@
 pub mod bench;
 pub mod compare;
 pub mod lent;
+pub mod memory;
 pub mod port;
 pub mod probe;
 pub mod recorded;

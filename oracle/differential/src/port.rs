@@ -8,36 +8,36 @@ use model::{FlagAnswer, RowAnswer, TextAnswer};
 use rook_row as _;
 
 #[repr(C)]
-struct Row {
-    number: u32,
-    place: usize,
-    length: usize,
+pub struct Row {
+    pub number: u32,
+    pub place: usize,
+    pub length: usize,
 }
 
 #[repr(C)]
-struct Flag {
-    number: u32,
-    place: usize,
-    flag: usize,
+pub struct Flag {
+    pub number: u32,
+    pub place: usize,
+    pub flag: usize,
 }
 
 #[repr(C)]
-struct Text {
-    number: u32,
-    place: usize,
-    start: usize,
-    length: usize,
+pub struct Text {
+    pub number: u32,
+    pub place: usize,
+    pub start: usize,
+    pub length: usize,
 }
 
 unsafe extern "C" {
-    fn rook_row_fresh(
+    pub fn rook_row_fresh(
         schema: *const u8,
         schema_length: usize,
         out: *mut u8,
         out_length: usize,
     ) -> Row;
 
-    fn rook_row_build(
+    pub fn rook_row_build(
         schema: *const u8,
         schema_length: usize,
         values: *const u8,
@@ -48,7 +48,7 @@ unsafe extern "C" {
         out_length: usize,
     ) -> Row;
 
-    fn rook_row_read(
+    pub fn rook_row_read(
         schema: *const u8,
         schema_length: usize,
         row: *const u8,
@@ -59,7 +59,7 @@ unsafe extern "C" {
         out_length: usize,
     ) -> Row;
 
-    fn rook_row_set(
+    pub fn rook_row_set(
         schema: *const u8,
         schema_length: usize,
         buffer: *mut u8,
@@ -72,7 +72,7 @@ unsafe extern "C" {
         text_length: usize,
     ) -> Row;
 
-    fn rook_row_set_null(
+    pub fn rook_row_set_null(
         schema: *const u8,
         schema_length: usize,
         buffer: *mut u8,
@@ -81,7 +81,7 @@ unsafe extern "C" {
         column: usize,
     ) -> Row;
 
-    fn rook_row_text(
+    pub fn rook_row_text(
         schema: *const u8,
         schema_length: usize,
         row: *const u8,
@@ -89,7 +89,7 @@ unsafe extern "C" {
         column: usize,
     ) -> Text;
 
-    fn rook_row_same_content(
+    pub fn rook_row_same_content(
         schema: *const u8,
         schema_length: usize,
         a: *const u8,
@@ -98,7 +98,9 @@ unsafe extern "C" {
         b_length: usize,
     ) -> Flag;
 
-    fn rook_row_is_null(row: *const u8, row_length: usize, column: usize) -> Flag;
+    pub fn rook_row_is_null(row: *const u8, row_length: usize, column: usize) -> Flag;
+
+    pub fn rook_text_valid(text: *const u8, text_length: usize) -> u32;
 }
 
 /// The row of nulls, in `out`.
@@ -233,6 +235,12 @@ pub fn same_content(schema: &mut [u8], a: &mut [u8], b: &mut [u8]) -> FlagAnswer
 pub fn is_null(row: &mut [u8], column: usize) -> FlagAnswer {
     // SAFETY: as above.
     flag(unsafe { rook_row_is_null(row.as_mut_ptr(), row.len(), column) })
+}
+
+/// Whether bytes are text: 1 or 0.
+pub fn text_valid(text: &mut [u8]) -> u32 {
+    // SAFETY: as above.
+    unsafe { rook_text_valid(text.as_mut_ptr(), text.len()) }
 }
 
 fn row(answer: Row) -> RowAnswer {

@@ -3,7 +3,7 @@
 //! and every lent byte.
 
 use super::rows::{self, apart, counted, fitting, handed};
-use crate::lent::{After, GUARD, any_output, called, output, written};
+use crate::lent::{After, any_output, called, written};
 use crate::{Compared, hex, port};
 use cases::LIMIT;
 use cases::expected::{self, Refusal};
@@ -116,7 +116,7 @@ pub fn rust_row(types: &[DataType], list: &ValueList) -> Option<Outcome<Vec<u8>>
     all.then(|| rust::build(types, &given.values))
 }
 
-/// What a build is lent: the output with its guards.
+/// What a build is lent.
 struct Lent<'a> {
     schema: &'a [u8],
     list: &'a ValueList,
@@ -151,7 +151,7 @@ impl Lent<'_> {
             hex(&self.list.bytes),
             self.list.text.len(),
             hex(&self.list.text),
-            self.output.len() - 2 * GUARD
+            self.output.len()
         )
     }
 
@@ -205,7 +205,7 @@ fn output_for(rng: &mut Rng, schema: &[u8], list: &ValueList) -> (String, Vec<u8
         1 => ("above every row's length", LIMIT + 2000),
         _ => ("short", rng.between(1, 300)),
     };
-    (format!("refused, output {name}"), output(rng, room))
+    (format!("refused, output {name}"), rng.bytes(room))
 }
 
 pub fn compare(rng: &mut Rng) -> Compared {
@@ -240,7 +240,6 @@ pub fn compare(rng: &mut Rng) -> Compared {
 #[cfg(test)]
 mod tests {
     use super::Lent;
-    use crate::lent::GUARD;
     use cases::LIMIT;
     use cases::schema::write_schema;
     use cases::value::{DATES, Record, TIMES, TIMESTAMPS, TextRange, ValueList};
@@ -252,7 +251,7 @@ mod tests {
         let lent = Lent {
             schema: &write_schema(types),
             list,
-            output: vec![0xAA; room + 2 * GUARD],
+            output: vec![0xAA; room],
         };
         let (answer, difference) = lent.compare();
         assert_eq!(difference, None);

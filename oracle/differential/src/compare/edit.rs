@@ -5,7 +5,7 @@
 //! what the builder makes of the last accepted values.
 
 use super::rows::{self, apart, fitting, handed};
-use crate::lent::{After, GUARD, called, inside, output, written};
+use crate::lent::{After, called, written};
 use crate::{Compared, hex, port};
 use cases::expected::{self, Refusal};
 use cases::generate::history::history;
@@ -27,7 +27,7 @@ pub struct Calls {
     pub set_null: fn(&mut [u8], &mut [u8], usize, usize) -> RowAnswer,
 }
 
-/// What an edit is lent: the buffer with its guards, and the row length stated.
+/// What an edit is lent: the buffer, and the row length stated.
 struct Lent<'a> {
     schema: &'a [u8],
     buffer: &'a [u8],
@@ -64,8 +64,7 @@ impl Lent<'_> {
     }
 
     fn row(&self) -> Option<&[u8]> {
-        let inside = GUARD..self.buffer.len() - GUARD;
-        self.buffer[inside].get(..self.row_length)
+        self.buffer.get(..self.row_length)
     }
 
     /// The row of the Rust, or the refusal.
@@ -81,7 +80,7 @@ impl Lent<'_> {
             "schema {}, row length {}, buffer {}, {:?}",
             hex(self.schema),
             self.row_length,
-            hex(&self.buffer[GUARD..self.buffer.len() - GUARD]),
+            hex(self.buffer),
             self.call
         )
     }
@@ -223,8 +222,8 @@ pub fn compare_with(calls: &Calls, rng: &mut Rng) -> Compared {
     let (start, row) = any_start(rng, &types);
     let (schema_sort, schema) = rows::any_schema_for(rng, &types);
     let spare = any_spare(rng);
-    let mut buffer = output(rng, row.len() + spare);
-    inside(&mut buffer)[..row.len()].copy_from_slice(&row);
+    let mut buffer = rng.bytes(row.len() + spare);
+    buffer[..row.len()].copy_from_slice(&row);
     let mut length = row.len();
     // Whether the sheet tells what the calls leave.
     let told = start == FRESH && schema == write_schema(&types);
@@ -272,7 +271,7 @@ pub fn compare_with(calls: &Calls, rng: &mut Rng) -> Compared {
     let mut difference = None;
     if told {
         count("what a history leaves".into());
-        let mut left = inside(&mut buffer)[..length].to_vec();
+        let mut left = buffer[..length].to_vec();
         zero_null_slots(&types, &mut left);
         let list = sheet.list();
         let input = || format!("schema {}, last accepted {list:?}", hex(&schema));
@@ -283,7 +282,7 @@ pub fn compare_with(calls: &Calls, rng: &mut Rng) -> Compared {
             input,
         );
         let built = called(
-            &vec![0; length + 2 * GUARD],
+            &vec![0; length],
             [&schema, &list.bytes, &list.text],
             |[schema, list, text], out| port::build(schema, list, text, out),
         );

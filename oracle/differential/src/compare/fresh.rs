@@ -2,7 +2,7 @@
 //! judges number, place, length and every lent byte.
 
 use super::rows::{apart, columns, counted, fitting, handed, size};
-use crate::lent::{GUARD, any_output, called, written};
+use crate::lent::{any_output, called, written};
 use crate::{Compared, hex, port};
 use cases::expected;
 use cases::generate::schema::any_schema;
@@ -14,13 +14,7 @@ pub fn compare(rng: &mut Rng) -> Compared {
     let wanted = columns(&schema).map(|types| (types.len(), expected::fresh(&types)));
     let needed = wanted.as_ref().map_or(0, |(_, row)| row.len());
     let (room, output) = any_output(rng, needed);
-    let input = || {
-        format!(
-            "schema {}, {} bytes of output",
-            hex(&schema),
-            output.len() - 2 * GUARD
-        )
-    };
+    let input = || format!("schema {}, {} bytes of output", hex(&schema), output.len());
     let port = called(&output, [&schema], |[schema], out| port::fresh(schema, out));
     let model = written(&output, |out| model::fresh(&schema, out));
     let size = wanted.as_ref().map_or("schema refused", |(n, _)| size(*n));

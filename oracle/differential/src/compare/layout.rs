@@ -2,7 +2,7 @@
 //! one against `RowLayout`.
 
 use crate::probe::{self, LayoutProbe};
-use crate::{Compared, hex};
+use crate::{Compared, hex, lent};
 use cases::generate::schema::any_schema;
 use cases::rng::Rng;
 use cases::schema::{read_schema, write_schema};
@@ -45,10 +45,16 @@ fn rust_places(types: &[DataType]) -> Vec<(usize, usize)> {
     packed.into_iter().zip(padded).collect()
 }
 
+fn probed(schema: &[u8]) -> LayoutProbe {
+    let after = lent::asked([schema], |[schema]| probe::layout(schema));
+    assert!(after.kept, "a lent byte was changed");
+    after.answer
+}
+
 /// Where the port has them. A column's packed place is the size of what stands
 /// before it; its padded place is that of its end, less its own size.
 fn port_places(types: &[DataType]) -> Vec<(usize, usize)> {
-    let size = |columns: usize| probe::layout(&write_schema(&types[..columns]));
+    let size = |columns: usize| probed(&write_schema(&types[..columns]));
     (0..types.len())
         .filter_map(|column| {
             let own = types[column].fixed_size()? as usize;
@@ -60,7 +66,7 @@ fn port_places(types: &[DataType]) -> Vec<(usize, usize)> {
 pub fn compare(rng: &mut Rng) -> Compared {
     let (sort, schema) = any_schema(rng);
     let input = || format!("schema {}", hex(&schema.bytes));
-    let probe = probe::layout(&schema.bytes);
+    let probe = probed(&schema.bytes);
     // The places take a probe of each prefix, so few of the larger schemas.
     match read_schema(&schema.bytes) {
         Ok(types) if types.len() < 12 || rng.one_in(16) => Compared::new(

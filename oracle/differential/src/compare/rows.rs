@@ -1,7 +1,7 @@
 //! What the comparisons of calls on rows share: a schema with a row, its own or
 //! not, and what the Rust and 01 tell of it.
 
-use crate::lent::{After, GUARD};
+use crate::lent::After;
 use cases::expected::Refusal;
 use cases::generate::row::any_row;
 use cases::generate::schema::{self, any_schema, any_type};
@@ -113,7 +113,7 @@ pub fn handed(after: &After<RowAnswer>) -> Result<Vec<u8>, Refusal> {
     let answer = after.answer;
     match answer.number {
         0 => {
-            let bytes = after.output.get(GUARD..GUARD + answer.length);
+            let bytes = after.output.get(..answer.length);
             Ok(bytes.unwrap_or_default().to_vec())
         }
         number => Err(Refusal::of((number, answer.place))),
@@ -122,7 +122,7 @@ pub fn handed(after: &After<RowAnswer>) -> Result<Vec<u8>, Refusal> {
 
 /// What is handed back of a result in this output: 14 if it has no room.
 pub fn fitting(bytes: Vec<u8>, output: &[u8]) -> Result<Vec<u8>, Refusal> {
-    let fits = bytes.len() + 2 * GUARD <= output.len();
+    let fits = bytes.len() <= output.len();
     fits.then_some(bytes).ok_or(Refusal::Number(14, 0))
 }
 

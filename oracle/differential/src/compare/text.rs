@@ -1,6 +1,7 @@
 //! The text check against `std::str::from_utf8`, by which the Rust decides.
 
-use crate::{Compared, hex};
+use crate::lent::{asked, told};
+use crate::{Compared, hex, port};
 use cases::generate::text::{Fault, Sort, invalid, valid};
 use cases::rng::Rng;
 
@@ -48,7 +49,7 @@ pub fn rust(text: &[u8]) -> bool {
 
 pub fn compare(rng: &mut Rng) -> Compared {
     let (kind, text) = text(rng);
-    Compared::new(kind, rook_row::raw::text_valid(&text), rust(&text), || {
-        format!("text {}", hex(&text))
-    })
+    let port = asked([&text], |[text]| port::text_valid(text));
+    let wanted = told(u32::from(rust(&text)));
+    Compared::new(kind, port, wanted, || format!("text {}", hex(&text)))
 }

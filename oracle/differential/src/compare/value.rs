@@ -2,7 +2,7 @@
 //! `data_value_matches_type`; and read, against `from_bytes`. The model of 01
 //! judges all of it, and alone where 01 leaves the Rust's domain.
 
-use crate::lent::{After, called, inside, output};
+use crate::lent::{After, called};
 use crate::probe::{self, ValueProbe};
 use crate::{Compared, hex};
 use cases::LIMIT;
@@ -41,7 +41,7 @@ fn left(handed: &Handed, output: &[u8]) -> After<ValueProbe> {
     let mut output = output.to_vec();
     let (number, length) = match handed {
         Ok(bytes) => {
-            inside(&mut output)[..bytes.len()].copy_from_slice(bytes);
+            output[..bytes.len()].copy_from_slice(bytes);
             (0, bytes.len())
         }
         Err(number) => (*number, 0),
@@ -302,7 +302,7 @@ pub fn store(rng: &mut Rng) -> Compared {
     if model.as_ref().is_ok_and(|form| room < form.len()) {
         (judge, model, rust) = (Judge::Probe, Err(14), None);
     }
-    let output = output(rng, room);
+    let output = rng.bytes(room);
     let inputs = [&schema[..], &list.bytes, &list.text];
     let port = called(&output, inputs, |[schema, list, area], out| {
         probe::store(schema, list, area, out)
@@ -474,7 +474,7 @@ pub fn slot(rng: &mut Rng) -> Compared {
         1 => 18,
         _ => 18 + rng.below(20),
     };
-    let output = output(rng, room);
+    let output = rng.bytes(room);
     let (judge, model, rust) = match one_type(&schema) {
         Err(number) => (Judge::Probe, Err(number), None),
         Ok(ty) => match refused_slot(&ty, &bytes, start, room) {
@@ -496,13 +496,12 @@ pub fn slot(rng: &mut Rng) -> Compared {
 #[cfg(test)]
 mod tests {
     use super::{After, Handed, any_column, called, judged, left};
-    use crate::lent::GUARD;
     use crate::probe::ValueProbe;
     use cases::rng::Rng;
     use cases::schema::write_schema;
     use std::collections::BTreeSet;
 
-    const OUTPUT: [u8; 4 + 2 * GUARD] = [0xAA; 4 + 2 * GUARD];
+    const OUTPUT: [u8; 4] = [0xAA; 4];
 
     fn differs(port: After<ValueProbe>, wanted: Handed) -> bool {
         judged("", port, &OUTPUT, &wanted, None, String::new)
