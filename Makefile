@@ -1,4 +1,4 @@
-.PHONY: test demo install bench differential
+.PHONY: test demo install bench differential attack
 
 # The gate: all proofs, all programs, and the comparison with the Rust.
 test:
@@ -34,6 +34,18 @@ SEED = 1
 differential: target/staticlib/librook_row.a target/staticlib/librook_probe.a
 	oracle/prepare
 	cd oracle && cargo run --release --offline --quiet --bin differential -- --seconds $(SECONDS) --seed $(SEED)
+
+# The library as shipped against the model, on slices that end at unreadable pages: make attack CALLS=50000000 SEED=7
+# Then the faults that must be found, and a sample under valgrind.
+CALLS = 10000000
+attack: target/staticlib/librook_row.a target/staticlib/librook_probe.a
+	oracle/prepare
+	cd oracle && cargo build --release --offline --quiet --bin attack
+	oracle/target/release/attack --calls $(CALLS) --seed $(SEED)
+	oracle/target/release/attack --calls 1000000 --faults
+	if command -v valgrind >/dev/null; \
+	then valgrind -q --error-exitcode=9 oracle/target/release/attack --calls 20000 --seed $(SEED) --blocks; \
+	else echo 'attack: NOT RUN under valgrind, which is not installed'; fi
 
 sources := $(shell find crates -name '*.rt' -o -name '*.antt')
 target/staticlib/lib%.a: crates.txt $(sources)

@@ -1,0 +1,67 @@
+//! Who says what is wanted: the model, or the model with a fault.
+
+/// An answer: number, place and what is handed out, which is a length, a flag, or
+/// the start and the length of a text.
+#[derive(Debug, Clone, Copy, PartialEq, Eq)]
+pub struct Told {
+    pub number: u32,
+    pub place: usize,
+    pub handed: [usize; 2],
+}
+
+pub type Edit = fn(&[u8], &mut [u8], usize, usize, &[u8], &[u8]) -> Told;
+
+pub struct Judge {
+    pub fresh: fn(&[u8], &mut [u8]) -> Told,
+    pub build: fn(&[u8], &[u8], &[u8], &mut [u8]) -> Told,
+    pub read: fn(&[u8], &[u8], &[u16], &mut [u8]) -> Told,
+    pub set: Edit,
+    pub set_null: fn(&[u8], &mut [u8], usize, usize) -> Told,
+    pub text: fn(&[u8], &[u8], usize) -> Told,
+    pub same_content: fn(&[u8], &[u8], &[u8]) -> Told,
+    pub is_null: fn(&[u8], usize) -> Told,
+    pub text_valid: fn(&[u8]) -> bool,
+}
+
+/// An answer of the port or of a judge, by the fields that it hands out.
+macro_rules! told {
+    ($answer:expr, $first:ident $(, $second:ident)?) => {{
+        let answer = $answer;
+        $crate::attack::judge::Told {
+            number: answer.number,
+            place: answer.place,
+            handed: [answer.$first, 0 $(+ answer.$second)?],
+        }
+    }};
+}
+pub(super) use told;
+
+macro_rules! judge {
+    ($model:ident) => {
+        Judge {
+            fresh: |schema, out| told!($model::fresh(schema, out), length),
+            build: |schema, values, text, out| {
+                told!($model::build(schema, values, text, out), length)
+            },
+            read: |schema, row, wanted, out| told!($model::read(schema, row, wanted, out), length),
+            set: |schema, buffer, length, column, values, text| {
+                told!(
+                    $model::set(schema, buffer, length, column, values, text),
+                    length
+                )
+            },
+            set_null: |schema, buffer, length, column| {
+                told!($model::set_null(schema, buffer, length, column), length)
+            },
+            text: |schema, row, column| told!($model::text(schema, row, column), start, length),
+            same_content: |schema, a, b| told!($model::same_content(schema, a, b), flag),
+            is_null: |row, column| told!($model::is_null(row, column), flag),
+            text_valid: |text| $model::text_valid(text),
+        }
+    };
+}
+
+pub static MODEL: Judge = judge!(model);
+
+/// `faulty::plant` says which fault.
+pub static FAULTY: Judge = judge!(faulty);

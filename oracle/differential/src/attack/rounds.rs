@@ -1,0 +1,345 @@
+//! The inputs of the attack. A round takes what the generators of the comparison
+//! make for one schema, good, bad and at the limits, and calls on it many times,
+//! as it is, damaged, and with outputs of every room.
+
+use super::judge::Told;
+use super::{Attack, Call};
+use crate::compare::{build, rows, text};
+use cases::LIMIT;
+use cases::generate::history::history;
+use cases::generate::list::any_list;
+use cases::generate::pair::any_pair;
+use cases::generate::row::{any_column, any_row, sound_row};
+use cases::generate::schema::any_schema;
+use cases::generate::wanted::any_wanted;
+use cases::history;
+use cases::rng::Rng;
+use cases::schema::write_schema;
+use cases::value::ValueList;
+use rookdb::types::datatype::DataType;
+use std::sync::LazyLock;
+
+/// The most calls of a round, and the bytes lent after which it ends.
+const CALLS: usize = 160;
+const BYTES: usize = 60_000;
+/// The least calls of a round, whatever they take.
+const LEAST: usize = 6;
+
+/// What stands in an output before a call.
+static NOISE: LazyLock<Vec<u8>> = LazyLock::new(|| Rng::new(0).bytes(3 * LIMIT));
+
+fn noise(rng: &mut Rng, length: usize) -> &'static [u8] {
+    let start = rng.below(NOISE.len() - length + 1);
+    &NOISE[start..start + length]
+}
+
+/// Each call as often as it is to be tried.
+const TRIED: [Call; 16] = [
+    Call::Fresh,
+    Call::Build,
+    Call::Build,
+    Call::Read,
+    Call::Read,
+    Call::Read,
+    Call::Set,
+    Call::Set,
+    Call::Set,
+    Call::SetNull,
+    Call::Text,
+    Call::Text,
+    Call::SameContent,
+    Call::SameContent,
+    Call::IsNull,
+    Call::TextValid,
+];
+
+/// What the calls of a round begin with.
+struct Given {
+    types: Vec<DataType>,
+    schema: Vec<u8>,
+    rows: [Vec<u8>; 4],
+    wanted: [Vec<u16>; 3],
+    /// Columns, and value lists for them.
+    sets: Vec<(usize, ValueList)>,
+    /// Schemas, and value lists for them.
+    builds: [(Vec<u8>, ValueList); 2],
+    schemas: [Vec<u8>; 2],
+    texts: [Vec<u8>; 2],
+    /// The row that edits are made on, in a buffer.
+    buffer: Vec<u8>,
+    length: usize,
+    /// The length of the last result of each call.
+    last: [usize; Call::ALL.len()],
+}
+
+impl Given {
+    fn new(rng: &mut Rng) -> Self {
+        let types = rows::any_types(rng);
+        let (_, schema) = rows::any_schema_for(rng, &types);
+        let (_, (a, b)) = any_pair(rng, &types);
+        let rows = [any_row(rng, &types).1, sound_row(rng, &types), a, b];
+        let other = build::any_given(rng);
+        let own = any_list(rng, &types).1.values;
+        let sets = history(rng, &types, 6).into_iter().map(|call| match call {
+            history::Call::Set { column, values } => (column, values),
+            history::Call::SetNull { column } => (column, any_list(rng, &types).1.values),
+        });
+        let sets = sets.collect();
+        Given {
+            wanted: [(); 3].map(|()| any_wanted(rng, types.len()).1),
+            sets,
+            builds: [
+                (write_schema(&types), own),
+                (write_schema(&other.types), other.list),
+            ],
+            schemas: [any_schema(rng).1.bytes, schema.clone()],
+            texts: [(); 2].map(|()| text::text(rng).1),
+            buffer: rows[1].clone(),
+            length: rows[1].len(),
+            last: [0; Call::ALL.len()],
+            types,
+            schema,
+            rows,
+        }
+    }
+
+    /// A row to be edited, in a buffer with room for more or not.
+    fn restart(&mut self, rng: &mut Rng) {
+        let row = match rng.below(8) {
+            0 => &self.rows[0],
+            1 => &self.rows[2],
+            _ => &self.rows[1],
+        };
+        let spare = match rng.below(16) {
+            0..=2 => 0,
+            3..=6 => rng.between(1, 20),
+            7 => LIMIT + 2,
+            _ => rng.between(20, 600),
+        };
+        self.length = row.len();
+        self.buffer.clone_from(row);
+        self.buffer.extend_from_slice(noise(rng, spare));
+    }
+}
+
+/// Bytes with a few changed, some cut off or some added.
+fn damage(rng: &mut Rng, bytes: &mut Vec<u8>) {
+    let length = bytes.len();
+    if length == 0 || rng.one_in(12) {
+        let more = rng.between(1, 8);
+        bytes.extend(rng.bytes(more));
+        return;
+    }
+    // Half of them near the front, where headers and offsets are.
+    let reach = if rng.one_in(2) {
+        length.min(24)
+    } else {
+        length
+    };
+    let at = rng.below(reach);
+    match rng.below(8) {
+        0..=2 => {
+            for _ in 0..rng.between(1, 3) {
+                bytes[rng.below(reach)] ^= 1 << rng.below(8);
+            }
+        }
+        3 => bytes[at] = rng.pick(&[0x00, 0x01, 0x7F, 0x80, 0xC0, 0xED, 0xF4, 0xFF]),
+        4 => bytes[at] = rng.byte(),
+        5 => bytes.truncate(rng.below(length)),
+        6 => {
+            let number = length + rng.below(3);
+            let number = rng.pick(&[0, 1, 4, 0xFFFF, number.saturating_sub(1), at]) as u16;
+            let [low, high] = number.to_le_bytes();
+            bytes[at] = low;
+            if let Some(next) = bytes.get_mut(at + 1) {
+                *next = high;
+            }
+        }
+        _ => bytes[at] = bytes[at].wrapping_add(rng.pick(&[1, 255])),
+    }
+}
+
+/// The length of an output, by that of the last result and one that is enough.
+fn room(rng: &mut Rng, last: usize, enough: usize) -> usize {
+    match rng.below(16) {
+        0..=4 => last,
+        5 | 6 => last.saturating_sub(1),
+        7 => last + 1,
+        8 => rng.below(last + 1),
+        9 => 0,
+        _ => enough,
+    }
+}
+
+impl Attack {
+    /// Calls of a round, all of one kind if that is told, until a difference.
+    pub fn round(&mut self, rng: &mut Rng, only: Option<Call>) {
+        let mut given = Given::new(rng);
+        let end = self.spent + BYTES;
+        for number in 0..CALLS {
+            if self.difference.is_some() || number >= LEAST && self.spent > end {
+                break;
+            }
+            let call = only.unwrap_or_else(|| rng.pick(&TRIED));
+            let told = self.step(rng, &mut given, call);
+            if told.number == 0 {
+                given.last[call as usize] = told.handed[0];
+            }
+            self.counts.wide += u64::from(given.types.len() >= 256);
+        }
+    }
+
+    /// The bytes, damaged once in so many times.
+    fn varied(&mut self, rng: &mut Rng, bytes: &[u8], one_in: usize) -> Vec<u8> {
+        let mut bytes = bytes.to_vec();
+        if rng.one_in(one_in) {
+            self.counts.damaged += 1;
+            match rng.below(16) {
+                0 => {
+                    let length = rng.below(40);
+                    bytes = rng.bytes(length);
+                }
+                _ => damage(rng, &mut bytes),
+            }
+        }
+        bytes
+    }
+
+    fn step(&mut self, rng: &mut Rng, given: &mut Given, call: Call) -> Told {
+        let last = given.last[call as usize];
+        match call {
+            Call::Fresh => {
+                let schema = &given.schemas[rng.below(2)];
+                let schema = self.varied(rng, schema, 4);
+                let room = room(rng, last, LIMIT.min(last + 2000));
+                self.fresh(&schema, noise(rng, room))
+            }
+            Call::Build => self.build_step(rng, given, last),
+            Call::Read => self.read_step(rng, given, last),
+            Call::Set => self.set_step(rng, given),
+            Call::SetNull => self.set_null_step(rng, given),
+            Call::Text => {
+                let schema = self.varied(rng, &given.schema, 24);
+                let row = &given.rows[rng.below(4)];
+                let row = self.varied(rng, row, 2);
+                let column = text_column(rng, &given.types);
+                self.text(&schema, &row, column)
+            }
+            Call::SameContent => {
+                let schema = self.varied(rng, &given.schema, 24);
+                let (a, b) = match rng.below(3) {
+                    0 => (rng.below(4), rng.below(4)),
+                    _ => (2, 3),
+                };
+                let a = self.varied(rng, &given.rows[a], 6);
+                let b = self.varied(rng, &given.rows[b], 6);
+                self.same_content(&schema, &a, &b)
+            }
+            Call::IsNull => {
+                let row = &given.rows[rng.below(4)];
+                let row = self.varied(rng, row, 2);
+                let column = match rng.below(4) {
+                    0 => any_column(rng, 8 * given.types.len()),
+                    _ => any_column(rng, given.types.len()),
+                };
+                self.is_null(&row, column)
+            }
+            Call::TextValid => {
+                let text = &given.texts[rng.below(2)];
+                let text = self.varied(rng, text, 2);
+                self.text_valid(&text)
+            }
+        }
+    }
+
+    fn build_step(&mut self, rng: &mut Rng, given: &Given, last: usize) -> Told {
+        let (schema, list) = &given.builds[rng.below(2)];
+        let schema = self.varied(rng, schema, 24);
+        let values = self.varied(rng, &list.bytes, 4);
+        let text = self.varied(rng, &list.text, 8);
+        let room = room(rng, last, last + 600);
+        self.build(&schema, &values, &text, noise(rng, room))
+    }
+
+    fn read_step(&mut self, rng: &mut Rng, given: &Given, last: usize) -> Told {
+        let schema = self.varied(rng, &given.schema, 24);
+        let row = &given.rows[rng.below(4)];
+        let row = self.varied(rng, row, 2);
+        let one = [any_column(rng, given.types.len()) as u16];
+        let wanted = match rng.below(4) {
+            3 => &one[..],
+            number => &given.wanted[number],
+        };
+        let room = room(rng, last, 18 * given.types.len());
+        self.read(&schema, &row, wanted, noise(rng, room))
+    }
+
+    /// What an edit is made on, whether it is the row that the edits before left,
+    /// and the row length stated.
+    fn edited(&mut self, rng: &mut Rng, given: &mut Given) -> (Vec<u8>, bool, usize) {
+        if rng.one_in(12) {
+            given.restart(rng);
+        }
+        let buffer = self.varied(rng, &given.buffer, 6);
+        let length = match rng.below(48) {
+            0 => buffer.len() + rng.pick(&[1, 2, 70_000]),
+            1 => rng.between(0, buffer.len()),
+            2 => usize::MAX,
+            _ => given.length,
+        };
+        let own = length == given.length && buffer == given.buffer;
+        (buffer, own, length)
+    }
+
+    /// The row that an accepted edit left is edited further.
+    fn accept(&self, given: &mut Given, told: Told) {
+        if told.number == 0 {
+            given.buffer.clone_from(&self.wanted);
+            given.length = told.handed[0];
+        }
+    }
+
+    fn set_step(&mut self, rng: &mut Rng, given: &mut Given) -> Told {
+        let (buffer, own, length) = self.edited(rng, given);
+        let (column, list) = &given.sets[rng.below(given.sets.len())];
+        let column = match rng.one_in(16) {
+            true => any_column(rng, given.types.len()),
+            false => *column,
+        };
+        let schema = self.varied(rng, &given.schema, 32);
+        let values = self.varied(rng, &list.bytes, 6);
+        let text = self.varied(rng, &list.text, 10);
+        let told = self.set(&schema, &buffer, [length, column], &values, &text);
+        if own && schema == given.schema {
+            self.accept(given, told);
+        }
+        told
+    }
+
+    fn set_null_step(&mut self, rng: &mut Rng, given: &mut Given) -> Told {
+        let (buffer, own, length) = self.edited(rng, given);
+        let schema = self.varied(rng, &given.schema, 32);
+        let column = any_column(rng, given.types.len());
+        let told = self.set_null(&schema, &buffer, [length, column]);
+        if own && schema == given.schema {
+            self.accept(given, told);
+        }
+        told
+    }
+}
+
+/// A column, one with text more often than not.
+fn text_column(rng: &mut Rng, types: &[DataType]) -> usize {
+    let column = any_column(rng, types.len());
+    let is_text = |column: &usize| {
+        matches!(
+            types[*column],
+            DataType::Char(_) | DataType::Character(_) | DataType::Varchar(_)
+        )
+    };
+    if column >= types.len() || rng.one_in(4) {
+        return column;
+    }
+    let next = (column..types.len()).chain(0..column).find(is_text);
+    next.unwrap_or(column)
+}
