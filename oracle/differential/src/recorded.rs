@@ -26,7 +26,8 @@ use crate::compare::value::{self, Handed};
 use crate::compare::{build, edit, layout, null_flag, rows, text};
 use cases::LIMIT;
 use cases::expected::{self, Refusal};
-use cases::generate::history::history;
+use cases::generate::history::{self, Sort};
+use cases::generate::list;
 use cases::generate::row::sound_row;
 use cases::generate::schema::any_schema;
 use cases::generate::wanted::any_wanted;
@@ -218,21 +219,33 @@ fn row_fresh(rng: &mut Rng) -> Option<Record> {
 }
 
 fn column_set(rng: &mut Rng) -> Option<Record> {
-    edited(rng, |call| matches!(call, Call::Set { .. }))
+    let sort = match rng.below(8) {
+        0..=4 => Sort::Set(list::Sort::Values),
+        5 => Sort::Set(list::Sort::OtherKind),
+        6 => Sort::Set(list::Sort::Unsuitable),
+        _ => Sort::Column,
+    };
+    edited(rng, sort).filter(|record| record.kind == SET)
 }
 
 fn column_set_null(rng: &mut Rng) -> Option<Record> {
-    edited(rng, |call| matches!(call, Call::SetNull { .. }))
+    let sort = match rng.below(8) {
+        0 => Sort::Column,
+        _ => Sort::SetNull,
+    };
+    edited(rng, sort).filter(|record| record.kind == SET_NULL)
 }
 
-/// An edit that is wanted, of a sound row in a buffer with room for the result.
-fn edited(rng: &mut Rng, is_wanted: fn(&Call) -> bool) -> Option<Record> {
+/// An edit of this sort, of a sound row in a buffer with room for the result.
+fn edited(rng: &mut Rng, sort: Sort) -> Option<Record> {
     let types = rows::any_types(rng);
-    let call = history(rng, &types, 1).pop().filter(is_wanted)?;
+    let call = history::call(rng, &types, sort)?;
     let row = sound_row(rng, &types);
     let spare = rng.between(0, 60);
     let buffer = [row.clone(), rng.bytes(spare)].concat();
     let (variant, after) = match edit::rust_edit(&types, &row, &call)? {
+        // Most of them change a fixed column: half are enough.
+        Outcome::Ok(after) if after.len() == row.len() && rng.one_in(2) => return None,
         Outcome::Ok(after) => (0, after),
         Outcome::Internal => (1, row.clone()),
         Outcome::TypeMismatch => (2, row.clone()),
