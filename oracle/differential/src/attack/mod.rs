@@ -55,7 +55,7 @@ impl Call {
 #[derive(Default)]
 pub struct Counts {
     pub calls: u64,
-    /// By call and answer.
+    /// By call and answer: the number, of the text check 1 or 0.
     pub answers: [[u64; 16]; Call::ALL.len()],
     /// With a lent slice of 65,535 bytes or more.
     pub long: u64,
@@ -126,7 +126,11 @@ impl Attack {
         let lent: usize = inputs.iter().map(|input| input.len()).sum();
         self.spent += 64 + lent + output.len();
         self.counts.calls += 1;
-        self.counts.answers[call as usize][wanted.number as usize % 16] += 1;
+        let answer = match call {
+            Call::TextValid => wanted.handed[0],
+            _ => wanted.number as usize,
+        };
+        self.counts.answers[call as usize][answer % 16] += 1;
         let long = |slice: &&[u8]| slice.len() >= 65_535;
         self.counts.long += u64::from(inputs.iter().chain([&output]).any(long));
         told
