@@ -42,6 +42,7 @@ attack: target/staticlib/librook_row.a target/staticlib/librook_probe.a
 	oracle/prepare
 	cd oracle && cargo build --release --offline --quiet --bin attack
 	oracle/target/release/attack --calls $(CALLS) --seed $(SEED)
+	oracle/target/release/attack --calls 2000000 --seed $(SEED) --front
 	oracle/target/release/attack --calls 1000000 --faults
 	if command -v valgrind >/dev/null; \
 	then valgrind -q --error-exitcode=9 oracle/target/release/attack --calls 20000 --seed $(SEED) --blocks; \

@@ -1,7 +1,7 @@
 //! What is lent to a call of the port, and what is left of it.
 
 use crate::hex;
-use crate::memory::{Lending, Part, Slot};
+use crate::memory::{Lending, Part, Side, Slot};
 use cases::rng::Rng;
 use std::cell::RefCell;
 use std::fmt;
@@ -58,7 +58,9 @@ pub fn called<A, const N: usize>(
     call: impl FnOnce([&mut [u8]; N], &mut [u8]) -> A,
 ) -> After<A> {
     SLOTS.with_borrow_mut(|slots| {
-        slots.resize_with(slots.len().max(N + 1), || Slot::new(Lending::ToWrite));
+        slots.resize_with(slots.len().max(N + 1), || {
+            Slot::new(Lending::ToWrite, Side::End)
+        });
         let (out, slots) = slots.split_first_mut().expect("a slot");
         let lent = std::array::from_fn(|i| slice(slots[i].put(inputs[i])));
         let answer = call(lent, slice(out.put(output)));

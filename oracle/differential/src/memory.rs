@@ -1,8 +1,9 @@
 //! Memory for lent slices. A slice ends exactly at a page that can be neither
-//! read nor written, and marks stand before it. The memory has two addresses: by
-//! one it is filled and looked at here, the other is lent, for reading alone if
-//! the call may only read. For a run under valgrind a slice can be a block of its
-//! own instead, of which valgrind sees every byte before and behind.
+//! read nor written, and marks stand before it; or it begins behind such a page
+//! and the marks stand behind it. The memory has two addresses: by one it is
+//! filled and looked at here, the other is lent, for reading alone if the call may
+//! only read. For a run under valgrind a slice can be a block of its own instead,
+//! of which valgrind sees every byte before and behind.
 
 use std::ffi::{c_char, c_int, c_void};
 use std::{ptr, slice};
@@ -34,7 +35,7 @@ const PAGE: usize = 4096;
 /// More than the longest slice with its marks.
 const SIZE: usize = 64 * PAGE;
 
-/// The bytes before a slice, which a call must leave alone.
+/// The bytes beside a slice, which a call must leave alone.
 const MARKS: [u8; 64] = marks();
 
 const fn marks() -> [u8; 64] {
@@ -63,6 +64,13 @@ pub enum Lending {
     Block,
 }
 
+/// Which side of a slice is at an unreadable page; the marks are at the other.
+#[derive(Debug, Clone, Copy, PartialEq, Eq)]
+pub enum Side {
+    End,
+    Start,
+}
+
 enum Memory {
     /// `SIZE` bytes by both addresses.
     Pages {
@@ -75,36 +83,48 @@ enum Memory {
 /// Holds one slice at a time.
 pub struct Slot {
     memory: Memory,
+    side: Side,
     length: usize,
 }
 
 impl Slot {
-    pub fn new(lending: Lending) -> Self {
+    pub fn new(lending: Lending, side: Side) -> Self {
         let memory = match lending {
             Lending::ToRead => pages(PROT_READ),
             Lending::ToWrite => pages(PROT_READ | PROT_WRITE),
             Lending::Block => Memory::Block(Box::default()),
         };
-        Slot { memory, length: 0 }
+        Slot {
+            memory,
+            side,
+            length: 0,
+        }
     }
 
-    /// Puts these bytes, and the marks before them, where they are lent from.
+    /// Where in the pages the slice stands, and where its marks.
+    fn places(&self) -> (usize, usize) {
+        match self.side {
+            Side::End => (SIZE - self.length, SIZE - self.length - MARKS.len()),
+            Side::Start => (0, self.length),
+        }
+    }
+
+    /// Puts these bytes, and the marks beside them, where they are lent from.
     pub fn put(&mut self, bytes: &[u8]) -> Part {
         let length = bytes.len();
+        assert!(length + MARKS.len() <= SIZE, "a slice of {length} bytes");
         self.length = length;
+        let (start, marks) = self.places();
         let pointer = match &mut self.memory {
             Memory::Block(block) => {
                 *block = bytes.into();
                 block.as_mut_ptr()
             }
             Memory::Pages { own, lent } => {
-                assert!(MARKS.len() + length <= SIZE, "a slice of {length} bytes");
-                let start = SIZE - length;
                 // SAFETY: both ranges lie in the `SIZE` bytes of `own`, which
                 // nothing refers to, and so does the part of `lent`.
                 unsafe {
-                    let marks = own.add(start - MARKS.len());
-                    ptr::copy_nonoverlapping(MARKS.as_ptr(), marks, MARKS.len());
+                    ptr::copy_nonoverlapping(MARKS.as_ptr(), own.add(marks), MARKS.len());
                     ptr::copy_nonoverlapping(bytes.as_ptr(), own.add(start), length);
                     lent.add(start)
                 }
@@ -119,7 +139,7 @@ impl Slot {
             Memory::Block(block) => block,
             // SAFETY: as above; a lent slice is given back before.
             Memory::Pages { own, .. } => unsafe {
-                slice::from_raw_parts(own.add(SIZE - self.length), self.length)
+                slice::from_raw_parts(own.add(self.places().0), self.length)
             },
         }
     }
@@ -130,8 +150,7 @@ impl Slot {
             Memory::Block(_) => true,
             // SAFETY: as above.
             Memory::Pages { own, .. } => unsafe {
-                let marks = own.add(SIZE - self.length - MARKS.len());
-                slice::from_raw_parts(marks, MARKS.len()) == MARKS
+                slice::from_raw_parts(own.add(self.places().1), MARKS.len()) == MARKS
             },
         }
     }
@@ -175,7 +194,7 @@ fn mapped(address: *mut c_void) -> *mut u8 {
 
 #[cfg(test)]
 mod tests {
-    use super::{Lending, MARKS, Part, Slot};
+    use super::{Lending, MARKS, Side, Slot};
     use std::ffi::{c_int, c_void};
     use std::os::fd::AsRawFd;
     use std::os::unix::net::UnixStream;
@@ -197,16 +216,19 @@ mod tests {
     }
 
     #[test]
-    fn a_slice_ends_where_nothing_can_be_reached() {
+    fn a_slice_is_at_what_cannot_be_reached() {
         for (lending, writable) in [(Lending::ToRead, false), (Lending::ToWrite, true)] {
             for length in [0, 1, 2, 4095, 4096, 4097, 140_000] {
-                let Part { pointer, .. } = Slot::new(lending).put(&vec![7; length]);
-                assert_eq!(reach(pointer.wrapping_add(length)), (false, false));
-                assert_eq!(reach(pointer.wrapping_sub(1)), (true, writable));
-                if length > 0 {
-                    let last = pointer.wrapping_add(length - 1);
-                    assert_eq!(reach(last), (true, writable));
-                }
+                let put = |side| Slot::new(lending, side).put(&vec![7; length]).pointer;
+                let (last, end) = (length.wrapping_sub(1), length);
+                let start = put(Side::End);
+                assert_eq!(reach(start.wrapping_add(end)), (false, false));
+                assert_eq!(reach(start.wrapping_add(last)), (true, writable));
+                assert_eq!(reach(start.wrapping_sub(1)), (true, writable));
+                let start = put(Side::Start);
+                assert_eq!(reach(start.wrapping_sub(1)), (false, false));
+                assert_eq!(reach(start), (true, writable));
+                assert_eq!(reach(start.wrapping_add(end)), (true, writable));
             }
         }
     }
@@ -214,14 +236,16 @@ mod tests {
     #[test]
     fn every_byte_is_seen() {
         let bytes: Vec<u8> = (0..40).collect();
-        let mut slot = Slot::new(Lending::ToWrite);
-        let first = -(MARKS.len() as isize);
-        for at in first..bytes.len() as isize {
-            let part = slot.put(&bytes);
-            assert!(slot.holds(&bytes));
-            // SAFETY: a mark or a byte of the slice.
-            unsafe { *part.pointer.offset(at) ^= 1 };
-            assert!(!slot.holds(&bytes), "byte {at}");
+        let all = 40 + MARKS.len() as isize;
+        for (side, first) in [(Side::End, 40 - all), (Side::Start, 0)] {
+            let mut slot = Slot::new(Lending::ToWrite, side);
+            for at in first..first + all {
+                let part = slot.put(&bytes);
+                assert!(slot.holds(&bytes));
+                // SAFETY: a mark or a byte of the slice.
+                unsafe { *part.pointer.offset(at) ^= 1 };
+                assert!(!slot.holds(&bytes), "byte {at}");
+            }
         }
     }
 }

@@ -1,11 +1,11 @@
 //! The exported calls, on slices that end at unreadable pages, compared with the
 //! model alone: number, place, what is handed out, every byte of every lent slice
-//! and the marks before it. `rounds` makes the inputs.
+//! and the marks beside it. `rounds` makes the inputs.
 
 pub mod judge;
 mod rounds;
 
-use crate::memory::{Lending, Part, Slot};
+use crate::memory::{Lending, Part, Side, Slot};
 use crate::{hex, port};
 use judge::{Judge, Told, told};
 use std::fmt::Write;
@@ -80,13 +80,14 @@ pub struct Attack {
 }
 
 impl Attack {
-    /// With `blocks`, slices are blocks of their own, for valgrind.
-    pub fn new(judge: &'static Judge, blocks: bool) -> Self {
+    /// Slices have this side at an unreadable page. With `blocks` they are blocks of
+    /// their own, for valgrind.
+    pub fn new(judge: &'static Judge, side: Side, blocks: bool) -> Self {
         let lending = |to| if blocks { Lending::Block } else { to };
         Attack {
             judge,
-            inputs: [(); 3].map(|()| Slot::new(lending(Lending::ToRead))),
-            output: Slot::new(lending(Lending::ToWrite)),
+            inputs: [(); 3].map(|()| Slot::new(lending(Lending::ToRead), side)),
+            output: Slot::new(lending(Lending::ToWrite), side),
             wanted: Vec::new(),
             spent: 0,
             counts: Counts::default(),

@@ -1,24 +1,27 @@
 //! The exported calls of librook_row.a against the model, on slices that end at
 //! unreadable pages, for so many calls; says how many of which call and answer.
 //!
-//! attack [--calls N] [--seed N] [--only CALL] [--round N] [--faults] [--blocks]
+//! attack [--calls N] [--seed N] [--only CALL] [--round N] [--faults] [--front] [--blocks]
 //! With `--only` one call alone is made. `--round` runs the one round that a
 //! difference was told with. `--faults` runs the model with one fault after the
 //! other, each of which must be found within so many calls, by a difference: where
-//! a fault makes the model panic, the round is left. `--blocks` is for valgrind:
-//! each slice is a block of its own.
+//! a fault makes the model panic, the round is left. With `--front` slices begin
+//! behind unreadable pages instead. `--blocks` is for valgrind: each slice is a
+//! block of its own.
 
 use cases::rng::Rng;
 use cases::rust;
 use differential::attack::judge::{FAULTY, Judge, MODEL};
 use differential::attack::{Attack, Call};
+use differential::memory::Side;
 use std::ffi::{c_int, c_void};
 use std::io::Write;
 use std::process::ExitCode;
 use std::sync::atomic::{AtomicU64, Ordering};
 use std::time::Instant;
 
-const USAGE: &str = "attack [--calls N] [--seed N] [--only CALL] [--round N] [--faults] [--blocks]";
+const USAGE: &str =
+    "attack [--calls N] [--seed N] [--only CALL] [--round N] [--faults] [--front] [--blocks]";
 
 #[derive(Clone, Copy)]
 struct Options {
@@ -27,6 +30,7 @@ struct Options {
     only: Option<Call>,
     round: Option<u64>,
     faults: bool,
+    side: Side,
     blocks: bool,
 }
 
@@ -37,6 +41,7 @@ fn options() -> Option<Options> {
         only: None,
         round: None,
         faults: false,
+        side: Side::End,
         blocks: false,
     };
     let mut words = std::env::args().skip(1);
@@ -52,6 +57,7 @@ fn options() -> Option<Options> {
                 options.only = Some(Call::ALL.into_iter().find(named)?);
             }
             "--faults" => options.faults = true,
+            "--front" => options.side = Side::Start,
             "--blocks" => options.blocks = true,
             _ => return None,
         }
@@ -96,7 +102,7 @@ fn choices(seed: u64, round: u64) -> Rng {
 /// Runs rounds until so many calls are made or a difference is found.
 fn run(judge: &'static Judge, options: &Options) -> (Attack, Option<u64>) {
     SEED.store(options.seed, Ordering::Relaxed);
-    let mut attack = Attack::new(judge, options.blocks);
+    let mut attack = Attack::new(judge, options.side, options.blocks);
     attack.whole = options.round.is_some();
     let mut round = options.round.unwrap_or(0);
     loop {
