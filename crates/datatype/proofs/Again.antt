@@ -5,6 +5,8 @@ use mathlib.Core.Bool.{Bool, true, false}
 use mathlib.Core.List.{List, [], _∷_, map}
 use native.Mathlib.Numerals.{add-one}
 use native.Mathlib.Omega.{arith}
+use borrow.Author.Tests.{ltb-true, ltb-false}
+use lib.Dec.{ltb}
 use lib.ListN.{length, getD, take, drop, length-drop, length-map}
 use lib.Seq.{drop-cons, length-take-le}
 use Rattle.error.specs.declared.Refusal.{Refusal}
@@ -18,10 +20,13 @@ use Rattle.row_layout.specs.Layout.{Bounded, layoutOf, noColumns, withColumn, s
 use Rattle.row_layout.proofs.Columns.{layout-next}
 use Rattle.datatype.specs.declared.DataType.{DataType}
 use Rattle.datatype.specs.declared.DataType.the-variants as T
+use Rattle.datatype.specs.declared.Record.{Record}
 use Rattle.datatype.specs.declared.Record.the-variants.{Column, Refused}
+use Rattle.datatype.specs.declared.Step.{Step}
 use Rattle.datatype.specs.Types.{shapeOf}
 use Rattle.datatype.specs.Schema.{types, records, recordAt}
 use Rattle.datatype.specs.Check.{typeAt, layoutFor, layoutBefore, typesIn}
+use Rattle.datatype.specs.Steps.{passed, typeIn}
 use Rattle.datatype.proofs.Walk.{First, none-left, some-left, not-refused, first-left}
 
 -- ---- the layout of the columns before one
@@ -133,3 +138,41 @@ module _ {s : List ℕ} {b : RowLayout} {at : ℕ} (w : Ahead s b at) where
 
       pub ahead-more : Bounded (withColumn b (shapeOf t)) → Ahead s (withColumn b (shapeOf t)) next
       ahead-more small = record { bounded = small; within = omega (arith, ahead-inside); so-far = ahead-next; ahead = first .ahead ∙ ap types tail-is }
+
+-- ---- a step of the walk
+
+pub record Next (s : List ℕ) (at : ℕ) : Type 0 where
+  pub ty : DataType
+  pub next : ℕ
+  pub is : recordAt s at ≡ Column ty next
+
+module _ {s : List ℕ} {b : RowLayout} {at : ℕ} (w : Ahead s b at) where
+  -- a column that is there has a record
+  pub ahead-there : b .«num_columns» < length (typesIn s) → at < length s
+  ahead-there few = by-test (ltb at (length s)) refl
+    where
+      by-test : (t : Bool) → ltb at (length s) ≡ t → at < length s
+      by-test true e = ltb-true at (length s) e
+      by-test false e = absurd (omega (arith, few, ahead-end w (ltb-false at (length s) e)))
+
+  module _ (h : at < length s) where
+    pub ahead-column : Next s at
+    ahead-column = of (recordAt s at) refl
+      where
+        of : (x : Record) → recordAt s at ≡ x → Next s at
+        of (Column t n) e = record { ty = t; next = n; is = e }
+        of (Refused r) e = absurd (ahead-good w h e)
+
+    pub ahead-typed : typeIn (recordAt s at) ≡ typeAt (typesIn s) (b .«num_columns»)
+    ahead-typed = ap typeIn (ahead-column .is) ∙ ahead-type w h (ahead-column .is)
+
+    module _ {r : Step} (e : r ≡ passed at b (recordAt s at)) where
+      pub step-is : r ≡ record { at = ahead-column .next; before = withColumn b (shapeOf (ahead-column .ty)) }
+      step-is = e ∙ ap (passed at b) (ahead-column .is)
+
+      pub step-column : r .before .«num_columns» ≡ b .«num_columns» + 1
+      step-column = ap (λ (q : Step). q .before .«num_columns») step-is
+
+      pub ahead-step : Bounded (r .before) → Ahead s (r .before) (r .at)
+      ahead-step small =
+          subst (λ (q : Step). Ahead s (q .before) (q .at)) (sym step-is) (ahead-more w h (ahead-column .is) (subst (λ (q : Step). Bounded (q .before)) step-is small))

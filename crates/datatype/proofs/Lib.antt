@@ -2,3 +2,4 @@ pub mod Records
 pub mod Walk
 pub mod Accept
 pub mod Again
+pub mod Plain

@@ -17,7 +17,7 @@ use Rattle.datatype.specs.declared.Record.the-variants.{Column, Refused}
 use Rattle.datatype.specs.Schema.{Kind, unknown, plain, sized, digits, bodyKind, kindOf, goodDigits, recordOf, recordAt, unlessCut}
 
 -- a kind that is followed by a body, or none
-data Bodied : Kind → Type 0 where
+pub data Bodied : Kind → Type 0 where
   no : Bodied unknown
   word : {t : ℕ → DataType} → Bodied (sized t)
   pair : {t : ℕ → ℕ → DataType} → Bodied (digits t)
@@ -26,7 +26,7 @@ either : (t : Bool) (x y : Kind) → Bodied x → Bodied y → Bodied (cond t x 
 either true x y p q = p
 either false x y p q = q
 
-bodied : (k : ℕ) → Bodied (bodyKind k)
+pub bodied : (k : ℕ) → Bodied (bodyKind k)
 bodied k = search (either, no, word, pair) depth 8
 
 module _ (s : List ℕ) (at : ℕ) where

@@ -1,3 +1,4 @@
 pub mod Types
 pub mod Schema
 pub mod Check
+pub mod Steps

@@ -9,8 +9,9 @@ ghost use lib.ListN.{length};
 ghost use Rattle.row_format.specs.Places.{offsetWidth, rowLimit};
 ghost use Rattle.row_layout.specs.Layout.{Small, Bounded};
 ghost use Rattle.datatype.specs.Types.{sizeOf, alignmentOf, isVarlen, shapeOf, precisionOf, scaleOf, lengthOf};
-ghost use Rattle.datatype.specs.Schema.{goodDigits, bodyKind, recordOf, recordAt, schemaOf};
+ghost use Rattle.datatype.specs.Schema.{goodDigits, bodyKind, kindOf, recordOf, recordAt, schemaOf};
 ghost use Rattle.datatype.specs.Check.{checked, finished, BoundedIn};
+ghost use Rattle.datatype.specs.Steps.{plainSize, passed};
 
 pub enum DataType {
     SmallInt,
@@ -261,6 +262,24 @@ fn body_at(schema: &[u8], at: usize, kind: u8) -> Record
     }
 }
 
+// The bytes of a column whose kind is followed by no body, which are its alignment too; 0 for other kinds.
+pub fn plain_size(kind: u8) -> usize
+    ensures { λ r. ⌜ (r ≡ plainSize (kindOf kind)) × (r ≤ 8) ⌝ }
+{
+    match kind {
+        1 => 2,
+        2 => 4,
+        3 => 8,
+        4 => 4,
+        5 => 8,
+        8 => 1,
+        12 => 4,
+        13 => 8,
+        15 => 8,
+        _ => 0,
+    }
+}
+
 pub fn record_at(schema: &[u8], at: usize) -> Record
     requires { ⌜ at < length (now schema) ⌝ }
     ensures { λ r. ⌜ r ≡ recordAt (now (schema .entry)) at ⌝ }
@@ -278,6 +297,34 @@ pub fn record_at(schema: &[u8], at: usize) -> Record
         13 => Record::Column(DataType::Time, next),
         15 => Record::Column(DataType::Timestamp, next),
         _ => body_at(schema, at, kind),
+    }
+}
+
+// A place of a schema, and the layout of the columns before it.
+pub struct Step {
+    pub at: usize,
+    pub before: RowLayout,
+}
+
+// The walk from a column to the next: what comes after the record at a place. It looks at no more of the type than the layout does.
+pub fn next_column(schema: &[u8], at: usize, before: RowLayout) -> Step
+    requires { ⌜ (at < length (now schema)) × ((before .«num_columns» < 256) × Bounded before) ⌝ }
+    ensures { λ r. ⌜ (r ≡ passed at before (recordAt (now (schema .entry)) at)) × Bounded (r .before) ⌝ }
+{
+    let kind = schema[at];
+    let size = plain_size(kind);
+    if size != 0 {
+        return Step {
+            at: at + 1,
+            before: before.with_column(Shape::Fixed(size, size)),
+        };
+    }
+    match body_at(schema, at, kind) {
+        Record::Refused(_) => Step { at, before },
+        Record::Column(t, next) => Step {
+            at: next,
+            before: before.with_column(t.shape()),
+        },
     }
 }
 
@@ -307,13 +354,20 @@ pub fn check_schema(schema: &[u8]) -> SchemaCheck
         if layout.num_columns == 256 {
             return SchemaCheck::Refused(Refusal::BadSchema(at));
         }
-        match record_at(schema, at) {
-            Record::Refused(r) => {
-                return SchemaCheck::Refused(r);
-            }
-            Record::Column(t, next) => {
-                layout = layout.with_column(t.shape());
-                at = next;
+        let kind = schema[at];
+        let size = plain_size(kind);
+        if size != 0 {
+            layout = layout.with_column(Shape::Fixed(size, size));
+            at += 1;
+        } else {
+            match body_at(schema, at, kind) {
+                Record::Refused(r) => {
+                    return SchemaCheck::Refused(r);
+                }
+                Record::Column(t, next) => {
+                    layout = layout.with_column(t.shape());
+                    at = next;
+                }
             }
         }
     }

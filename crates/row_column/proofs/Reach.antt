@@ -14,9 +14,10 @@ use Rattle.datatype.specs.declared.DataType.{DataType}
 use Rattle.datatype.specs.declared.Record.the-variants as Record
 use Rattle.datatype.specs.Types.{shapeOf, precisionOf}
 use Rattle.datatype.specs.Schema.{recordAt}
+use Rattle.datatype.specs.Steps.{typeIn}
 use Rattle.datatype.specs.Check.{typeAt, layoutFor, layoutBefore, typesIn, Accepted}
 use Rattle.datatype.proofs.Records.{few-digits}
-use Rattle.datatype.proofs.Again.{before-next, Grown, grown, size-grown, Ahead, ahead-inside, ahead-type}
+use Rattle.datatype.proofs.Again.{before-next, Grown, grown, size-grown, Ahead, ahead-inside, ahead-type, ahead-column, ahead-typed}
 use Rattle.row_column.specs.declared.Column.{Column}
 use Rattle.row_column.specs.Frame.{Framed}
 use Rattle.row_column.specs.Column.{Found, Reachable}
@@ -53,6 +54,12 @@ module _ {s : List ℕ} {l : RowLayout} {p : Bool} {r : List ℕ} (f : Framed s 
   pub reach-next : {b : RowLayout} {at : ℕ} (w : Ahead s b at) (h : at < length s) {t : DataType} {next : ℕ} (e : recordAt s at ≡ Record.Column t next) → Reachable l p b t r
   reach-next {b} {at} w h {t} e = reach b t (b .«num_columns») (ahead-inside w h e) (w .so-far) (ahead-type w h e) (w .bounded) (few-digits s at e)
 
-pub found : {s : List ℕ} {b : RowLayout} {at i : ℕ} (w : Ahead s b at) (h : at < length s) {t : DataType} {next : ℕ} (e : recordAt s at ≡ Record.Column t next) → b .«num_columns» ≡ i
-    → Found s i (record { before = b; ty = t })
-found {s} {b} {at} w h e f = record { layout = w .so-far ∙ ap (layoutBefore (typesIn s)) f; type-is = ahead-type w h e ∙ ap (typeAt (typesIn s)) f; bounded = w .bounded; digits = few-digits s at e }
+pub found : {s : List ℕ} {b : RowLayout} {at i : ℕ} (w : Ahead s b at) (h : at < length s) → b .«num_columns» ≡ i → {c : Column} → c .before ≡ b → c .ty ≡ typeIn (recordAt s at) → Found s i c
+found {s} {b} {at} w h f eb et =
+    let n = ahead-column w h in
+    record {
+      layout = eb ∙ w .so-far ∙ ap (layoutBefore (typesIn s)) f;
+      type-is = et ∙ ahead-typed w h ∙ ap (typeAt (typesIn s)) f;
+      bounded = subst Bounded (sym eb) (w .bounded);
+      digits = rw (et, n .is) (few-digits s at (n .is));
+    }

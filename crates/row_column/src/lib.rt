@@ -16,7 +16,8 @@ ghost use Rattle.row_layout.specs.Range.{rangeOf};
 ghost use Rattle.datatype.specs.Types.{sizeOf, isVarlen, precisionOf};
 ghost use Rattle.row_column.specs.Frame.{frameOf};
 ghost use Rattle.row_column.specs.Column.{readBytes, varlenValue, columnValue, Found, Reachable, InRow};
-ghost use Rattle.datatype.specs.Schema.{types, records};
+ghost use Rattle.datatype.specs.Schema.{types, records, recordAt};
+ghost use Rattle.datatype.specs.Steps.{typeIn};
 ghost use Rattle.datatype.specs.Check.{typesIn};
 
 // A row whose header suits the schema: whether it is packed.
@@ -56,34 +57,33 @@ pub struct Column {
     pub ty: DataType,
 }
 
-// The schema was checked and has this column, so that the walk comes to it.
+// The column whose record stands at a place of a schema that was checked, so that it is not refused.
+fn column_here(schema: &[u8], at: usize, before: RowLayout) -> Column
+    requires { ⌜ at < length (now schema) ⌝ }
+    ensures { λ r. ⌜ (r .before ≡ before) × (r .ty ≡ typeIn (recordAt (now (schema .entry)) at)) ⌝ }
+{
+    match datatype::record_at(schema, at) {
+        Record::Refused(_) => Column {
+            before,
+            ty: DataType::Varchar(0),
+        },
+        Record::Column(ty, _) => Column { before, ty },
+    }
+}
+
+// The schema was checked and has this column.
 pub fn column_at(schema: &[u8], column: usize) -> Column
     requires { ⌜ (records 256 (now schema) 0 ≡ types (typesIn (now schema))) × (column < length (typesIn (now schema))) ⌝ }
     ensures { λ r. ⌜ Found (now (schema .entry)) column r ⌝ }
 {
     let mut before = RowLayout::new();
     let mut at = 0;
-    while at < schema.len() {
-        match datatype::record_at(schema, at) {
-            Record::Refused(_) => {
-                return Column {
-                    before,
-                    ty: DataType::SmallInt,
-                };
-            }
-            Record::Column(ty, next) => {
-                if before.num_columns == column {
-                    return Column { before, ty };
-                }
-                before = before.with_column(ty.shape());
-                at = next;
-            }
-        }
+    while before.num_columns < column {
+        let step = datatype::next_column(schema, at, before);
+        before = step.before;
+        at = step.at;
     }
-    Column {
-        before,
-        ty: DataType::SmallInt,
-    }
+    column_here(schema, at, before)
 }
 
 // What a column reads as; null is a value here.

@@ -1,11 +1,15 @@
-use Prim.Native.Nat.{_-_}
-use mathlib.Core.Path.{sym, _∙_}
-use native.Mathlib.Omega.{arith}
-use denote.Ref.{now}
-use borrow.Author.Needs.{needs}
-use Rattle.datatype.proofs.Walk.{Walking, walk-start, walk-end, walk-over, walk-bad, walk-more}
 use Rattle.datatype.proofs.check_schema.Statement.{statement}
+use native.Mathlib.Omega.{arith}
+use mathlib.Core.Path.{sym, _∙_}
+use denote.Ref.{now}
+use Prim.Native.Nat.{_-_}
+use Rattle.datatype.proofs.Walk.{Walking, walk-start, walk-end, walk-over, walk-bad, walk-more}
+use Rattle.datatype.proofs.Plain.{plain-record, body-record, plain-added}
+use borrow.Author.Needs.{needs}
 use Rattle.datatype.proofs.check_schema.Tie as tie
+use Rattle.datatype.proofs.body_at.Reads as body-at-reads
+use Rattle.datatype.proofs.plain_size.Reads as plain-size-reads
+use Rattle.row_layout.proofs.RowLayout.with_column.Reads as with-column-reads
 
 abbrev Inv-loop : tie.InvT-loop
 Inv-loop schema layout₀ at₀ layout at = Walking schema layout at
@@ -22,16 +26,38 @@ loop-holds c = rw (c .new .ensures) (walk-start (now (c .before .before .args .s
 returns : tie.Need-returns Inv-loop μ-loop
 returns c = (walk-over (c .before .before .before .loop .inv) (c .before .before .loop-test .taken) (c .if1 .taken), tt)
 
-record-at-requires : tie.Need-record-at-requires Inv-loop μ-loop
-record-at-requires c κs = search needs
+shared-slice-read-kind : tie.Need-shared-slice-read-kind Inv-loop μ-loop
+shared-slice-read-kind c = search needs
+
+plain-size-requires : tie.Need-plain-size-requires Inv-loop μ-loop
+plain-size-requires c κs = search needs
+
+with-column-requires : tie.Need-with-column-requires Inv-loop μ-loop
+with-column-requires c κs = (omega (arith, c .before .before .before .before .before .before .loop .inv .bounded), (c .before .before .before .before .before .before .loop .inv .bounded, omega (arith, c .before .plain-size .ensures .1)))
+
+add-at : tie.Need-add-at Inv-loop μ-loop
+add-at c = search needs
+
+loop-less : tie.Need-loop-less Inv-loop μ-loop
+loop-less c = rw (c .with-column .ensures .0) (omega (arith, c .before .before .before .before .before .before .before .loop .inv .bounded))
+
+loop-again : tie.Need-loop-again Inv-loop μ-loop
+loop-again c =
+    let s = now (c .before .before .before .before .before .before .before .before .before .before .args .schema) in
+    let l = c .before .before .before .before .before .before .before .loop in
+    let added = plain-added s (l .at) (l .layout) (c .before .before .plain-size .ensures .0) (c .before .if2 .taken) (c .with-column .ensures .0) in
+    rw added (walk-more (l .inv) (c .before .before .before .before .before .before .loop-test .taken) (c .before .before .before .before .if1 .left) (plain-record s (l .at) (λ e. c .before .if2 .taken (c .before .before .plain-size .ensures .0 ∙ e))) (rw added at (c .with-column .ensures .1)))
+
+body-at-requires : tie.Need-body-at-requires Inv-loop μ-loop
+body-at-requires c κs = search needs
 
 enum-known-r : tie.Need-enum-known-r Inv-loop μ-loop
 enum-known-r c = search needs
 
 returns-2 : tie.Need-returns-2 Inv-loop μ-loop
 returns-2 c =
-    let l = c .before .before .before .before .before .before .before .loop in
-    (walk-bad (l .inv) (c .before .before .before .before .before .before .loop-test .taken) (c .before .before .before .before .if1 .left) (sym (c .before .before .before .record-at .ensures) ∙ c .before .r .given .1), tt)
+    let l = c .before .before .before .before .before .before .before .before .before .before .loop in
+    (walk-bad (l .inv) (c .before .before .before .before .before .before .before .before .before .loop-test .taken) (c .before .before .before .before .before .before .before .if1 .left) (sym (body-record (now (c .before .before .before .before .before .before .before .before .before .before .before .before .before .args .schema)) (l .at) (sym (c .before .before .before .before .before .plain-size .ensures .0) ∙ c .before .before .before .before .if2 .left)) ∙ sym (c .before .before .before .body-at .ensures) ∙ c .before .r .given .1), tt)
 
 enum-known-t : tie.Need-enum-known-t Inv-loop μ-loop
 enum-known-t c = search needs
@@ -39,17 +65,18 @@ enum-known-t c = search needs
 shape-requires : tie.Need-shape-requires Inv-loop μ-loop
 shape-requires c κs = search needs
 
-with-column-requires : tie.Need-with-column-requires Inv-loop μ-loop
-with-column-requires c κs = (omega arith, (c .before .before .before .before .before .before .before .before .loop .inv .bounded, c .shape .ensures .1))
+with-column-requires-2 : tie.Need-with-column-requires-2 Inv-loop μ-loop
+with-column-requires-2 c κs = (omega (arith, c .before .before .before .before .before .before .before .before .before .before .before .loop .inv .bounded), (c .before .before .before .before .before .before .before .before .before .before .before .loop .inv .bounded, c .shape .ensures .1))
 
-loop-less : tie.Need-loop-less Inv-loop μ-loop
-loop-less c = rw (c .with-column .ensures .0) (omega arith)
+loop-less-2 : tie.Need-loop-less-2 Inv-loop μ-loop
+loop-less-2 c = rw (c .with-column2 .ensures .0) (omega (arith, c .before .before .before .before .before .before .before .before .before .before .before .before .loop .inv .bounded))
 
-loop-again : tie.Need-loop-again Inv-loop μ-loop
-loop-again c =
-    let l = c .before .before .before .before .before .before .before .before .before .loop in
-    let e = rw (c .before .shape .ensures .0) at (c .with-column .ensures .0) in
-    rw e (walk-more (l .inv) (c .before .before .before .before .before .before .before .before .loop-test .taken) (c .before .before .before .before .before .before .if1 .left) (sym (c .before .before .before .before .before .record-at .ensures) ∙ c .before .before .before .t .given .1) (rw e at (c .with-column .ensures .1)))
+loop-again-2 : tie.Need-loop-again-2 Inv-loop μ-loop
+loop-again-2 c =
+    let l = c .before .before .before .before .before .before .before .before .before .before .before .before .loop in
+    let e = rw (c .before .shape .ensures .0) at (c .with-column2 .ensures .0) in
+    let r = sym (body-record (now (c .before .before .before .before .before .before .before .before .before .before .before .before .before .before .before .args .schema)) (l .at) (sym (c .before .before .before .before .before .before .before .plain-size .ensures .0) ∙ c .before .before .before .before .before .before .if2 .left)) ∙ sym (c .before .before .before .before .before .body-at .ensures) ∙ c .before .before .before .t .given .1 in
+    rw e (walk-more (l .inv) (c .before .before .before .before .before .before .before .before .before .before .before .loop-test .taken) (c .before .before .before .before .before .before .before .before .before .if1 .left) r (rw e at (c .with-column2 .ensures .1)))
 
 finish-requires : tie.Need-finish-requires Inv-loop μ-loop
 finish-requires c κs = c .before .loop .inv .bounded
@@ -66,13 +93,19 @@ check-schema-spec =
     new-requires
     loop-holds
     returns
-    record-at-requires
+    shared-slice-read-kind
+    plain-size-requires
+    with-column-requires
+    add-at
+    loop-less
+    loop-again
+    body-at-requires
     enum-known-r
     returns-2
     enum-known-t
     shape-requires
-    with-column-requires
-    loop-less
-    loop-again
+    with-column-requires-2
+    loop-less-2
+    loop-again-2
     finish-requires
     returns-3)

@@ -1,0 +1,56 @@
+use Rattle.datatype.proofs.plain_size.Statement.{statement}
+use native.Mathlib.Omega.{arith}
+use borrow.Author.Tests.{ne-eqb}
+use mathlib.Core.Path.{_∙_}
+use Rattle.datatype.proofs.Plain.{bodied-size}
+use Rattle.datatype.proofs.plain_size.Tie as tie
+
+returns : tie.Need-returns
+returns c = (rw (c .match .keys1), omega arith)
+
+returns-2 : tie.Need-returns-2
+returns-2 c = (rw (c .match .keys2), omega arith)
+
+returns-3 : tie.Need-returns-3
+returns-3 c = (rw (c .match .keys3), omega arith)
+
+returns-4 : tie.Need-returns-4
+returns-4 c = (rw (c .match .keys4), omega arith)
+
+returns-5 : tie.Need-returns-5
+returns-5 c = (rw (c .match .keys5), omega arith)
+
+returns-6 : tie.Need-returns-6
+returns-6 c = (rw (c .match .keys6), omega arith)
+
+returns-7 : tie.Need-returns-7
+returns-7 c = (rw (c .match .keys7), omega arith)
+
+returns-8 : tie.Need-returns-8
+returns-8 c = (rw (c .match .keys8), omega arith)
+
+returns-9 : tie.Need-returns-9
+returns-9 c = (rw (c .match .keys9), omega arith)
+
+returns-10 : tie.Need-returns-10
+returns-10 c =
+    let r = c .match .rest in (
+      bodied-size (c .before .args .kind)
+          ∙ simp (ne-eqb _ 1 (r .0 .0 .0 .0 .0 .0 .0 .0 .1), ne-eqb _ 2 (r .0 .0 .0 .0 .0 .0 .0 .1), ne-eqb _ 3 (r .0 .0 .0 .0 .0 .0 .1), ne-eqb _ 4 (r .0 .0 .0 .0 .0 .1), ne-eqb _ 5 (r .0 .0 .0 .0 .1), ne-eqb _ 8 (r .0 .0 .0 .1), ne-eqb _ 12 (r .0 .0 .1), ne-eqb _ 13 (r .0 .1), ne-eqb _ 15 (r .1)),
+      omega arith,
+    )
+
+pub plain-size-spec : {M : Type 1} → statement M
+plain-size-spec =
+    tie.close
+    (tie.spec
+    returns
+    returns-2
+    returns-3
+    returns-4
+    returns-5
+    returns-6
+    returns-7
+    returns-8
+    returns-9
+    returns-10)
