@@ -1,20 +1,24 @@
--- Kinds that no body follows.
-use Prim.Native.Nat.{ℕ, _+_, _<_}
+-- Records by their kind, where no type is built: kinds that no body follows, and those that n follows in two bytes.
+use Prim.Native.Nat.{ℕ, _+_, _≤_}
 use mathlib.Core.Path.{_≡_, refl, sym, ap, _∙_}
 use mathlib.Core.Bool.{Bool, true, false, cond}
 use mathlib.Core.List.{List}
 use native.Mathlib.Omega.{arith}
-use lib.Dec.{eqb}
-use lib.ListN.{getD}
+use borrow.Author.Tests.{ltb-false}
+use lib.Dec.{eqb, ltb}
+use lib.ListN.{length, getD, take, drop}
+use Rattle.error.specs.declared.Refusal.{Refusal}
+use Rattle.error.specs.declared.Refusal.the-variants.{BadRecord}
+use Rattle.laws.specs.Bytes.{fromLe}
 use Rattle.row_format.specs.declared.Shape.the-variants.{Fixed}
 use Rattle.row_layout.specs.declared.RowLayout.{RowLayout}
 use Rattle.row_layout.specs.Layout.{withColumn}
 use Rattle.datatype.specs.declared.DataType.{DataType}
 use Rattle.datatype.specs.declared.DataType.the-variants as T
-use Rattle.datatype.specs.declared.Record.the-variants.{Column}
-use Rattle.datatype.specs.Types.{sizeOf, shapeOf}
-use Rattle.datatype.specs.Schema.{Kind, unknown, plain, sized, digits, bodyKind, kindOf, recordOf, recordAt}
-use Rattle.datatype.specs.Steps.{plainSize, plainType}
+use Rattle.datatype.specs.declared.Record.the-variants.{Column, Refused}
+use Rattle.datatype.specs.Types.{sizeOf, alignmentOf, isVarlen, shapeOf}
+use Rattle.datatype.specs.Schema.{Kind, unknown, plain, sized, digits, bodyKind, kindOf, unlessCut, recordOf, recordAt}
+use Rattle.datatype.specs.Steps.{plainSize, plainType, typeIn}
 use Rattle.datatype.proofs.Records.{Bodied, no, word, pair, bodied}
 
 body-size : {q : Kind} → Bodied q → plainSize q ≡ 0
@@ -48,10 +52,18 @@ is-bodied k =
     (past (eqb k 13) T.Time _ (bodyKind k) (λ e. omega (arith, e))
     (past (eqb k 15) T.Timestamp _ (bodyKind k) (λ e. omega (arith, e)) (λ e. refl)))))))))
 
+-- the last of them
+pub last-plain : (k : ℕ) → (plainSize (kindOf k) ≡ 0 → ⊥) → kindOf k ≡ cond (eqb k 15) (plain T.Timestamp) (bodyKind k) → kindOf k ≡ plain T.Timestamp
+last-plain k h e = of (eqb k 15) e
+  where
+    of : (t : Bool) → kindOf k ≡ cond t (plain T.Timestamp) (bodyKind k) → kindOf k ≡ plain T.Timestamp
+    of true f = f
+    of false f = absurd (h (ap plainSize f ∙ sym (bodied-size k)))
+
 -- ---- its column takes as many bytes as its alignment
 
 data Square : Kind → Type 0 where
-  square : {t : DataType} → shapeOf t ≡ Fixed (sizeOf t) (sizeOf t) → Square (plain t)
+  square : {t : DataType} → isVarlen t ≡ false → alignmentOf t ≡ sizeOf t → Square (plain t)
   none : Square unknown
   sized-kind : {t : ℕ → DataType} → Square (sized t)
   digits-kind : {t : ℕ → ℕ → DataType} → Square (digits t)
@@ -63,11 +75,19 @@ chosen false x y p q = q
 squares : (k : ℕ) → Square (kindOf k)
 squares k = search (chosen, square, none, sized-kind, digits-kind) depth 18
 
-shape-in : {q : Kind} → Square q → (plainSize q ≡ 0 → ⊥) → shapeOf (plainType q) ≡ Fixed (plainSize q) (plainSize q)
-shape-in (square e) h = e
-shape-in none h = absurd (h refl)
-shape-in sized-kind h = absurd (h refl)
-shape-in digits-kind h = absurd (h refl)
+pub record Plain (q : Kind) : Type 0 where
+  pub fixed : isVarlen (plainType q) ≡ false
+  pub aligned : alignmentOf (plainType q) ≡ plainSize q
+  pub sized : sizeOf (plainType q) ≡ plainSize q
+
+facts : {q : Kind} → Square q → (plainSize q ≡ 0 → ⊥) → Plain q
+facts (square e f) h = record { fixed = e; aligned = f; sized = refl }
+facts none h = absurd (h refl)
+facts sized-kind h = absurd (h refl)
+facts digits-kind h = absurd (h refl)
+
+pub plain-facts : (k : ℕ) → (plainSize (kindOf k) ≡ 0 → ⊥) → Plain (kindOf k)
+plain-facts k h = facts (squares k) h
 
 -- ---- the record at a place
 
@@ -85,4 +105,16 @@ module _ (s : List ℕ) (at : ℕ) where
   pub plain-added : (b : RowLayout) {z : ℕ} {l : RowLayout} → z ≡ plainSize kind → (z ≡ 0 → ⊥) → l ≡ withColumn b (Fixed z z) → l ≡ withColumn b (shapeOf (plainType kind))
   plain-added b {z} e n f =
       let h : plainSize kind ≡ 0 → ⊥ = λ g. n (e ∙ g) in
-      f ∙ rw (e, shape-in (squares (getD s at 0)) h)
+      let p = plain-facts (getD s at 0) h in
+      f ∙ rw (e, p .fixed, p .aligned, p .sized)
+
+  -- n, where no record is refused
+  pub sized-record : ((e : Refusal) → recordAt s at ≡ Refused e → ⊥) → (t : ℕ → DataType) → kind ≡ sized t → (at + 3 ≤ length s) × (typeIn (recordAt s at) ≡ t (fromLe (take 2 (drop (at + 1) s))))
+  sized-record good t k = of (ltb (length s) (at + 3)) refl
+    where
+      here : recordAt s at ≡ unlessCut s at (Column (t (fromLe (take 2 (drop (at + 1) s)))) (at + 3))
+      here = ap (λ (q : Kind). recordOf q s at) k
+
+      of : (x : Bool) → ltb (length s) (at + 3) ≡ x → (at + 3 ≤ length s) × (typeIn (recordAt s at) ≡ t (fromLe (take 2 (drop (at + 1) s))))
+      of true e = absurd (good (BadRecord at) (here ∙ rw e))
+      of false e = (ltb-false (length s) (at + 3) e, rw (here, e))

@@ -54,6 +54,9 @@ module _ {s : List ℕ} {l : RowLayout} {p : Bool} {r : List ℕ} (f : Framed s 
   pub reach-next : {b : RowLayout} {at : ℕ} (w : Ahead s b at) (h : at < length s) {t : DataType} {next : ℕ} (e : recordAt s at ≡ Record.Column t next) → Reachable l p b t r
   reach-next {b} {at} w h {t} e = reach b t (b .«num_columns») (ahead-inside w h e) (w .so-far) (ahead-type w h e) (w .bounded) (few-digits s at e)
 
+  pub reach-typed : {b : RowLayout} {at : ℕ} (w : Ahead s b at) (h : at < length s) → Reachable l p b (typeAt (typesIn s) (b .«num_columns»)) r
+  reach-typed {b} w h = subst (λ (t : DataType). Reachable l p b t r) (ahead-type w h (ahead-column w h .is)) (reach-next w h (ahead-column w h .is))
+
 pub found : {s : List ℕ} {b : RowLayout} {at i : ℕ} (w : Ahead s b at) (h : at < length s) → b .«num_columns» ≡ i → {c : Column} → c .before ≡ b → c .ty ≡ typeIn (recordAt s at) → Found s i c
 found {s} {b} {at} w h f eb et =
     let n = ahead-column w h in

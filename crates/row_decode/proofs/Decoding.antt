@@ -15,10 +15,12 @@ use Rattle.row_layout.specs.declared.RowLayout.{RowLayout}
 use Rattle.row_layout.specs.Layout.{Bounded, noColumns, withColumn}
 use Rattle.datatype.specs.declared.DataType.{DataType}
 use Rattle.datatype.specs.declared.Record.the-variants.{Column}
+use Rattle.datatype.specs.declared.Step.{Step}
 use Rattle.datatype.specs.Types.{shapeOf}
 use Rattle.datatype.specs.Schema.{recordAt}
-use Rattle.datatype.specs.Check.{typesIn}
-use Rattle.datatype.proofs.Again.{Ahead, ahead-start, ahead-end, ahead-inside, ahead-split, ahead-more}
+use Rattle.datatype.specs.Check.{typeAt, typesIn}
+use Rattle.datatype.specs.Steps.{passed}
+use Rattle.datatype.proofs.Again.{Ahead, ahead-start, ahead-end, ahead-few, ahead-good, ahead-inside, ahead-type, ahead-split, ahead-more, ahead-column, ahead-typed, step-is}
 use Rattle.value.specs.declared.DataValue.{DataValue}
 use Rattle.value_list.specs.Records.{recordOf}
 use Rattle.value_list.specs.Lists.{Values, values, refused, before, listOf}
@@ -26,9 +28,9 @@ use Rattle.value_list.proofs.Records.{record-short}
 use Rattle.row_column.specs.declared.ColumnRead.{ColumnRead}
 use Rattle.row_column.specs.declared.ColumnRead.the-variants.{Value, Refused}
 use Rattle.row_column.specs.Column.{columnValue, InRow}
-use Rattle.row_column.proofs.Reach.{columns-all}
+use Rattle.row_column.proofs.Reach.{columns-all, reach-typed}
 use Rattle.row_decode.specs.Read.{wantedValue, readFrom}
-use Rattle.row_decode.specs.Marks.{isMarked, stepped, Decodable, Filled}
+use Rattle.row_decode.specs.Marks.{isMarked, stepped, Decodable, DecodeAt, Filled}
 
 -- ---- values in front of others
 
@@ -136,3 +138,35 @@ module _ {s : List ℕ} {l : RowLayout} {p : Bool} {r marks buf₀ buf : List �
           bad (Refused u) i j g =
               let all : refused u ≡ readFrom l p (isMarked marks) r noColumns (typesIn s) = rw (split, i) at (k .rest) in
               subst (λ (vs : Values). Filled vs buf₀ (Answer.Refused q) buf') all (sym g ∙ ap (λ (z : Answer × List ℕ). z .0) j)
+
+-- ---- a step of the walk: the column whose record stands at `at`
+
+module _ {s : List ℕ} {l : RowLayout} {p : Bool} {r marks buf₀ buf : List ℕ} {b : RowLayout} {at end : ℕ}
+    (d : Decodable s l p r marks buf₀) (k : Decoding s l p r marks buf₀ buf b at end) (h : at < length s) where
+  pub decode-at : DecodeAt s at l p b r buf end
+  decode-at =
+      record {
+        here = h;
+        few = ahead-few (k .walk) h;
+        good = λ e f. ahead-good (k .walk) h f;
+        typed = ahead-typed (k .walk) h;
+        reach = reach-typed (d .framed) (k .walk) h;
+        short = d .framed .short;
+        room = decode-room d k h (ahead-column (k .walk) h .is);
+      }
+
+  abbrev here : ColumnRead
+  here = wantedValue (isMarked marks (b .«num_columns»)) (columnValue l p b (typeAt (typesIn s) (b .«num_columns»)) r)
+
+  same : wantedValue (isMarked marks (b .«num_columns»)) (columnValue l p b (ahead-column (k .walk) h .ty) r) ≡ here
+  same = ap (λ (t : DataType). wantedValue (isMarked marks (b .«num_columns»)) (columnValue l p b t r)) (ahead-type (k .walk) h (ahead-column (k .walk) h .is))
+
+  module _ (res : Answer) (buf' : List ℕ) (o : (res, buf') ≡ stepped buf end here) where
+    pub decode-next : {n : ℕ} {q : Step} → res ≡ Answer.Done n → q ≡ passed at b (recordAt s at) → Bounded (q .before) → Decoding s l p r marks buf₀ buf' (q .before) (q .at) n
+    decode-next {n} {q} f e small =
+        let is = step-is (k .walk) h e in
+        subst (λ (x : Step). Decoding s l p r marks buf₀ buf' (x .before) (x .at) n) (sym is)
+        (decode-more d k h (ahead-column (k .walk) h .is) res buf' here same o f (subst (λ (x : Step). Bounded (x .before)) is small))
+
+    pub decode-refused : {e : Refusal} → res ≡ Answer.Refused e → Filled (readFrom l p (isMarked marks) r noColumns (typesIn s)) buf₀ (Answer.Refused e) buf'
+    decode-refused f = decode-bad d k h (ahead-column (k .walk) h .is) res buf' here same o f

@@ -1,4 +1,5 @@
 pub mod Marking
+pub mod Present
 pub mod Decoding
 pub mod Handing
 pub mod Depends

@@ -1,21 +1,28 @@
 -- For the proofs: the wanted columns marked in a list of flags, and what the inner functions hand on.
-use Prim.Native.Nat.{ℕ, _+_, _*_, _≤_}
+use Prim.Native.Nat.{ℕ, _+_, _*_, _≤_, _<_}
 use mathlib.Core.Bool.{Bool, cond}
 use mathlib.Core.List.{List, [], _∷_}
 use mathlib.Core.Path.{_≡_}
 use lib.Dec.{eqb, ltb}
 use lib.ListN.{length, getD, set, take}
 use lib.Seq.{sets}
+use Rattle.error.specs.declared.Refusal.{Refusal}
 use Rattle.error.specs.declared.Refusal.the-variants.{NoRoom}
 use Rattle.error.specs.declared.Answer.{Answer}
 use Rattle.error.specs.declared.Answer.the-variants as Answer
 use Rattle.error.specs.Answer.{Outcome}
+use Rattle.row_format.specs.Places.{rowLimit}
 use Rattle.row_layout.specs.declared.RowLayout.{RowLayout}
+use Rattle.datatype.specs.declared.Record.the-variants as Record
+use Rattle.datatype.specs.Schema.{recordAt}
+use Rattle.datatype.specs.Check.{typeAt, typesIn}
+use Rattle.datatype.specs.Steps.{typeIn}
 use Rattle.value_list.specs.Records.{recordOf}
 use Rattle.value_list.specs.Lists.{Values, values, refused, listOf}
 use Rattle.row_column.specs.declared.ColumnRead.{ColumnRead}
 use Rattle.row_column.specs.declared.ColumnRead.the-variants.{Value, Refused}
 use Rattle.row_column.specs.Frame.{Framed}
+use Rattle.row_column.specs.Column.{Reachable}
 
 abbrev pub marked : List ℕ → List ℕ → List ℕ
 marked m [] = m
@@ -48,3 +55,13 @@ pub record Decodable (s : List ℕ) (l : RowLayout) (p : Bool) (r marks buf : Li
   pub framed : Framed s l p r
   pub flags : length marks ≡ 256
   pub room : 18 * l .«num_columns» ≤ length buf
+
+-- what the walk has come to: a record of the schema, and room for the column's own
+pub record DecodeAt (s : List ℕ) (at : ℕ) (l : RowLayout) (p : Bool) (b : RowLayout) (r buf : List ℕ) (end : ℕ) : Type 0 where
+  pub here : at < length s
+  pub few : b .«num_columns» < 256
+  pub good : (e : Refusal) → recordAt s at ≡ Record.Refused e → ⊥
+  pub typed : typeIn (recordAt s at) ≡ typeAt (typesIn s) (b .«num_columns»)
+  pub reach : Reachable l p b (typeAt (typesIn s) (b .«num_columns»)) r
+  pub short : length r ≤ rowLimit
+  pub room : end + 18 ≤ length buf

@@ -1,6 +1,5 @@
 // row.rs, `RowDecoder::decode` after `only`: the values of the wanted columns of a row, as a value list in the lent output.
 // The records are written to a local buffer first, so that a refusal finds the output as it was.
-use datatype::DataType;
 use datatype::Record;
 use datatype::SchemaCheck;
 use error::Answer;
@@ -8,16 +7,21 @@ use error::Refusal;
 use row_column::ColumnRead;
 use row_column::Frame;
 use row_layout::RowLayout;
-use value::DataValue;
+use row_layout::VarlenRange;
 ghost use mathlib.Core.Path.{_≡_};
-ghost use Prim.Native.Nat.{_+_, _<_, _≤_};
-ghost use lib.ListN.{length, set};
-ghost use Rattle.row_format.specs.Places.{offsetWidth, rowLimit};
+ghost use mathlib.Core.Bool.{false};
+ghost use Prim.Native.Nat.{_+_, _*_, _<_, _≤_};
+ghost use lib.Dec.{eqb};
+ghost use lib.ListN.{length, set, drop};
+ghost use Rattle.laws.specs.Bits.{bitAt};
+ghost use Rattle.row_format.specs.Places.{offsetWidth, rowLimit, bitmapStart};
 ghost use Rattle.row_layout.specs.Layout.{noColumns};
-ghost use Rattle.row_column.specs.Column.{columnValue, Reachable, InRow};
+ghost use Rattle.row_layout.specs.Range.{rangeOf};
+ghost use Rattle.datatype.specs.declared.DataType.the-variants.{Char as CharType, Varchar as VarcharType};
+ghost use Rattle.row_column.specs.Column.{readBytes, varlenValue, slotPlace, columnValue, Reachable, InRow};
 ghost use Rattle.row_decode.specs.Read.{isWanted, wantedValue, readFrom, handOut, readRow, readCall};
-ghost use Rattle.row_decode.specs.Marks.{marked, isMarked, stepped, Decodable, Filled, Held, copiedOut};
-ghost use Rattle.datatype.specs.Check.{typesIn, Accepted};
+ghost use Rattle.row_decode.specs.Marks.{marked, isMarked, stepped, Decodable, DecodeAt, Filled, Held, copiedOut};
+ghost use Rattle.datatype.specs.Check.{typeAt, typesIn, Accepted};
 ghost use Rattle.row_column.specs.Frame.{Framed};
 
 fn mark(marks: &mut [u8], column: usize)
@@ -37,25 +41,6 @@ fn mark_wanted(marks: &mut [u8], wanted: &[u16])
         mark(marks, wanted[k] as usize);
         k += 1;
     }
-}
-
-// An unwanted column is null, whatever its bytes are.
-fn read_wanted(
-    layout: RowLayout,
-    packed: bool,
-    before: RowLayout,
-    ty: DataType,
-    row: &[u8],
-    marks: &[u8],
-) -> ColumnRead
-    requires { ⌜ Reachable layout packed before ty (now row) × (before .«num_columns» < length (now marks)) ⌝ }
-    ensures { λ r. ⌜ (r ≡ wantedValue (isMarked (now (marks .entry)) (before .«num_columns»)) (columnValue layout packed before ty (now (row .entry)))) × InRow (length (now (row .entry))) r ⌝ }
-{
-    let i = before.num_columns;
-    if marks[i] == 1 {
-        return row_column::read_column(layout, packed, before, ty, row);
-    }
-    ColumnRead::Value(DataValue::Null)
 }
 
 fn write_column(buf: &mut [u8], end: usize, column: ColumnRead) -> Answer
@@ -85,21 +70,157 @@ fn hand_out(answer: Answer, buf: &[u8], out: &mut [u8]) -> Answer
     }
 }
 
-fn decode_column(
+// A Varchar(n) of this rank.
+fn decode_varchar(
+    n: usize,
+    i: usize,
+    row: &[u8],
+    table: usize,
+    varlens: usize,
+    rank: usize,
+    buf: &mut [u8],
+    end: usize,
+) -> Answer
+    requires { ⌜ ((rank < varlens) × (table + varlens * offsetWidth ≤ length (now row))) × ((length (now row) ≤ 65535) × (end + 18 ≤ length (now buf))) ⌝ }
+    ensures { λ r. ⌜ (r, now (buf .exit)) ≡ stepped (now (buf .entry)) end (varlenValue (VarcharType n) i (now (row .entry)) (rangeOf table varlens rank (now (row .entry)))) ⌝ }
+{
+    match row_layout::varlen_range(row, table, varlens, rank) {
+        VarlenRange::Null => Answer::Done(value_list::write_null(buf, end)),
+        VarlenRange::Bytes(start, stop) => {
+            slot_record::varchar_record(n, i, row, start, stop, buf, end)
+        }
+        VarlenRange::Outside => Answer::Refused(Refusal::BadRange(i)),
+    }
+}
+
+// A Char(n) or Character(n).
+fn decode_char(
+    n: usize,
     layout: RowLayout,
     packed: bool,
     before: RowLayout,
-    ty: DataType,
+    row: &[u8],
+    buf: &mut [u8],
+    end: usize,
+) -> Answer
+    requires { ⌜ Reachable layout packed before (CharType n) (now row) × ((length (now row) ≤ 65535) × (end + 18 ≤ length (now buf))) ⌝ }
+    ensures { λ r. ⌜ (r, now (buf .exit)) ≡ stepped (now (buf .entry)) end (readBytes (CharType n) (before .«num_columns») (now (row .entry)) (slotPlace layout packed before (CharType n)) (slotPlace layout packed before (CharType n) + n)) ⌝ }
+{
+    let start = layout.fixed_data_start() + before.slot_start(packed, 1);
+    slot_record::char_record(before.num_columns, row, start, start + n, buf, end)
+}
+
+// The other types with a body, by their value.
+fn decode_value(
+    schema: &[u8],
+    at: usize,
+    layout: RowLayout,
+    packed: bool,
+    before: RowLayout,
+    row: &[u8],
+    buf: &mut [u8],
+    end: usize,
+) -> Answer
+    requires { ⌜ DecodeAt (now schema) at layout packed before (now row) (now buf) end ⌝ }
+    ensures { λ r. ⌜ (r, now (buf .exit)) ≡ stepped (now (buf .entry)) end (columnValue layout packed before (typeAt (typesIn (now (schema .entry))) (before .«num_columns»)) (now (row .entry))) ⌝ }
+{
+    match datatype::record_at(schema, at) {
+        Record::Refused(e) => Answer::Refused(e),
+        Record::Column(ty, _) => {
+            let column = row_column::read_column(layout, packed, before, ty, row);
+            write_column(buf, end, column)
+        }
+    }
+}
+
+// A column of a kind with a body. Texts are common, so they are written without a value in between.
+fn decode_body(
+    schema: &[u8],
+    at: usize,
+    layout: RowLayout,
+    packed: bool,
+    before: RowLayout,
+    row: &[u8],
+    buf: &mut [u8],
+    end: usize,
+) -> Answer
+    requires { ⌜ DecodeAt (now schema) at layout packed before (now row) (now buf) end × (eqb (bitAt (before .«num_columns») (drop bitmapStart (now row))) 1 ≡ false) ⌝ }
+    ensures { λ r. ⌜ (r, now (buf .exit)) ≡ stepped (now (buf .entry)) end (columnValue layout packed before (typeAt (typesIn (now (schema .entry))) (before .«num_columns»)) (now (row .entry))) ⌝ }
+{
+    match schema[at] {
+        9 => {
+            let n = endian::read_u16(schema, at + 1) as usize;
+            decode_char(n, layout, packed, before, row, buf, end)
+        }
+        10 => {
+            let n = endian::read_u16(schema, at + 1) as usize;
+            decode_char(n, layout, packed, before, row, buf, end)
+        }
+        11 => {
+            let n = endian::read_u16(schema, at + 1) as usize;
+            let table = layout.varlen_table_offset();
+            decode_varchar(
+                n,
+                before.num_columns,
+                row,
+                table,
+                layout.num_varlen_cols,
+                before.num_varlen_cols,
+                buf,
+                end,
+            )
+        }
+        _ => decode_value(schema, at, layout, packed, before, row, buf, end),
+    }
+}
+
+// A wanted column that is not marked null.
+fn decode_present(
+    schema: &[u8],
+    at: usize,
+    layout: RowLayout,
+    packed: bool,
+    before: RowLayout,
+    row: &[u8],
+    buf: &mut [u8],
+    end: usize,
+) -> Answer
+    requires { ⌜ DecodeAt (now schema) at layout packed before (now row) (now buf) end × (eqb (bitAt (before .«num_columns») (drop bitmapStart (now row))) 1 ≡ false) ⌝ }
+    ensures { λ r. ⌜ (r, now (buf .exit)) ≡ stepped (now (buf .entry)) end (columnValue layout packed before (typeAt (typesIn (now (schema .entry))) (before .«num_columns»)) (now (row .entry))) ⌝ }
+{
+    let kind = schema[at];
+    let size = datatype::plain_size(kind);
+    if size != 0 {
+        let start = layout.fixed_data_start() + before.slot_start(packed, size);
+        let stop = start + size;
+        return slot_record::plain_record(kind, before.num_columns, &row[start..stop], buf, end);
+    }
+    decode_body(schema, at, layout, packed, before, row, buf, end)
+}
+
+// The column whose record stands at a place of the schema. An unwanted one is null, whatever its bytes are.
+fn decode_column(
+    schema: &[u8],
+    at: usize,
+    layout: RowLayout,
+    packed: bool,
+    before: RowLayout,
     row: &[u8],
     marks: &[u8],
     buf: &mut [u8],
     end: usize,
 ) -> Answer
-    requires { ⌜ Reachable layout packed before ty (now row) × ((before .«num_columns» < length (now marks)) × ((length (now row) ≤ 65535) × (end + 18 ≤ length (now buf)))) ⌝ }
-    ensures { λ r. ⌜ (r, now (buf .exit)) ≡ stepped (now (buf .entry)) end (wantedValue (isMarked (now (marks .entry)) (before .«num_columns»)) (columnValue layout packed before ty (now (row .entry)))) ⌝ }
+    requires { ⌜ DecodeAt (now schema) at layout packed before (now row) (now buf) end × (length (now marks) ≡ 256) ⌝ }
+    ensures { λ r. ⌜ (r, now (buf .exit)) ≡ stepped (now (buf .entry)) end (wantedValue (isMarked (now (marks .entry)) (before .«num_columns»)) (columnValue layout packed before (typeAt (typesIn (now (schema .entry))) (before .«num_columns»)) (now (row .entry)))) ⌝ }
 {
-    let column = read_wanted(layout, packed, before, ty, row, marks);
-    write_column(buf, end, column)
+    let i = before.num_columns;
+    if marks[i] != 1 {
+        return Answer::Done(value_list::write_null(buf, end));
+    }
+    if null_bitmap::bit_is_set(&row[4..], i) {
+        return Answer::Done(value_list::write_null(buf, end));
+    }
+    decode_present(schema, at, layout, packed, before, row, buf, end)
 }
 
 // The records of all columns, at the front of the buffer. The schema was checked, so that no record of it is refused here.
@@ -118,21 +239,15 @@ fn decode_columns(
     let mut at = 0;
     let mut end = 0;
     while at < schema.len() {
-        match datatype::record_at(schema, at) {
-            Record::Refused(e) => {
+        match decode_column(schema, at, layout, packed, before, row, marks, buf, end) {
+            Answer::Refused(e) => {
                 return Answer::Refused(e);
             }
-            Record::Column(ty, next) => {
-                match decode_column(layout, packed, before, ty, row, marks, buf, end) {
-                    Answer::Refused(e) => {
-                        return Answer::Refused(e);
-                    }
-                    Answer::Done(n) => {
-                        before = before.with_column(ty.shape());
-                        at = next;
-                        end = n;
-                    }
-                }
+            Answer::Done(n) => {
+                let step = datatype::next_column(schema, at, before);
+                before = step.before;
+                at = step.at;
+                end = n;
             }
         }
     }

@@ -149,7 +149,7 @@ fn put(out: &mut [u8], at: usize, b: u8)
 }
 
 // The records by their bodies. Each hands back the place after it.
-fn write_null(out: &mut [u8], at: usize) -> usize
+pub fn write_null(out: &mut [u8], at: usize) -> usize
     requires { ⌜ at + 1 ≤ length (now out) ⌝ }
     ensures { λ r. ⌜ (r ≡ at + 1) × (now (out .exit) ≡ sets (now (out .entry)) at (0 ∷ [])) ⌝ }
 {
@@ -157,7 +157,7 @@ fn write_null(out: &mut [u8], at: usize) -> usize
     at + 1
 }
 
-fn write_8(out: &mut [u8], at: usize, kind: u8, x: u8) -> usize
+pub fn write_8(out: &mut [u8], at: usize, kind: u8, x: u8) -> usize
     requires { ⌜ at + 2 ≤ length (now out) ⌝ }
     ensures { λ r. ⌜ (r ≡ at + 2) × (now (out .exit) ≡ sets (now (out .entry)) at (kind ∷ (x ∷ []))) ⌝ }
 {
@@ -166,7 +166,7 @@ fn write_8(out: &mut [u8], at: usize, kind: u8, x: u8) -> usize
     at + 2
 }
 
-fn write_16(out: &mut [u8], at: usize, kind: u8, x: u16) -> usize
+pub fn write_16(out: &mut [u8], at: usize, kind: u8, x: u16) -> usize
     requires { ⌜ at + 3 ≤ length (now out) ⌝ }
     ensures { λ r. ⌜ (r ≡ at + 3) × (now (out .exit) ≡ sets (now (out .entry)) at (kind ∷ toLe 2 x)) ⌝ }
 {
@@ -175,7 +175,7 @@ fn write_16(out: &mut [u8], at: usize, kind: u8, x: u16) -> usize
     at + 3
 }
 
-fn write_32(out: &mut [u8], at: usize, kind: u8, x: u32) -> usize
+pub fn write_32(out: &mut [u8], at: usize, kind: u8, x: u32) -> usize
     requires { ⌜ at + 5 ≤ length (now out) ⌝ }
     ensures { λ r. ⌜ (r ≡ at + 5) × (now (out .exit) ≡ sets (now (out .entry)) at (kind ∷ toLe 4 x)) ⌝ }
 {
@@ -184,7 +184,7 @@ fn write_32(out: &mut [u8], at: usize, kind: u8, x: u32) -> usize
     at + 5
 }
 
-fn write_64(out: &mut [u8], at: usize, kind: u8, x: u64) -> usize
+pub fn write_64(out: &mut [u8], at: usize, kind: u8, x: u64) -> usize
     requires { ⌜ at + 9 ≤ length (now out) ⌝ }
     ensures { λ r. ⌜ (r ≡ at + 9) × (now (out .exit) ≡ sets (now (out .entry)) at (kind ∷ toLe 8 x)) ⌝ }
 {
@@ -204,7 +204,7 @@ fn write_numeric(out: &mut [u8], at: usize, n: NumericValue) -> usize
     at + 18
 }
 
-fn write_range(out: &mut [u8], at: usize, kind: u8, r: TextRange) -> usize
+pub fn write_range(out: &mut [u8], at: usize, kind: u8, r: TextRange) -> usize
     requires { ⌜ (at + 5 ≤ length (now out)) × NarrowRange r ⌝ }
     ensures { λ e. ⌜ (e ≡ at + 5) × (now (out .exit) ≡ sets (now (out .entry)) at (kind ∷ rangeBytes r)) ⌝ }
 {

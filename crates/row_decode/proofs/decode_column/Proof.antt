@@ -1,22 +1,72 @@
-use Rattle.row_decode.proofs.Decoding.{wider}
-use denote.Ref.{now}
-use lib.ListN.{length}
 use borrow.Author.Needs.{needs}
 use Rattle.row_decode.proofs.decode_column.Statement.{statement}
+use denote.Ref.{now}
+use native.Mathlib.Omega.{arith}
+use mathlib.Core.Path.{sym, _∙_}
+use borrow.Author.Tests.{eq-eqb, ne-eqb}
+use Rattle.laws.proofs.Parts.{part-all}
 use Rattle.row_decode.proofs.decode_column.Tie as tie
+use Rattle.null_bitmap.proofs.bit_is_set.Reads as bit-is-set-reads
+use Rattle.row_decode.proofs.decode_present.Reads as decode-present-reads
+use Rattle.value_list.proofs.write_null.Reads as write-null-reads
 
-read-wanted-requires : tie.Need-read-wanted-requires
-read-wanted-requires c κs = search needs
+shared-slice-read-if1 : tie.Need-shared-slice-read-if1
+shared-slice-read-if1 c = let f = c .before .before .before .before .before .pre .0 .few in search needs
 
-write-column-requires : tie.Need-write-column-requires
-write-column-requires c κs = (c .before .before .before .before .before .pre .1 .1 .1, wider (c .before .read-wanted .result) (length (now (c .before .before .before .before .before .args .row))) 65535 (c .before .before .before .before .before .pre .1 .1 .0) (c .before .read-wanted .ensures .1))
+write-null-requires : tie.Need-write-null-requires
+write-null-requires c κs = search needs
 
 same-length : tie.Need-same-length
 same-length c = search needs
 
 returns : tie.Need-returns
-returns c = rw (← c .before .before .before .before .read-wanted .ensures .0) (c .before .before .write-column .ensures)
+returns c = rw (c .before .before .write-null .ensures .0, c .before .before .write-null .ensures .1, ne-eqb _ 1 (c .before .before .before .before .if1 .taken))
+
+sub-bit-is-set : tie.Need-sub-bit-is-set
+sub-bit-is-set c = search needs
+
+part-bit-is-set-start : tie.Need-part-bit-is-set-start
+part-bit-is-set-start c = search needs
+
+part-bit-is-set-end : tie.Need-part-bit-is-set-end
+part-bit-is-set-end c = search needs
+
+bit-is-set-requires : tie.Need-bit-is-set-requires
+bit-is-set-requires c κs = search needs
+
+write-null-requires-2 : tie.Need-write-null-requires-2
+write-null-requires-2 c κs = search needs
+
+same-length-2 : tie.Need-same-length-2
+same-length-2 c = search needs
+
+returns-2 : tie.Need-returns-2
+returns-2 c = rw (c .before .before .write-null2 .ensures .0, c .before .before .write-null2 .ensures .1, eq-eqb _ 1 (c .before .before .before .before .before .before .before .if1 .left), ← (rw (part-all (now (c .before .before .before .before .before .before .before .before .before .before .before .before .before .args .row)) 4) at (c .before .before .before .before .before .bit-is-set .ensures)), c .before .before .before .before .if2 .taken)
+
+decode-present-requires : tie.Need-decode-present-requires
+decode-present-requires c κs = (c .before .before .before .before .before .before .before .before .before .before .pre .0, sym (rw (part-all (now (c .before .before .before .before .before .before .before .before .before .before .args .row)) 4) at (c .before .before .bit-is-set .ensures)) ∙ c .before .if2 .left)
+
+same-length-3 : tie.Need-same-length-3
+same-length-3 c = search needs
+
+returns-3 : tie.Need-returns-3
+returns-3 c = rw (eq-eqb _ 1 (c .before .before .before .before .before .before .before .if1 .left)) (c .before .before .decode-present .ensures)
 
 pub decode-column-spec : {M : Type 1} → statement M
 decode-column-spec =
-    tie.close (tie.spec read-wanted-requires write-column-requires same-length returns)
+    tie.close
+    (tie.spec
+    shared-slice-read-if1
+    write-null-requires
+    same-length
+    returns
+    sub-bit-is-set
+    part-bit-is-set-start
+    part-bit-is-set-end
+    bit-is-set-requires
+    write-null-requires-2
+    same-length-2
+    returns-2
+    decode-present-requires
+    same-length-3
+    returns-3)

@@ -1,0 +1,55 @@
+use borrow.Author.Needs.{needs}
+use Rattle.row_decode.proofs.decode_value.Statement.{statement}
+use mathlib.Core.Path.{sym, ap, _∙_, subst}
+use denote.Ref.{now}
+use lib.ListN.{length}
+use Rattle.datatype.specs.declared.DataType.{DataType}
+use Rattle.row_column.specs.Column.{columnValue, Reachable}
+use Rattle.row_decode.specs.Marks.{stepped}
+use Rattle.row_decode.proofs.Decoding.{wider}
+use Rattle.row_decode.proofs.Present.{type-read}
+use Rattle.row_decode.proofs.decode_value.Tie as tie
+use Rattle.datatype.proofs.record_at.Reads as record-at-reads
+use Rattle.row_column.proofs.read_column.Reads as read-column-reads
+use Rattle.row_decode.proofs.write_column.Reads as write-column-reads
+
+record-at-requires : tie.Need-record-at-requires
+record-at-requires c κs = search needs
+
+enum-known-e : tie.Need-enum-known-e
+enum-known-e c = search needs
+
+enum-known-ty : tie.Need-enum-known-ty
+enum-known-ty c = search needs
+
+read-column-requires : tie.Need-read-column-requires
+read-column-requires c κs =
+    let a = c .before .before .before .before .before .before .before .args in
+    subst (λ (t : DataType). Reachable (a .layout) (a .packed) (a .before) t (now (a .row))) (sym (type-read (c .before .before .before .record-at .ensures) (c .before .ty .given .1) (c .before .before .before .before .before .before .before .pre .typed))) (c .before .before .before .before .before .before .before .pre .reach)
+
+write-column-requires : tie.Need-write-column-requires
+write-column-requires c κs = (c .before .before .before .before .before .before .before .before .before .pre .room, wider (c .before .read-column .result) (length (now (c .before .before .before .before .before .before .before .before .before .args .row))) 65535 (c .before .before .before .before .before .before .before .before .before .pre .short) (c .before .read-column .ensures .1))
+
+returns : tie.Need-returns
+returns c = absurd (c .before .before .before .before .before .before .before .pre .good _ (sym (c .before .before .before .record-at .ensures) ∙ c .before .e .given .1))
+
+same-length : tie.Need-same-length
+same-length c = search needs
+
+returns-2 : tie.Need-returns-2
+returns-2 c =
+    let a = c .before .before .before .before .before .before .before .before .before .before .before .before .args in
+    c .before .before .write-column .ensures ∙ ap (stepped (now (a .buf)) (a .end)) (c .before .before .before .before .read-column .ensures .0 ∙ ap (λ (t : DataType). columnValue (a .layout) (a .packed) (a .before) t (now (a .row))) (type-read (c .before .before .before .before .before .before .before .before .record-at .ensures) (c .before .before .before .before .before .before .ty .given .1) (c .before .before .before .before .before .before .before .before .before .before .before .before .pre .typed)))
+
+pub decode-value-spec : {M : Type 1} → statement M
+decode-value-spec =
+    tie.close
+    (tie.spec
+    record-at-requires
+    enum-known-e
+    enum-known-ty
+    read-column-requires
+    write-column-requires
+    returns
+    same-length
+    returns-2)
