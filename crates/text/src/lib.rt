@@ -29,10 +29,11 @@ pub fn is_valid(s: &[u8]) -> bool
     if !opening_follows(s) {
         return false;
     }
+    // A part, though it is the whole: a slice that is passed on as it came is read back from memory at once.
     if n < 128 {
-        return rest_valid(s, 16);
+        return rest_valid(&s[..n], 16);
     }
-    rest_valid(s, wide_blocks(s))
+    rest_valid(&s[..n], wide_blocks(s))
 }
 
 // The answer for a text of fewer than 16 bytes, from a copy with zero bytes around it.
