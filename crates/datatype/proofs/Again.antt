@@ -26,7 +26,7 @@ use Rattle.datatype.specs.declared.Step.{Step}
 use Rattle.datatype.specs.Types.{shapeOf}
 use Rattle.datatype.specs.Schema.{types, records, recordAt}
 use Rattle.datatype.specs.Check.{typeAt, layoutFor, layoutBefore, typesIn}
-use Rattle.datatype.specs.Steps.{passed, typeIn}
+use Rattle.datatype.specs.Steps.{Passable, passed, typeIn}
 use Rattle.datatype.proofs.Walk.{First, none-left, some-left, not-refused, first-left}
 
 -- ---- the layout of the columns before one
@@ -156,6 +156,9 @@ module _ {s : List ℕ} {b : RowLayout} {at : ℕ} (w : Ahead s b at) where
       by-test false e = absurd (omega (arith, few, ahead-end w (ltb-false at (length s) e)))
 
   module _ (h : at < length s) where
+    pub ahead-passable : Passable s at
+    ahead-passable = record { here = h; good = λ e f. ahead-good w h f }
+
     pub ahead-column : Next s at
     ahead-column = of (recordAt s at) refl
       where

@@ -1,5 +1,11 @@
 -- For the proofs: the walk over a schema's records, as the code goes it.
-use Prim.Native.Nat.{ℕ}
+use Prim.Native.Nat.{ℕ, _<_}
+use mathlib.Core.List.{List}
+use mathlib.Core.Path.{_≡_}
+use lib.ListN.{length}
+use Rattle.error.specs.declared.Refusal.{Refusal}
+use Rattle.row_format.specs.declared.Shape.{Shape}
+use Rattle.row_format.specs.declared.Shape.the-variants.{Varlen}
 use Rattle.row_layout.specs.declared.RowLayout.{RowLayout}
 use Rattle.row_layout.specs.Layout.{withColumn}
 use Rattle.datatype.specs.declared.DataType.{DataType}
@@ -8,7 +14,7 @@ use Rattle.datatype.specs.declared.Record.{Record}
 use Rattle.datatype.specs.declared.Record.the-variants.{Column, Refused}
 use Rattle.datatype.specs.declared.Step.{Step}
 use Rattle.datatype.specs.Types.{sizeOf, shapeOf}
-use Rattle.datatype.specs.Schema.{Kind, unknown, plain, sized, digits}
+use Rattle.datatype.specs.Schema.{Kind, unknown, plain, sized, digits, recordAt}
 
 -- a kind that no body follows: its type, and the bytes of its column; 0 for other kinds
 abbrev pub plainSize : Kind → ℕ
@@ -22,6 +28,18 @@ plainType unknown = Varchar 0
 plainType (plain t) = t
 plainType (sized t) = Varchar 0
 plainType (digits t) = Varchar 0
+
+-- what the layout sees of a kind that is followed by a body, whose first byte is a and both n
+abbrev pub bodyShape : Kind → ℕ → ℕ → Shape
+bodyShape unknown a n = Varlen
+bodyShape (plain t) a n = Varlen
+bodyShape (sized t) a n = shapeOf (t n)
+bodyShape (digits t) a n = shapeOf (t a 0)
+
+-- a record that is not refused
+pub record Passable (s : List ℕ) (at : ℕ) : Type 0 where
+  pub here : at < length s
+  pub good : (e : Refusal) → recordAt s at ≡ Refused e → ⊥
 
 -- what comes after a record at a place, where the columns before have layout b
 abbrev pub passed : ℕ → RowLayout → Record → Step

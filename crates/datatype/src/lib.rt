@@ -9,9 +9,9 @@ ghost use lib.ListN.{length};
 ghost use Rattle.row_format.specs.Places.{offsetWidth, rowLimit};
 ghost use Rattle.row_layout.specs.Layout.{Small, Bounded};
 ghost use Rattle.datatype.specs.Types.{sizeOf, alignmentOf, isVarlen, shapeOf, precisionOf, scaleOf, lengthOf};
-ghost use Rattle.datatype.specs.Schema.{goodDigits, bodyKind, kindOf, recordOf, recordAt, schemaOf};
+ghost use Rattle.datatype.specs.Schema.{unknown, goodDigits, bodyKind, kindOf, recordOf, recordAt, schemaOf};
 ghost use Rattle.datatype.specs.Check.{checked, finished, BoundedIn};
-ghost use Rattle.datatype.specs.Steps.{plainSize, passed};
+ghost use Rattle.datatype.specs.Steps.{plainSize, bodyShape, Passable, passed};
 
 pub enum DataType {
     SmallInt,
@@ -306,9 +306,27 @@ pub struct Step {
     pub before: RowLayout,
 }
 
-// The walk from a column to the next: what comes after the record at a place. It looks at no more of the type than the layout does.
+// What the layout sees of a kind that is followed by a body: `first` is the body's first byte, n both. The kind is known.
+fn body_shape(kind: u8, first: u8, n: u16) -> Shape
+    requires { ⌜ (bodyKind kind ≡ unknown → ⊥) ⌝ }
+    ensures { λ r. ⌜ (r ≡ bodyShape (bodyKind kind) first n) × Small r ⌝ }
+{
+    if kind == 11 {
+        return Shape::Varlen;
+    }
+    if kind < 8 {
+        return Shape::Fixed((first as usize + 2) / 2, 1);
+    }
+    if kind == 14 {
+        return Shape::Fixed((n as usize + 7) / 8, 1);
+    }
+    Shape::Fixed(n as usize, 1)
+}
+
+// The walk from a column to the next, in a schema that was checked: what comes after the record at a place. It looks at no more of the type than the
+// layout does, and is short, so that the compiler puts it into each loop that walks.
 pub fn next_column(schema: &[u8], at: usize, before: RowLayout) -> Step
-    requires { ⌜ (at < length (now schema)) × ((before .«num_columns» < 256) × Bounded before) ⌝ }
+    requires { ⌜ Passable (now schema) at × ((before .«num_columns» < 256) × Bounded before) ⌝ }
     ensures { λ r. ⌜ (r ≡ passed at before (recordAt (now (schema .entry)) at)) × Bounded (r .before) ⌝ }
 {
     let kind = schema[at];
@@ -319,12 +337,11 @@ pub fn next_column(schema: &[u8], at: usize, before: RowLayout) -> Step
             before: before.with_column(Shape::Fixed(size, size)),
         };
     }
-    match body_at(schema, at, kind) {
-        Record::Refused(_) => Step { at, before },
-        Record::Column(t, next) => Step {
-            at: next,
-            before: before.with_column(t.shape()),
-        },
+    let first = schema[at + 1];
+    let n = endian::read_u16(schema, at + 1);
+    Step {
+        at: at + 3,
+        before: before.with_column(body_shape(kind, first, n)),
     }
 }
 

@@ -10,14 +10,13 @@ use rookdb::types::value::DataValue;
 use std::hint::black_box;
 use std::time::Instant;
 
-const ROUNDS: usize = 201;
-const ROWS: usize = 1000;
+const ROUNDS: usize = 101;
 
 /// A platform's occupation: station, platform, track, train, line, arrival,
 /// departure, whether it is out of plan.
-fn occupation() -> [DataType; 8] {
+fn occupation(station: u16) -> [DataType; 8] {
     [
-        DataType::Varchar(40),
+        DataType::Varchar(station),
         DataType::SmallInt,
         DataType::Char(4),
         DataType::Int,
@@ -28,8 +27,9 @@ fn occupation() -> [DataType; 8] {
     ]
 }
 
-/// One occupation: no line for one in eight, no departure for one in eight.
-fn values(rng: &mut Rng) -> [Option<DataValue>; 8] {
+/// One occupation: no line for one in eight, no departure for one in eight. The
+/// station's name stands `repeats` times.
+fn values(rng: &mut Rng, repeats: usize) -> [Option<DataValue>; 8] {
     let station = rng.pick(&["Aber", "Neustadt Süd", "Bad Wilhelmsruh (Hauptbahnhof)"]);
     let line = rng.pick(&["RB 12", "RE 4", "S 41"]);
     let arrival = NaiveDate::from_ymd_opt(2026, 11, 15)
@@ -39,7 +39,7 @@ fn values(rng: &mut Rng) -> [Option<DataValue>; 8] {
     let departure = arrival + Duration::seconds(30 + rng.below(600) as i64);
     let line = DataValue::Varchar(line.into());
     [
-        Some(DataValue::Varchar(station.into())),
+        Some(DataValue::Varchar(station.repeat(repeats))),
         Some(DataValue::SmallInt(rng.between(1, 24) as i16)),
         Some(DataValue::Char(format!("{}A", rng.between(1, 24)))),
         Some(DataValue::Int(rng.between(10_000, 99_999) as i32)),
@@ -50,15 +50,41 @@ fn values(rng: &mut Rng) -> [Option<DataValue>; 8] {
     ]
 }
 
-/// The columns of so many occupations side by side.
-pub fn columns(occupations: usize) -> Vec<DataType> {
-    (0..occupations).flat_map(|_| occupation()).collect()
+/// Rows of so many occupations side by side.
+pub struct Table {
+    pub name: String,
+    pub types: Vec<DataType>,
+    pub rows: Vec<Vec<Option<DataValue>>>,
 }
 
-/// The values of all rows of so many occupations.
-pub fn rows(rng: &mut Rng, occupations: usize) -> Vec<Vec<Option<DataValue>>> {
-    let mut row = || (0..occupations).flat_map(|_| values(rng)).collect();
-    (0..ROWS).map(|_| row()).collect()
+impl Table {
+    fn new(rng: &mut Rng, occupations: usize, repeats: usize, rows: usize) -> Self {
+        let types: Vec<_> = (0..occupations)
+            .flat_map(|_| occupation(40 * repeats as u16))
+            .collect();
+        let mut row = || {
+            (0..occupations)
+                .flat_map(|_| values(rng, repeats))
+                .collect()
+        };
+        let texts = if repeats > 1 { ", long texts" } else { "" };
+        Table {
+            name: format!("{} columns{texts}", types.len()),
+            rows: (0..rows).map(|_| row()).collect(),
+            types,
+        }
+    }
+}
+
+/// 8, 64 and 256 columns, and 8 with texts of 120 to 1,000 bytes.
+pub fn tables() -> [Table; 4] {
+    let rng = &mut Rng::new(1);
+    [
+        Table::new(rng, 1, 1, 1000),
+        Table::new(rng, 8, 1, 1000),
+        Table::new(rng, 32, 1, 250),
+        Table::new(rng, 1, 30, 1000),
+    ]
 }
 
 /// Nanoseconds for one of the items.

@@ -3,10 +3,11 @@ use Rattle.datatype.proofs.next_column.Statement.{statement}
 use native.Mathlib.Omega.{arith}
 use mathlib.Core.Path.{sym, _∙_}
 use denote.Ref.{now}
-use Rattle.datatype.proofs.Plain.{plain-record, body-record, plain-added}
+use Rattle.datatype.proofs.Plain.{plain-record, plain-added, known-body, pass-here, body-passed}
 use Rattle.datatype.proofs.next_column.Tie as tie
-use Rattle.datatype.proofs.body_at.Reads as body-at-reads
+use Rattle.datatype.proofs.body_shape.Reads as body-shape-reads
 use Rattle.datatype.proofs.plain_size.Reads as plain-size-reads
+use Rattle.endian.proofs.read_u16.Reads as read-u16-reads
 use Rattle.row_layout.proofs.RowLayout.with_column.Reads as with-column-reads
 
 shared-slice-read-kind : tie.Need-shared-slice-read-kind
@@ -27,30 +28,37 @@ returns c =
     let added = plain-added (now (a .schema)) (a .at) (a .before) (c .before .before .plain-size .ensures .0) (c .before .if1 .taken) (c .with-column .ensures .0) in
     (rw (plain-record (now (a .schema)) (a .at) (λ e. c .before .if1 .taken (c .before .before .plain-size .ensures .0 ∙ e)), added), c .with-column .ensures .1)
 
-body-at-requires : tie.Need-body-at-requires
-body-at-requires c κs = search needs
+add-first : tie.Need-add-first
+add-first c = search needs
 
-enum-told : tie.Need-enum-told
-enum-told c = search needs
+shared-slice-read-first : tie.Need-shared-slice-read-first
+shared-slice-read-first c =
+    let a = c .before .before .before .before .before .args in
+    let h = pass-here (now (a .schema)) (a .at) (a .before) (c .before .before .before .before .before .pre .0 .good) (sym (c .before .before .plain-size .ensures .0) ∙ c .before .if1 .left) in
+    search needs
 
-enum-known-t : tie.Need-enum-known-t
-enum-known-t c = search needs
+add-read-u16 : tie.Need-add-read-u16
+add-read-u16 c = search needs
 
-shape-requires : tie.Need-shape-requires
-shape-requires c κs = search needs
+read-u16-requires : tie.Need-read-u16-requires
+read-u16-requires c κs =
+    let a = c .before .before .before .before .before .args in
+    let h = pass-here (now (a .schema)) (a .at) (a .before) (c .before .before .before .before .before .pre .0 .good) (sym (c .before .before .plain-size .ensures .0) ∙ c .before .if1 .left) in
+    omega (arith, h)
+
+add-t14 : tie.Need-add-t14
+add-t14 c = search needs
+
+body-shape-requires : tie.Need-body-shape-requires
+body-shape-requires c κs = let a = c .before .before .before .before .before .before .args in known-body (now (a .schema)) (a .at) (a .before) (c .before .before .before .before .before .before .pre .0 .good) (sym (c .before .before .before .plain-size .ensures .0) ∙ c .before .before .if1 .left)
 
 with-column-requires-2 : tie.Need-with-column-requires-2
-with-column-requires-2 c κs = (c .before .before .before .before .before .before .before .before .before .pre .1 .0, (c .before .before .before .before .before .before .before .before .before .pre .1 .1, c .shape .ensures .1))
+with-column-requires-2 c κs = search needs
 
 returns-2 : tie.Need-returns-2
 returns-2 c =
-    let a = c .before .before .before .before .before .before .before .args in
-    (rw (← body-record (now (a .schema)) (a .at) (sym (c .before .before .before .before .plain-size .ensures .0) ∙ c .before .before .before .if1 .left), ← c .before .before .body-at .ensures, c .enum-told .given .1), c .before .before .before .before .before .before .before .pre .1 .1)
-
-returns-3 : tie.Need-returns-3
-returns-3 c =
-    let a = c .before .before .before .before .before .before .before .before .before .before .args in
-    (rw (← body-record (now (a .schema)) (a .at) (sym (c .before .before .before .before .before .before .before .plain-size .ensures .0) ∙ c .before .before .before .before .before .before .if1 .left), ← c .before .before .before .before .before .body-at .ensures, c .before .before .before .t .given .1, c .with-column2 .ensures .0, c .before .shape .ensures .0), c .with-column2 .ensures .1)
+    let a = c .before .before .before .before .before .before .before .before .args in
+    (rw (body-passed (now (a .schema)) (a .at) (a .before) (c .before .before .before .before .before .before .before .before .pre .0 .good) (sym (c .before .before .before .before .before .plain-size .ensures .0) ∙ c .before .before .before .before .if1 .left), c .with-column2 .ensures .0, c .before .body-shape .ensures .0, c .before .before .read-u16 .ensures), c .with-column2 .ensures .1)
 
 pub next-column-spec : {M : Type 1} → statement M
 next-column-spec =
@@ -61,10 +69,11 @@ next-column-spec =
     add-t11
     with-column-requires
     returns
-    body-at-requires
-    enum-told
-    enum-known-t
-    shape-requires
+    add-first
+    shared-slice-read-first
+    add-read-u16
+    read-u16-requires
+    add-t14
+    body-shape-requires
     with-column-requires-2
-    returns-2
-    returns-3)
+    returns-2)

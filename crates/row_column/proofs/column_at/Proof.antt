@@ -1,7 +1,7 @@
 use Rattle.row_column.proofs.column_at.Statement.{statement}
 use native.Mathlib.Omega.{arith}
 use Prim.Native.Nat.{_-_, _≤_}
-use Rattle.datatype.proofs.Again.{Ahead, ahead-start, ahead-few, ahead-there, ahead-step, step-column}
+use Rattle.datatype.proofs.Again.{Ahead, ahead-start, ahead-few, ahead-passable, ahead-there, ahead-step, step-column}
 use Rattle.row_column.proofs.Reach.{found}
 use borrow.Author.Needs.{needs}
 use Rattle.row_column.proofs.column_at.Tie as tie
@@ -24,7 +24,7 @@ next-column-requires : tie.Need-next-column-requires Inv-loop μ-loop
 next-column-requires c κs =
     let w = c .before .before .loop .inv .0 in
     let h = ahead-there w (omega (arith, c .if1 .taken, c .before .before .before .before .before .pre .1)) in
-    (h, (ahead-few w h, w .bounded))
+    (ahead-passable w h, (ahead-few w h, w .bounded))
 
 loop-less : tie.Need-loop-less Inv-loop μ-loop
 loop-less c =

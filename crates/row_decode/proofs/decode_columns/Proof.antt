@@ -3,7 +3,7 @@ use denote.Ref.{now}
 use native.Mathlib.Omega.{arith}
 use mathlib.Core.Path.{_∙_}
 use Prim.Native.Nat.{_-_}
-use Rattle.datatype.proofs.Again.{ahead-few, step-column}
+use Rattle.datatype.proofs.Again.{ahead-few, step-column, ahead-passable}
 use Rattle.row_decode.proofs.Decoding.{Decoding, decode-start, decode-end, decode-size, decode-at, decode-next, decode-refused}
 use borrow.Author.Needs.{needs}
 use Rattle.row_decode.proofs.decode_columns.Tie as tie
@@ -38,7 +38,10 @@ enum-known-n : tie.Need-enum-known-n Inv-loop μ-loop
 enum-known-n c = search needs
 
 next-column-requires : tie.Need-next-column-requires Inv-loop μ-loop
-next-column-requires c κs = (c .before .before .before .before .before .before .before .loop-test .taken, (ahead-few (c .before .before .before .before .before .before .before .before .loop .inv .walk) (c .before .before .before .before .before .before .before .loop-test .taken), c .before .before .before .before .before .before .before .before .loop .inv .walk .bounded))
+next-column-requires c κs =
+    let w = c .before .before .before .before .before .before .before .before .loop .inv .walk in
+    let h = c .before .before .before .before .before .before .before .loop-test .taken in
+    (ahead-passable w h, (ahead-few w h, w .bounded))
 
 loop-less : tie.Need-loop-less Inv-loop μ-loop
 loop-less c =

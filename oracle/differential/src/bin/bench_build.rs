@@ -3,11 +3,10 @@
 //! same values. The Rust hands back a vector of its own and `Row::new` takes one
 //! of the columns; ours writes to a buffer that is lent.
 
-use cases::rng::Rng;
 use cases::rust;
 use cases::schema::write_schema;
 use cases::value::ValueList;
-use differential::bench::{columns, least, rows, time};
+use differential::bench::{least, tables, time};
 use rookdb::types::datatype::DataType;
 use rookdb::types::row::{Row, serialize_nullable_typed_row};
 use rookdb::types::value::DataValue;
@@ -55,30 +54,22 @@ fn bench_fresh(types: &[DataType]) -> [f64; 2] {
 }
 
 fn say(name: &str, [rust, ours]: [f64; 2]) {
-    println!("{name:<26}{rust:>12.1}{ours:>10.1}{:>12.2}", ours / rust);
+    println!("{name:<32}{rust:>12.0}{ours:>10.0}{:>12.2}", ours / rust);
 }
 
 fn main() {
-    let mut rng = Rng::new(1);
     println!(
-        "{:<26}{:>12}{:>10}{:>12}",
+        "{:<32}{:>12}{:>10}{:>12}",
         "ns for a row", "the Rust", "ours", "to the Rust"
     );
-    for occupations in [1, 8] {
-        let types = columns(occupations);
+    for table in tables() {
+        let types = &table.types;
         let listed = |values: Vec<_>| {
-            let list = ValueList::of_rust(&values).expect("short texts");
+            let list = ValueList::of_rust(&values).expect("texts that fit");
             (values, list)
         };
-        let rows: Vec<_> = rows(&mut rng, occupations)
-            .into_iter()
-            .map(listed)
-            .collect();
-        let columns = types.len();
-        say(
-            &format!("build, {columns} columns"),
-            bench_build(&types, &rows),
-        );
-        say(&format!("fresh, {columns} columns"), bench_fresh(&types));
+        let rows: Vec<_> = table.rows.into_iter().map(listed).collect();
+        say(&format!("build, {}", table.name), bench_build(types, &rows));
+        say(&format!("fresh, {}", table.name), bench_fresh(types));
     }
 }

@@ -1,22 +1,25 @@
-//! Time for one read, ours against the Rust's `RowDecoder`, built once, and
-//! `deserialize_nullable_row`, in one run on the same rows.
+//! Time for one read, ours against the Rust's `RowDecoder`, built once and built
+//! for the call, and `deserialize_nullable_row`, in one run on the same rows.
 
-use cases::rng::Rng;
 use cases::rust;
 use cases::schema::write_schema;
-use differential::bench::{columns, least, rows, time};
+use differential::bench::{least, tables, time};
 use rookdb::types::datatype::DataType;
 use rookdb::types::row::{RowDecoder, deserialize_nullable_row};
 use std::hint::black_box;
 
 fn bench(name: &str, types: &[DataType], rows: &[Vec<u8>], wanted: &[u16]) {
     let schema = write_schema(types);
-    let columns = wanted.iter().map(|&column| usize::from(column));
-    let decoder = RowDecoder::new(types).only(columns);
+    let columns = || wanted.iter().map(|&column| usize::from(column));
+    let decoder = RowDecoder::new(types).only(columns());
     let mut out = vec![0; 18 * types.len()];
-    let [decoder, deserialize, ours] = least(|| {
+    let [once, each, deserialize, ours] = least(|| {
         [
             time(rows, |row| {
+                black_box(decoder.decode(row).expect("a built row"));
+            }),
+            time(rows, |row| {
+                let decoder = RowDecoder::new(black_box(types)).only(columns());
                 black_box(decoder.decode(row).expect("a built row"));
             }),
             time(rows, |row| {
@@ -29,31 +32,30 @@ fn bench(name: &str, types: &[DataType], rows: &[Vec<u8>], wanted: &[u16]) {
         ]
     });
     println!(
-        "{name:<26}{decoder:>12.1}{deserialize:>15.1}{ours:>10.1}{:>12.2}{:>18.2}",
-        ours / decoder,
+        "{name:<28}{once:>10.0}{each:>10.0}{deserialize:>10.0}{ours:>8.0}{:>8.2}{:>8.2}{:>8.2}",
+        ours / once,
+        ours / each,
         ours / deserialize
     );
 }
 
 fn main() {
-    let mut rng = Rng::new(1);
     println!(
-        "{:<26}{:>12}{:>15}{:>10}{:>12}{:>18}",
-        "read, ns for a row",
-        "RowDecoder",
-        "deserialize..",
-        "ours",
-        "to decoder",
-        "to deserialize.."
+        "{:<28}{:>10}{:>10}{:>10}{:>8}{:>8}{:>8}{:>8}",
+        "read, ns for a row", "decoder", "..built", "deserial.", "ours", "ratio", "..built", "deser."
     );
-    for occupations in [1, 8] {
-        let types = columns(occupations);
-        let build = |values: &Vec<_>| rust::build(&types, values).ok().expect("a row");
-        let rows: Vec<_> = rows(&mut rng, occupations).iter().map(build).collect();
-        let columns = types.len();
-        let all: Vec<u16> = (0..columns as u16).collect();
-        bench(&format!("{columns} columns, all"), &types, &rows, &all);
-        let one = [columns as u16 / 2];
-        bench(&format!("{columns} columns, one"), &types, &rows, &one);
+    for table in tables() {
+        let types = &table.types;
+        let build = |values: &Vec<_>| rust::build(types, values).ok().expect("a row");
+        let rows: Vec<_> = table.rows.iter().map(build).collect();
+        let middle = types.len() as u16 / 2;
+        let all: Vec<u16> = (0..types.len() as u16).collect();
+        for (which, wanted) in [
+            ("all", &all[..]),
+            ("two", &[middle - 1, middle]),
+            ("one", &[middle]),
+        ] {
+            bench(&format!("{}, {which}", table.name), types, &rows, wanted);
+        }
     }
 }
