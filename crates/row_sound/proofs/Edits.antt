@@ -36,7 +36,7 @@ use Rattle.row_sound.proofs.Built.{none-some, writes-form, writes-fits,
 use Rattle.row_sound.proofs.PutBits.{bit-at-put, bit-at-kept}
 
 -- two numbers that are the same, or not
-same-or : {P : Type 0} (a b : ℕ) → (a ≡ b → P) → ((a ≡ b → ⊥) → P) → P
+pub same-or : {P : Type 0} (a b : ℕ) → (a ≡ b → P) → ((a ≡ b → ⊥) → P) → P
 same-or a b f g = cases a b (λ h. g (λ e. omega arith)) (λ h. cases b a (λ l. g (λ e. omega arith)) (λ l. f (omega arith)))
 
 -- ---- a slot of a region replaced
