@@ -1,8 +1,8 @@
 -- A read of all columns of a sound row.
 use Prim.Native.Nat.{ℕ, zero, suc, _+_, _<_}
 use mathlib.Core.Path.{_≡_, refl, sym, ap, ap₂, _∙_}
-use mathlib.Core.Bool.{Bool, true, false, false≢true}
-use mathlib.Core.List.{List, [], _∷_, map}
+use mathlib.Core.Bool.{Bool, true, false≢true}
+use mathlib.Core.List.{List, [], _∷_}
 use native.Mathlib.Nat.{add-zero, zero-add}
 use native.Mathlib.Numerals.{add-one}
 use native.Mathlib.Omega.{arith}
@@ -29,7 +29,7 @@ use Rattle.row_column.specs.Frame.{onFrame}
 use Rattle.row_column.specs.Column.{columnValue}
 use Rattle.row_decode.specs.Read.{isWanted, wantedValue, onColumn, readFrom, handOut, readRow}
 use Rattle.row_sound.specs.Sound.{reads, soundColumn, SoundRow}
-use Rattle.row_sound.specs.Reread.{Content, content, columnContent, nullContent}
+use Rattle.row_sound.specs.Reread.{content, columnContent, nullContent}
 use Rattle.row_sound.proofs.Columns.{sound-at}
 use Rattle.history.specs.Reread.{ReadsAll, contents}
 

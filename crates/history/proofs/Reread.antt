@@ -1,14 +1,15 @@
 -- One accepted edit: what a read of all columns gives before and after it.
-use Prim.Native.Nat.{ℕ, _≤_, _<_}
+use Prim.Native.Nat.{ℕ, _+_, _≤_, _<_}
 use mathlib.Core.Path.{_≡_, refl, sym, ap, _∙_, subst}
 use mathlib.Core.Bool.{Bool}
 use mathlib.Core.List.{List, _++_, map}
 use mathlib.Core.Option.{none, some}
 use native.Mathlib.Omega.{arith}
-use lib.ListN.{length, getD, take, drop, set, length-set}
-use lib.Seq.{sets, ext-getD, getD-set-same, getD-set-other, length-take-le, take-append-seam, drop-append-seam}
-use Rattle.laws.proofs.Bytes.{AllBytes, all-below, below-take}
+use lib.ListN.{length, getD, drop, set, length-set}
+use lib.Seq.{ext-getD, getD-set-same, getD-set-other, length-take-le, take-append-seam, drop-append-seam}
+use Rattle.laws.proofs.Bytes.{Below, AllBytes, all-below, below-take}
 use Rattle.laws.proofs.Stores.{sets-start}
+use Rattle.laws.proofs.Truths.{same-or}
 use Rattle.error.specs.declared.Answer.{Answer}
 use Rattle.error.specs.declared.Answer.the-variants.{Done, Refused}
 use Rattle.error.specs.Answer.{Outcome}
@@ -19,12 +20,10 @@ use Rattle.datatype.specs.declared.DataType.{DataType}
 use Rattle.datatype.specs.Types.{shapeOf}
 use Rattle.datatype.specs.Schema.{types, schemaOf}
 use Rattle.datatype.specs.Check.{typeAt}
-use Rattle.value.specs.declared.DataValue.{DataValue}
 use Rattle.value_list.specs.Lists.{valuesOf}
 use Rattle.row_sound.specs.Sound.{SoundRow}
 use Rattle.row_sound.specs.Written.{Writes, null, form}
-use Rattle.row_sound.specs.Reread.{Content, columnContent, nullContent, writtenContent, lengthIn, Reread}
-use Rattle.row_sound.proofs.Edits.{same-or}
+use Rattle.row_sound.specs.Reread.{Content, columnContent, nullContent, writtenContent, payloadOf, lengthIn, Reread}
 use Rattle.row_sound.proofs.Rows.{row-short, null-short, edit-sound, edit-reread}
 use Rattle.row_edit.specs.Edit.{edited, held, given}
 use Rattle.history.specs.History.{Call, setValue, setNull, State, rowOf, called, handedBack, oneValue}
@@ -115,11 +114,17 @@ module _ {schema : List ℕ} {c : Call} {s : State} {r : List ℕ} (w : Went sch
   abbrev old : List ℕ
   old = rowOf s
 
-  octets-short : length (editedRow offsetWidth p (map shapeOf ts) i (w .cell) old) ≤ rowLimit
-  octets-short = rw (w .row-is) (w .short)
+  octets : Below 256 old
+  octets = below-take 256 (s .row-length) (s .buf) (all-below (s .buf) bytes)
+
+  abbrev edit : List ℕ
+  edit = editedRow offsetWidth p (map shapeOf ts) i (w .cell) old
+
+  edit-short : length edit ≤ rowLimit
+  edit-short = rw (w .row-is) (w .short)
 
   after-sound : SoundRow rowLimit ts p r
-  after-sound = subst (SoundRow rowLimit ts p) (w .row-is) (edit-sound (w .sound) wide (below-take 256 (s .row-length) (s .buf) (all-below (s .buf) bytes)) i (w .inside) (w .cell) (w .writes) octets-short)
+  after-sound = subst (SoundRow rowLimit ts p) (w .row-is) (edit-sound (w .sound) wide octets i (w .inside) (w .cell) (w .writes) edit-short)
 
   abbrev put : Content
   put = givenContent (typeAt ts i) c
@@ -127,8 +132,7 @@ module _ {schema : List ℕ} {c : Call} {s : State} {r : List ℕ} (w : Went sch
   read-again : Reread ts p i put old r
   read-again =
       subst (λ (x : List ℕ). Reread ts p i put old x) (w .row-is)
-      (subst (λ (x : Content). Reread ts p i x old (editedRow offsetWidth p (map shapeOf ts) i (w .cell) old)) (w .is-given)
-      (edit-reread (w .sound) wide (below-take 256 (s .row-length) (s .buf) (all-below (s .buf) bytes)) i (w .inside) (w .cell) (w .writes) octets-short))
+      (subst (λ (x : Content). Reread ts p i x old edit) (w .is-given) (edit-reread (w .sound) wide octets i (w .inside) (w .cell) (w .writes) edit-short))
 
   abbrev before : List Content
   before = contents old (rowValues (w .sound))
@@ -175,5 +179,7 @@ edits {schema} c of {old} {new} bytes done = by-end (went schema old c of)
           new-sound = subst (SoundRow rowLimit (w .columns) (w .packed)) row (after-sound w bytes);
           handed = sym size ∙ ap length row;
           long = subst (λ (x : List ℕ). length x ≡ lengthIn (w .columns) (w .packed) x) row (read-again w bytes .long);
+          change =
+              subst (λ (x : List ℕ). length x + length (payloadOf (w .columns) (w .packed) (columnOf c) (rowOf old)) ≡ length (rowOf old) + length (payloadOf (w .columns) (w .packed) (columnOf c) x)) row (read-again w bytes .change);
           behind = rw (← size, ← whole) (drop-append-seam r (drop (length r) (old .buf)));
         }

@@ -1,6 +1,6 @@
 -- 01, "Read" and "Editing", for one set or set null that answers 0: a read of all columns gives the new value in its column and what it gave before in every
 -- other, a text compared by the bytes of its range.
-use Prim.Native.Nat.{ℕ, _<_}
+use Prim.Native.Nat.{ℕ, _+_, _<_}
 use mathlib.Core.Bool.{Bool, true}
 use mathlib.Core.List.{List, map}
 use mathlib.Core.Path.{_≡_}
@@ -16,7 +16,7 @@ use Rattle.value_list.specs.Lists.{valuesOf, listOf}
 use Rattle.row_column.specs.declared.ColumnRead.the-variants.{Value}
 use Rattle.row_decode.specs.Read.{isWanted, readCall}
 use Rattle.row_sound.specs.Sound.{SoundRow}
-use Rattle.row_sound.specs.Reread.{Content, content, nullContent, valueContent, lengthIn}
+use Rattle.row_sound.specs.Reread.{Content, content, nullContent, valueContent, payloadOf, lengthIn}
 use Rattle.history.specs.History.{Call, setValue, setNull, State, rowOf, oneValue}
 
 -- the column that a call names, and what it puts there
@@ -53,5 +53,6 @@ pub record Edits (schema : List ℕ) (c : Call) (old new : State) : Type 0 where
   pub new-sound : SoundRow rowLimit columns packed (rowOf new)
   pub handed : new .row-length ≡ length (rowOf new)
   pub long : length (rowOf new) ≡ lengthIn columns packed (rowOf new)
+  pub change : length (rowOf new) + length (payloadOf columns packed (columnOf c) (rowOf old)) ≡ length (rowOf old) + length (payloadOf columns packed (columnOf c) (rowOf new))
   -- "After an edit, bytes past the new end are as before."
   pub behind : drop (new .row-length) (new .buf) ≡ drop (new .row-length) (old .buf)

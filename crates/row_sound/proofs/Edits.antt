@@ -1,7 +1,7 @@
 -- A sound row whose column is set to null or to an accepted value is sound.
-use Prim.Native.Nat.{ℕ, zero, suc, _+_, _-_, _/_, _^_, _≤_, _<_}
+use Prim.Native.Nat.{ℕ, zero, suc, _+_, _/_, _^_, _≤_, _<_}
 use mathlib.Core.Path.{_≡_, refl, sym, ap, _∙_, subst}
-use mathlib.Core.Bool.{Bool, true, false, cond, false≢true}
+use mathlib.Core.Bool.{Bool, true, false, false≢true}
 use mathlib.Core.List.{List, [], _∷_, _++_, map, append-assoc}
 use mathlib.Core.Option.{none, some}
 use native.Mathlib.Omega.{arith}
@@ -12,7 +12,7 @@ use Rattle.laws.specs.Bits.{bitAt, putBitAt}
 use Rattle.laws.specs.Bytes.{splice}
 use Rattle.laws.proofs.Bytes.{same-length-splice, splice-outside}
 use Rattle.laws.proofs.Parts.{part-at, part-same}
-use Rattle.laws.proofs.Truths.{cases}
+use Rattle.laws.proofs.Truths.{cases, same-or}
 use Rattle.row_format.specs.declared.Shape.{Shape}
 use Rattle.row_format.specs.declared.Shape.the-variants.{Fixed, Varlen}
 use Rattle.row_format.specs.Places.{rankOf, slotStart, bitmapSize, offsetWidth}
@@ -34,10 +34,6 @@ use Rattle.row_sound.proofs.Contents.{heldContent, null-held, written-c
 use Rattle.row_sound.proofs.Laid.{heldPart, soundPart, Parts, shape-at, laid-length, content-lay, payload-lay, laid-sound, payload-length}
 use Rattle.row_sound.proofs.Built.{none-some, writes-form, writes-fits, written-cell, written-slot}
 use Rattle.row_sound.proofs.PutBits.{bit-at-put, bit-at-kept}
-
--- two numbers that are the same, or not
-pub same-or : {P : Type 0} (a b : ℕ) → (a ≡ b → P) → ((a ≡ b → ⊥) → P) → P
-same-or a b f g = cases a b (λ h. g (λ e. omega arith)) (λ h. cases b a (λ l. g (λ e. omega arith)) (λ l. f (omega arith)))
 
 -- ---- a slot of a region replaced
 
