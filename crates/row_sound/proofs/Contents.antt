@@ -1,4 +1,4 @@
--- What a column's bytes read as: the place where they stand in a row tells in the place of their text alone.
+-- What a column's bytes read as, wherever they stand in a row.
 use Prim.Native.Nat.{ℕ, _<_}
 use mathlib.Core.Path.{_≡_, refl, sym, ap, _∙_}
 use mathlib.Core.Bool.{Bool, true, false, cond, false≢true}
@@ -17,7 +17,7 @@ use Rattle.datatype.specs.declared.DataType.the-variants as T
 use Rattle.datatype.specs.Types.{isVarlen}
 use Rattle.value.specs.declared.DataValue.{DataValue}
 use Rattle.value.specs.declared.DataValue.the-variants as D
-use Rattle.value.specs.Ranges.{rangeOf, part, textOf, moved}
+use Rattle.value.specs.Ranges.{part, textOf}
 use Rattle.stored_form.specs.declared.SlotRead.{SlotRead}
 use Rattle.stored_form.specs.declared.SlotRead.the-variants as Slot
 use Rattle.stored_form.specs.Write.{storedForm}
@@ -54,13 +54,13 @@ cond-itself : (x : Bool) → cond x true false ≡ x
 cond-itself true = refl
 cond-itself false = refl
 
--- the place where they stand tells in the place of their text alone
+-- the same wherever they stand, but for the start of a text's range
 module _ (i at : ℕ) (r bs : List ℕ) (stand : take (length bs) (drop at r) ≡ bs) where
   with-text : (v : DataValue) → _≡_ {A = Content} (Value v, take (length bs) (drop at r)) (Value v, take (length bs) bs)
   with-text v = ap (λ (x : List ℕ). (Value v, x)) (stand ∙ sym (take-all (length bs) bs (omega arith)))
 
   content-twins : {v w : DataValue} → Twins at 0 bs v w → content r (Value v) ≡ content bs (Value w)
-  content-twins {v} (alike e) = ap (λ (x : List ℕ). (Value (moved 0 (rangeOf v .length) v), x)) (ap (part r) e ∙ ap (part bs) (sym e))
+  content-twins {v} (alike e) = ap (λ (x : List ℕ). (content r (Value v) .0, x)) (ap (part r) e ∙ ap (part bs) (sym e))
   content-twins char = with-text (D.Char (whole 0 bs))
   content-twins varchar = with-text (D.Varchar (whole 0 bs))
   content-twins bit = with-text (D.Bit (whole 0 bs))

@@ -1,4 +1,4 @@
--- What bytes read as, wherever they stand: the place tells in the place of a text alone.
+-- What bytes read as is the same wherever they stand, but for the start of a text's range.
 use Prim.Native.Nat.{ℕ}
 use mathlib.Core.Path.{_≡_, refl}
 use mathlib.Core.Bool.{Bool, true, false, cond}
