@@ -5,13 +5,16 @@ use mathlib.Core.List.{List, [], _∷_}
 use mathlib.Core.Path.{_≡_, refl, sym, ap, subst}
 use borrow.Author.Tests.{ltb-false, leb-false}
 use lib.Dec.{leb, ltb}
-use lib.ListN.{length, getD}
+use lib.ListN.{length, getD, take}
 use Rattle.laws.proofs.Bytes.{AllBytes}
 use Rattle.laws.proofs.Truths.{by-cond}
 use Rattle.error.specs.declared.Refusal.{Refusal}
 use Rattle.error.specs.declared.Refusal.the-variants as No
 use Rattle.error.specs.Answer.{Outcome, unchanged, placed}
 use Rattle.datatype.specs.declared.DataType.{DataType}
+use Rattle.datatype.specs.Schema as Schema
+use Rattle.datatype.specs.Schema.{Parsed, types, schemaOf}
+use Rattle.datatype.specs.Check.{onSchema}
 use Rattle.value.specs.declared.DataValue.{DataValue}
 use Rattle.value.specs.declared.DataValue.the-variants.{Null}
 use Rattle.value.specs.Kinds.{matches}
@@ -23,7 +26,11 @@ use Rattle.stored_form.specs.Write.{accepted, storedForm}
 use Rattle.row_build.specs.Stored as Stored
 use Rattle.row_build.specs.Stored.{Tested, good, onTested, storedIn}
 use Rattle.row_build.specs.Build.{onValues, rowPlaced}
-use Rattle.row_edit.specs.Edit.{held, given}
+use Rattle.row_sound.specs.declared.Soundness.{Soundness}
+use Rattle.row_sound.specs.declared.Soundness.the-variants as Row
+use Rattle.row_sound.specs.Sound.{soundness, SoundRow}
+use Rattle.row_sound.proofs.Rows.{told-row}
+use Rattle.row_edit.specs.Edit.{onSound, onRow, opened, held, given}
 use Rattle.history.specs.History.{oneValue}
 
 -- ---- the outcome o of a call on a buffer; P is what is known of a row that it wrote
@@ -36,6 +43,22 @@ module _ {buf : List ℕ} {P : List ℕ → Type 0} where
   -- 9
   pub column-ends : (n i : ℕ) (o : Outcome) → (i < n → Ends buf P o) → Ends buf P (cond (leb n i) (unchanged buf No.NoSuchColumn) o)
   column-ends n i o f = by-cond (Ends buf P) (leb n i) (unchanged buf No.NoSuchColumn) o (λ h. refusal No.NoSuchColumn refl) (λ h. f (leb-false n i h))
+
+  -- 1, 2, 14, 15, then 9
+  pub opened-ends : (w limit : ℕ) (schema : List ℕ) (n i : ℕ) (k : List DataType → Bool → Outcome)
+      → ((ts : List DataType) (p : Bool) → schemaOf w limit schema ≡ types ts → n ≤ length buf → SoundRow limit ts p (take n buf) → i < length ts → Ends buf P (k ts p)) → Ends buf P (opened w limit schema buf n i k)
+  opened-ends w limit schema n i k f = by-schema (schemaOf w limit schema) refl
+    where
+      by-sound : (ts : List DataType) → schemaOf w limit schema ≡ types ts → n ≤ length buf → (x : Soundness) → soundness limit ts (take n buf) ≡ x
+          → Ends buf P (onSound x (unchanged buf No.NotSound) (λ p. cond (leb (length ts) i) (unchanged buf No.NoSuchColumn) (k ts p)))
+      by-sound ts g room (Row.Sound p) e = column-ends (length ts) i (k ts p) (λ h. f ts p g room (told-row limit ts (take n buf) e) h)
+      by-sound ts g room Row.NotSound e = refusal No.NotSound refl
+
+      by-schema : (x : Parsed) → schemaOf w limit schema ≡ x → Ends buf P (onSchema x (unchanged buf) (λ ts. cond (ltb (length buf) n) (unchanged buf No.NoRoom) (onRow limit ts (take n buf) i (unchanged buf) (k ts))))
+      by-schema (types ts) g =
+          by-cond (Ends buf P) (ltb (length buf) n) (unchanged buf No.NoRoom) (onRow limit ts (take n buf) i (unchanged buf) (k ts)) (λ h. refusal No.NoRoom refl)
+          (λ h. by-sound ts g (ltb-false (length buf) n h) (soundness limit ts (take n buf)) refl)
+      by-schema (Schema.refused e) g = refusal e refl
 
   pub tested-ends : {A : Type 0} (q : Tested A) (k : A → Outcome) → ((x : A) → q ≡ good x → Ends buf P (k x)) → Ends buf P (onTested q (unchanged buf) k)
   tested-ends (good x) k f = f x refl

@@ -26,14 +26,14 @@ use Rattle.datatype.specs.Check.{typeAt}
 use Rattle.value.specs.declared.DataValue.{DataValue}
 use Rattle.value.specs.declared.DataValue.the-variants as D
 use Rattle.value.specs.Kinds.{kindOf, matches}
-use Rattle.value.specs.Ranges.{rangeOf, inArea, textOf}
+use Rattle.value.specs.Ranges.{rangeOf, inArea, textOf, moved}
 use Rattle.value_list.specs.Records.{Sized}
 use Rattle.value_list.specs.Lists.{AllSized}
 use Rattle.stored_form.specs.Write.{suits, accepted, storedForm}
 use Rattle.row_sound.specs.Written.{Writes, null, form}
 use Rattle.stored_form.proofs.Lengths.{accepted-suits, length-stored}
 use Rattle.row_build.specs.Stored.{good, storedIn, isNull, cellIn, cellsFrom}
-use Rattle.history.specs.History.{Entry, texts, moved, lastValues, entryCell, sheetCells}
+use Rattle.history.specs.History.{Entry, texts, lastValues, entryCell, sheetCells}
 
 -- ---- a value with its text
 

@@ -3,4 +3,6 @@ pub mod Calls
 pub mod Kept
 pub mod Histories
 pub mod Accepts
+pub mod Reading
+pub mod Reread
 pub mod Worked

@@ -10,7 +10,7 @@ use Rattle.row_format.specs.Table.{Cell}
 use Rattle.datatype.specs.declared.DataType.{DataType}
 use Rattle.value.specs.declared.DataValue.{DataValue}
 use Rattle.value.specs.declared.DataValue.the-variants as D
-use Rattle.value.specs.Ranges.{textOf}
+use Rattle.value.specs.Ranges.{textOf, moved}
 use Rattle.value_list.specs.Lists.{Values, values, refused, valuesOf}
 use Rattle.stored_form.specs.Write.{storedForm}
 use Rattle.row_edit.specs.Edit.{setCall, setNullCall}
@@ -75,23 +75,6 @@ abbrev pub texts : List Entry → List ℕ
 texts [] = []
 texts (none ∷ es) = texts es
 texts (some (v, x) ∷ es) = x ++ texts es
-
--- v with its text of n bytes at `at`
-abbrev pub moved : ℕ → ℕ → DataValue → DataValue
-moved at n D.Null = D.Null
-moved at n (D.SmallInt z) = D.SmallInt z
-moved at n (D.Int z) = D.Int z
-moved at n (D.BigInt z) = D.BigInt z
-moved at n (D.Real b) = D.Real b
-moved at n (D.DoublePrecision b) = D.DoublePrecision b
-moved at n (D.Numeric m) = D.Numeric m
-moved at n (D.Bool b) = D.Bool b
-moved at n (D.Char r) = D.Char (record { start = at; length = n })
-moved at n (D.Varchar r) = D.Varchar (record { start = at; length = n })
-moved at n (D.Date z) = D.Date z
-moved at n (D.Time z) = D.Time z
-moved at n (D.Bit r) = D.Bit (record { start = at; length = n })
-moved at n (D.Timestamp z) = D.Timestamp z
 
 abbrev pub lastValues : ℕ → List Entry → List DataValue
 lastValues at [] = []

@@ -1,3 +1,4 @@
 pub mod History
 pub mod Demand
+pub mod Reread
 pub mod Worked

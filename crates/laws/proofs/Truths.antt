@@ -46,6 +46,10 @@ by-dec a b (no n) f g = g (omega (arith, n))
 pub cases : {P : Type 0} (a b : ℕ) → (a < b → P) → (b ≤ a → P) → P
 cases a b f g = by-dec a b (decLt a b) f g
 
+-- two numbers that are the same, or not
+pub same-or : {P : Type 0} (a b : ℕ) → (a ≡ b → P) → ((a ≡ b → ⊥) → P) → P
+same-or a b f g = cases a b (λ h. g (λ e. omega arith)) (λ h. cases b a (λ l. g (λ e. omega arith)) (λ l. f (omega arith)))
+
 pub same-ltb : (a b c d : ℕ) → (a < b → c < d) → (b ≤ a → d ≤ c) → ltb a b ≡ ltb c d
 same-ltb a b c d f g = cases a b (λ h. lt-ltb a b h ∙ sym (lt-ltb c d (f h))) (λ h. le-ltb a b h ∙ sym (le-ltb c d (g h)))
 

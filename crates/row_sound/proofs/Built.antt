@@ -36,7 +36,8 @@ use Rattle.row_column.specs.declared.Frame.the-variants.{Good}
 use Rattle.row_column.specs.Frame.{columnCount, varlenField, isPacked, frameOf}
 use Rattle.row_sound.specs.Sound.{isSoundIn}
 use Rattle.row_sound.specs.Written.{Writes, null, form}
-use Rattle.row_sound.proofs.Laid.{isForm, soundCell, soundSlot, soundPart, Parts, shape-at, slot-of, bit-of, laid-sound}
+use Rattle.row_sound.proofs.Contents.{isForm, soundCell, soundSlot}
+use Rattle.row_sound.proofs.Laid.{soundPart, Parts, shape-at, slot-of, bit-of, laid-sound}
 
 -- ---- a cell that was written is read
 

@@ -1,21 +1,22 @@
 -- A sound row whose column is set to null or to an accepted value is sound.
-use Prim.Native.Nat.{ℕ, _+_, _-_, _/_, _^_, _≤_, _<_}
-use mathlib.Core.Path.{_≡_, refl, sym, ap, _∙_}
-use mathlib.Core.Bool.{Bool, true, false}
-use mathlib.Core.List.{List, _++_, map, append-assoc}
+use Prim.Native.Nat.{ℕ, zero, suc, _+_, _/_, _^_, _≤_, _<_}
+use mathlib.Core.Path.{_≡_, refl, sym, ap, _∙_, subst}
+use mathlib.Core.Bool.{Bool, true, false, false≢true}
+use mathlib.Core.List.{List, [], _∷_, _++_, map, append-assoc}
 use mathlib.Core.Option.{none, some}
 use native.Mathlib.Omega.{arith}
-use lib.ListN.{length, getD, take, drop, set, length-map, length-set}
+use lib.Dec.{eqb}
+use lib.ListN.{length, getD, take, drop, set, length-append, length-map, length-set}
 use lib.Seq.{take-at, take-take, length-take-le, getD-take, getD-set-same, getD-set-other}
 use Rattle.laws.specs.Bits.{bitAt, putBitAt}
 use Rattle.laws.specs.Bytes.{splice}
 use Rattle.laws.proofs.Bytes.{same-length-splice, splice-outside}
 use Rattle.laws.proofs.Parts.{part-at, part-same}
-use Rattle.laws.proofs.Truths.{cases}
+use Rattle.laws.proofs.Truths.{cases, same-or}
 use Rattle.row_format.specs.declared.Shape.{Shape}
 use Rattle.row_format.specs.declared.Shape.the-variants.{Fixed, Varlen}
 use Rattle.row_format.specs.Places.{rankOf, slotStart, bitmapSize, offsetWidth}
-use Rattle.row_format.specs.Table.{Cell, bytes, lay}
+use Rattle.row_format.specs.Table.{Cell, bytes, payloads, lay}
 use Rattle.row_format.specs.Row.{nullBit, slotSize, FitsCell}
 use Rattle.row_format.specs.Edit.{slotEdit, editedRow}
 use Rattle.row_format.proofs.Bitmap.{null-bit-le}
@@ -28,13 +29,11 @@ use Rattle.datatype.specs.Check.{typeAt, layoutFor}
 use Rattle.datatype.proofs.Again.{all-aligned}
 use Rattle.row_sound.specs.Sound.{isSoundIn}
 use Rattle.row_sound.specs.Written.{Writes}
-use Rattle.row_sound.proofs.Laid.{soundPart, Parts, shape-at, laid-length, laid-sound}
+use Rattle.row_sound.specs.Reread.{columnContent, writtenContent, payloadOf, lengthIn, Reread}
+use Rattle.row_sound.proofs.Contents.{heldContent, null-held, written-content}
+use Rattle.row_sound.proofs.Laid.{heldPart, soundPart, Parts, shape-at, laid-length, content-lay, payload-lay, laid-sound, payload-length}
 use Rattle.row_sound.proofs.Built.{none-some, writes-form, writes-fits, written-cell, written-slot}
 use Rattle.row_sound.proofs.PutBits.{bit-at-put, bit-at-kept}
-
--- two numbers that are the same, or not
-same-or : {P : Type 0} (a b : ℕ) → (a ≡ b → P) → ((a ≡ b → ⊥) → P) → P
-same-or a b f g = cases a b (λ h. g (λ e. omega arith)) (λ h. cases b a (λ l. g (λ e. omega arith)) (λ l. f (omega arith)))
 
 -- ---- a slot of a region replaced
 
@@ -56,6 +55,12 @@ module _ (at z : ℕ) (region : List ℕ) (h : at + z ≤ length region) where
   slot-kept (some b) f a n out =
       let e : at + length b ≡ at + z = rw (f b refl) in
       part-same a n (splice at (at + z) b region) region (same-length-splice at (at + z) b region e h) (λ k l m. splice-outside at (at + z) b region e h k (out k l m))
+
+-- a cell replaced
+payloads-set : (ps : List Cell) (k : ℕ) (c : Cell) → k < length ps → length (payloads (set ps k c)) + length (bytes (getD ps k none)) ≡ length (payloads ps) + length (bytes c)
+payloads-set [] k c h = absurd (omega arith)
+payloads-set (d ∷ ps) zero c h = rw (length-append, length-append) (omega arith)
+payloads-set (d ∷ ps) (suc k) c h = rw (length-append, length-append) (omega (arith, payloads-set ps k c (omega arith)))
 
 -- a Varchar before another has the lower rank
 rank-rises : (ss : List Shape) (i j : ℕ) → i < j → j < length ss → getD ss i Varlen ≡ Varlen → rankOf ss i < rankOf ss j
@@ -119,15 +124,12 @@ module _ {p : Bool} {ts : List DataType} {head bits region : List ℕ} {ps : Lis
         cases i j (λ g. let m = rw (ap slotSize shape) at (slots-apart p ss i j (all-aligned ts) g (below j l)) in omega arith)
         (λ g. let m = rw (ap slotSize other) at (slots-apart p ss j i (all-aligned ts) (omega (arith, ne)) (below i h)) in omega arith)
 
-    fixed-other : (j : ℕ) → j < length ts → (i ≡ j → ⊥) → (x : Bool) → isVarlen (typeAt ts j) ≡ x → soundPart p ts newBits newRegion ps j ≡ soundPart p ts bits region ps j
-    fixed-other j l ne true f = rw (f, bit-kept j ne)
-    fixed-other j l ne false f = rw (f, bit-kept j ne, slot-kept start (sizeOf t) region inside c sized (slotStart p ss j) (sizeOf (typeAt ts j)) (others j l ne f))
+    fixed-other : (j : ℕ) → j < length ts → (i ≡ j → ⊥) → (x : Bool) → isVarlen (typeAt ts j) ≡ x → heldPart p ts newRegion ps j ≡ heldPart p ts region ps j
+    fixed-other j l ne true f = rw f
+    fixed-other j l ne false f = rw (f, slot-kept start (sizeOf t) region inside c sized (slotStart p ss j) (sizeOf (typeAt ts j)) (others j l ne f))
 
-    fixed-own : soundPart p ts newBits newRegion ps i ≡ true
-    fixed-own = rw (v, bit-new) (written-slot t c _ (writes-form w) (slot-new start (sizeOf t) region inside c sized))
-
-    fixed-each : (j : ℕ) → j < length ts → soundPart p ts newBits newRegion ps j ≡ true
-    fixed-each j l = same-or i j (λ e. ap (soundPart p ts newBits newRegion ps) (sym e) ∙ fixed-own) (λ ne. fixed-other j l ne (isVarlen (typeAt ts j)) refl ∙ sound j l)
+    fixed-own : (b : List ℕ) → c ≡ some b → heldPart p ts newRegion ps i ≡ some b
+    fixed-own b e = rw v (ap some (slot-new start (sizeOf t) region inside c sized b e))
 
   -- a Varchar
   module _ (v : isVarlen t ≡ true) where
@@ -142,38 +144,62 @@ module _ {p : Bool} {ts : List DataType} {head bits region : List ℕ} {ps : Lis
         cases i j (λ g. omega (arith, rank-rises ss i j g (below j l) (is-varlen i v), e))
         (λ g. omega (arith, rank-rises ss j i (omega (arith, ne)) (below i h) (is-varlen j f), e))
 
-    varchar-other : (j : ℕ) → j < length ts → (i ≡ j → ⊥) → (x : Bool) → isVarlen (typeAt ts j) ≡ x → soundPart p ts newBits region (set ps (rankOf ss i) c) j ≡ soundPart p ts bits region ps j
-    varchar-other j l ne true f = rw (f, bit-kept j ne, getD-set-other ps (rankOf ss i) (rankOf ss j) c none (rank-other j l ne f))
-    varchar-other j l ne false f = rw (f, bit-kept j ne)
+    abbrev newCells : List Cell
+    newCells = set ps (rankOf ss i) c
 
-    varchar-own : soundPart p ts newBits region (set ps (rankOf ss i) c) i ≡ true
-    varchar-own = rw (v, bit-new, getD-set-same ps (rankOf ss i) c none rank-within) (written-cell t c (writes-form w))
+    varchar-other : (j : ℕ) → j < length ts → (i ≡ j → ⊥) → (x : Bool) → isVarlen (typeAt ts j) ≡ x → heldPart p ts region newCells j ≡ heldPart p ts region ps j
+    varchar-other j l ne true f = rw (f, getD-set-other ps (rankOf ss i) (rankOf ss j) c none (rank-other j l ne f))
+    varchar-other j l ne false f = rw f
 
-    varchar-each : (j : ℕ) → j < length ts → soundPart p ts newBits region (set ps (rankOf ss i) c) j ≡ true
-    varchar-each j l = same-or i j (λ e. ap (soundPart p ts newBits region (set ps (rankOf ss i) c)) (sym e) ∙ varchar-own) (λ ne. varchar-other j l ne (isVarlen (typeAt ts j)) refl ∙ sound j l)
+    varchar-own : heldPart p ts region newCells i ≡ c
+    varchar-own = rw (v, getD-set-same ps (rankOf ss i) c none rank-within)
 
   abbrev row : List ℕ
   row = lay offsetWidth (head ++ bits) region ps
 
-  -- the edited row, which is laid out of parts again
+  -- the edited row: it is laid out of parts again, in which column i holds the cell and the others what they held
   pub record Edited (r : List ℕ) : Type 0 where
-    pub sound-in : isSoundIn (layoutFor ts) p ts r ≡ true
-    pub long : minimumOf (layoutFor ts) p ≤ length r
-    pub same-head : take 4 r ≡ head
-
-  laid-edited : {new region' : List ℕ} {ps' : List Cell} → Parts p ts head new region' ps' → ((j : ℕ) → j < length ts → soundPart p ts new region' ps' j ≡ true) → Edited (lay offsetWidth (head ++ new) region' ps')
-  unfolding lay
-  laid-edited {new} u each = record { sound-in = laid-sound u each; long = rw (laid-length u) (omega arith); same-head = rw (append-assoc head) (take-at head _ 4 (q .four)) }
+    pub new-region : List ℕ
+    pub new-cells : List Cell
+    pub parts : Parts p ts head newBits new-region new-cells
+    pub row-is : r ≡ lay offsetWidth (head ++ newBits) new-region new-cells
+    pub own : (b : List ℕ) → c ≡ some b → heldPart p ts new-region new-cells i ≡ some b
+    pub own-varchar : isVarlen t ≡ true → heldPart p ts new-region new-cells i ≡ c
+    pub others : (j : ℕ) → j < length ts → (i ≡ j → ⊥) → heldPart p ts new-region new-cells j ≡ heldPart p ts region ps j
+    pub long-fixed : isVarlen t ≡ false → length r ≡ length row
+    pub long-varchar : isVarlen t ≡ true → length r + length (bytes (heldPart p ts region ps i)) ≡ length row + length (bytes c)
 
   fixed-edited : isVarlen t ≡ false → length (editedRow offsetWidth p ss i c row) < 256 ^ offsetWidth → Edited (editedRow offsetWidth p ss i c row)
   fixed-edited v short =
       let e : editedRow offsetWidth p ss i c row ≡ lay offsetWidth (head ++ newBits) (newRegion v) ps = edit-fixed offsetWidth p ss i (below i h) head bits region ps (q .four) (q .bitmap) (q .cells) c (sizeOf t) (alignmentOf t) (shape v) (fits v) (inside v) in
-      rw e (laid-edited (record { four = q .four; bitmap = length-bits; fixed = length-slot (start v) (sizeOf t) region (inside v) c (sized v) ∙ q .fixed; cells = q .cells; fits = rw e at short }) (fixed-each v))
+      let u : Parts p ts head newBits (newRegion v) ps = record { four = q .four; bitmap = length-bits; fixed = length-slot (start v) (sizeOf t) region (inside v) c (sized v) ∙ q .fixed; cells = q .cells; fits = rw e at short } in
+      record {
+        new-region = newRegion v;
+        new-cells = ps;
+        parts = u;
+        row-is = e;
+        own = fixed-own v;
+        own-varchar = λ f. absurd (false≢true (sym v ∙ f));
+        others = λ j l ne. fixed-other v j l ne (isVarlen (typeAt ts j)) refl;
+        long-fixed = λ f. ap length e ∙ laid-length u ∙ sym (laid-length q);
+        long-varchar = λ f. absurd (false≢true (sym v ∙ f));
+      }
 
   varchar-edited : isVarlen t ≡ true → length (editedRow offsetWidth p ss i c row) < 256 ^ offsetWidth → Edited (editedRow offsetWidth p ss i c row)
   varchar-edited v short =
-      let e : editedRow offsetWidth p ss i c row ≡ lay offsetWidth (head ++ newBits) region (set ps (rankOf ss i) c) = edit-varlen offsetWidth p ss i (below i h) head bits region ps (q .four) (q .bitmap) (q .cells) c (is-varlen v i v) (q .fits) in
-      rw e (laid-edited (record { four = q .four; bitmap = length-bits; fixed = q .fixed; cells = length-set ps (rankOf ss i) c ∙ q .cells; fits = rw e at short }) (varchar-each v))
+      let e : editedRow offsetWidth p ss i c row ≡ lay offsetWidth (head ++ newBits) region (newCells v) = edit-varlen offsetWidth p ss i (below i h) head bits region ps (q .four) (q .bitmap) (q .cells) c (is-varlen v i v) (q .fits) in
+      let u : Parts p ts head newBits region (newCells v) = record { four = q .four; bitmap = length-bits; fixed = q .fixed; cells = length-set ps (rankOf ss i) c ∙ q .cells; fits = rw e at short } in
+      record {
+        new-region = region;
+        new-cells = newCells v;
+        parts = u;
+        row-is = e;
+        own = λ b f. varchar-own v ∙ f;
+        own-varchar = λ f. varchar-own v;
+        others = λ j l ne. varchar-other v j l ne (isVarlen (typeAt ts j)) refl;
+        long-fixed = λ f. absurd (false≢true (sym f ∙ v));
+        long-varchar = λ f. rw (v, ap length e, laid-length u, laid-length q) (omega (arith, payloads-set ps (rankOf ss i) c (rank-within v)));
+      }
 
   pub edited : length (editedRow offsetWidth p ss i c row) < 256 ^ offsetWidth → Edited (editedRow offsetWidth p ss i c row)
   edited = by-kind (isVarlen t) refl
@@ -181,3 +207,54 @@ module _ {p : Bool} {ts : List DataType} {head bits region : List ℕ} {ps : Lis
       by-kind : (x : Bool) → isVarlen t ≡ x → length (editedRow offsetWidth p ss i c row) < 256 ^ offsetWidth → Edited (editedRow offsetWidth p ss i c row)
       by-kind true v = varchar-edited v
       by-kind false v = fixed-edited v
+
+  module _ {r : List ℕ} (e : Edited r) where
+    pub edited-long : minimumOf (layoutFor ts) p ≤ length r
+    edited-long = rw (e .row-is, laid-length (e .parts)) (omega arith)
+
+    pub edited-head : take 4 r ≡ head
+    unfolding lay
+    edited-head = rw (e .row-is, append-assoc head) (take-at head _ 4 (q .four))
+
+    -- ---- it is sound
+
+    own-sound : (x : Bool) → isVarlen t ≡ x → soundPart p ts newBits (e .new-region) (e .new-cells) i ≡ true
+    own-sound true v = rw (bit-new, e .own-varchar v, v) (written-cell t c (writes-form w))
+    own-sound false v = rw (bit-new, v) (written-slot t c _ (writes-form w) (λ b f. rw v at (ap bytes (e .own b f))))
+
+    other-sound : (j : ℕ) → j < length ts → (i ≡ j → ⊥) → soundPart p ts newBits (e .new-region) (e .new-cells) j ≡ soundPart p ts bits region ps j
+    other-sound j l ne = rw (bit-kept j ne, e .others j l ne)
+
+    each-sound : (j : ℕ) → j < length ts → soundPart p ts newBits (e .new-region) (e .new-cells) j ≡ true
+    each-sound j l = same-or i j (λ f. ap (soundPart p ts newBits (e .new-region) (e .new-cells)) (sym f) ∙ own-sound (isVarlen t) refl) (λ ne. other-sound j l ne ∙ sound j l)
+
+    pub edited-sound : isSoundIn (layoutFor ts) p ts r ≡ true
+    edited-sound = rw (e .row-is) (laid-sound (e .parts) each-sound)
+
+    -- ---- what is read of it
+
+    content-new : (j : ℕ) → j < length ts → columnContent ts p j r ≡ heldContent (typeAt ts j) j (eqb (bitAt j newBits) 1) (heldPart p ts (e .new-region) (e .new-cells) j)
+    content-new j l = rw (e .row-is) (content-lay (e .parts) j l)
+
+    others-content : (j : ℕ) → j < length ts → (i ≡ j → ⊥) → columnContent ts p j r ≡ columnContent ts p j row
+    others-content j l ne = content-new j l ∙ rw (bit-kept j ne, e .others j l ne) (sym (content-lay q j l))
+
+    own-content : columnContent ts p i r ≡ writtenContent w
+    own-content = content-new i h ∙ rw bit-new (by-cell c refl) ∙ written-content i w
+      where
+        by-cell : (d : Cell) → c ≡ d → heldContent t i (eqb (nullBit c) 1) (heldPart p ts (e .new-region) (e .new-cells) i) ≡ heldContent t i (eqb (nullBit c) 1) c
+        by-cell none f = rw f (null-held t i (heldPart p ts (e .new-region) (e .new-cells) i))
+        by-cell (some b) f = ap (heldContent t i (eqb (nullBit c) 1)) (e .own b f ∙ sym f)
+
+    payload-change : (x : Bool) → isVarlen t ≡ x → length r + length (payloadOf ts p i row) ≡ length row + length (payloadOf ts p i r)
+    payload-change true v =
+        let old : length (payloadOf ts p i row) ≡ length (bytes (heldPart p ts region ps i)) = ap length (payload-lay q i h v (sound i h)) in
+        let new : length (payloadOf ts p i r) ≡ length (bytes c) = ap (λ (x : List ℕ). length (payloadOf ts p i x)) (e .row-is) ∙ ap length (payload-lay (e .parts) i h v (each-sound i h) ∙ ap bytes (e .own-varchar v)) in
+        ap (λ (n : ℕ). length r + n) old ∙ e .long-varchar v ∙ ap (λ (n : ℕ). length row + n) (sym new)
+    payload-change false v = rw v (ap (λ (n : ℕ). n + 0) (e .long-fixed v))
+
+    long-new : length r ≡ lengthIn ts p r
+    long-new = subst (λ (x : List ℕ). length x ≡ lengthIn ts p x) (sym (e .row-is)) (payload-length (e .parts) each-sound)
+
+    pub reread : Reread ts p i (writtenContent w) row r
+    reread = record { own = own-content; others = others-content; long = long-new; change = payload-change (isVarlen t) refl }

@@ -2,24 +2,26 @@
 use Prim.Native.Nat.{ℕ, zero, suc, _+_, _*_, _-_, _/_, _^_, _≤_, _<_}
 use mathlib.Core.Path.{_≡_, refl, sym, ap, ap₂, _∙_}
 use mathlib.Core.Bool.{Bool, true, false, cond}
-use mathlib.Core.List.{List, [], _∷_, _++_, map, append-assoc}
+use mathlib.Core.List.{List, [], _∷_, _++_, map, append-nil, append-assoc}
 use mathlib.Core.Option.{none, some}
+use native.Mathlib.Nat.{add-zero}
+use native.Mathlib.Numerals.{add-one}
 use native.Mathlib.Omega.{arith}
 use borrow.Author.Tests.{le-ltb, ne-eqb, eq-eqb}
-use lib.Dec.{eqb, ltb}
+use lib.Dec.{eqb}
 use lib.ListN.{length, getD, take, drop, length-append, length-drop, length-map, List·getD-append}
-use lib.Seq.{drop-drop, drop-at, take-append-le, drop-append-le, length-take-le}
+use lib.Seq.{drop-drop, drop-at, take-all, take-suc, take-append-le, drop-append-le, length-take-le}
 use Rattle.laws.specs.Bits.{bitAt}
 use Rattle.laws.specs.Bytes.{fromTable, entryAt}
 use Rattle.laws.proofs.Maps.{take-map, at-map}
-use Rattle.text.specs.Rfc3629.{isText}
 use Rattle.row_format.specs.declared.Shape.{Shape}
 use Rattle.row_format.specs.declared.Shape.the-variants.{Fixed, Varlen}
-use Rattle.row_format.specs.Places.{varlens, fixedSize, rankOf, slotStart, bitmapStart, bitmapSize, tableStart, fixedStart, offsetWidth}
+use Rattle.row_format.specs.Places.{rankAfter, varlens, fixedSize, rankOf, slotStart, bitmapStart, bitmapSize, tableStart, fixedStart, offsetWidth}
 use Rattle.row_format.specs.Table.{Cell, bytes, payloads, offset, base, lay, firstOffset, rangeEnd, rangeBytes}
 use Rattle.row_format.specs.Row.{slotSize}
-use Rattle.row_format.proofs.Places.{slot-inside, rank-inside}
-use Rattle.row_format.proofs.Table.{length-lay, past-table, table-read, first-offsets, place, entry-lay, end-lay, range-lay}
+use Rattle.row_format.proofs.Places.{through-next, slot-inside, rank-inside}
+use Rattle.row_format.proofs.Table.{payloads-append, length-lay, past-table, table-read, first-offsets, place, entry-lay, end-lay, range-lay}
+use Rattle.row_layout.specs.declared.RowLayout.{RowLayout}
 use Rattle.row_layout.specs.Layout.{layoutOf, sizeIn, minimumOf}
 use Rattle.row_layout.specs.Range.{rangeOf}
 use Rattle.row_layout.proofs.Columns.{layout-slot}
@@ -28,95 +30,52 @@ use Rattle.datatype.specs.declared.DataType.the-variants as T
 use Rattle.datatype.specs.Types.{sizeOf, alignmentOf, isVarlen, shapeOf}
 use Rattle.datatype.specs.Check.{typeAt, layoutFor, layoutBefore}
 use Rattle.datatype.proofs.Again.{all-aligned}
-use Rattle.value.specs.declared.DataValue.{DataValue}
 use Rattle.value.specs.declared.DataValue.the-variants as D
-use Rattle.stored_form.specs.declared.SlotRead.{SlotRead}
-use Rattle.stored_form.specs.declared.SlotRead.the-variants as Slot
-use Rattle.stored_form.specs.Read.{valueIf, whole, readSlot}
 use Rattle.row_column.specs.declared.ColumnRead.the-variants.{Value}
-use Rattle.row_column.specs.Column.{slotValue, readBytes, varlenValue}
-use Rattle.row_sound.specs.Sound.{reads, zeroIfNull, soundColumn, firstPayload, isSoundIn}
+use Rattle.row_column.specs.Column.{readBytes, varlenValue, columnValue}
+use Rattle.row_sound.specs.Sound.{reads, zeroIfNull, offsetSound, soundColumn, firstPayload, isSoundIn}
+use Rattle.row_sound.specs.Reread.{Content, content, columnContent, payloadOf, payloadBytes, lengthIn}
 use Rattle.row_sound.proofs.Columns.{columns-sound}
+use Rattle.row_sound.proofs.Contents.{heldValue, heldContent, soundCell, soundSlot, reads-content, content-held, cell-sound, slot-sound, sound-payload}
 
--- ---- bytes that are a value, wherever they stand
-
-abbrev isValue : SlotRead → Bool
-isValue (Slot.Value v) = true
-isValue Slot.NoValue = false
-
-abbrev pub isForm : DataType → List ℕ → Bool
-isForm t bs = isValue (readSlot t 0 bs)
-
-value-if : (x : Bool) (u v : DataValue) → isValue (valueIf x u) ≡ isValue (valueIf x v)
-value-if true u v = refl
-value-if false u v = refl
-
-value-unless : (y x : Bool) (u v : DataValue) → isValue (cond y Slot.NoValue (valueIf x u)) ≡ isValue (cond y Slot.NoValue (valueIf x v))
-value-unless true x u v = refl
-value-unless false x u v = value-if x u v
-
-pub form-anywhere : (t : DataType) (at : ℕ) (bs : List ℕ) → isValue (readSlot t at bs) ≡ isForm t bs
-form-anywhere T.SmallInt at bs = refl
-form-anywhere T.Int at bs = refl
-form-anywhere T.BigInt at bs = refl
-form-anywhere T.Real at bs = refl
-form-anywhere T.DoublePrecision at bs = refl
-form-anywhere (T.Numeric p s) at bs = refl
-form-anywhere (T.Decimal p s) at bs = refl
-form-anywhere T.Bool at bs = refl
-form-anywhere (T.Char n) at bs = value-if (isText bs) (D.Char (whole at bs)) (D.Char (whole 0 bs))
-form-anywhere (T.Character n) at bs = value-if (isText bs) (D.Char (whole at bs)) (D.Char (whole 0 bs))
-form-anywhere (T.Varchar n) at bs = value-unless (ltb n (length bs)) (isText bs) (D.Varchar (whole at bs)) (D.Varchar (whole 0 bs))
-form-anywhere T.Date at bs = refl
-form-anywhere T.Time at bs = refl
-form-anywhere (T.Bit n) at bs = refl
-form-anywhere T.Timestamp at bs = refl
-
-reads-slot : (i : ℕ) (s : SlotRead) → reads (slotValue i s) ≡ isValue s
-reads-slot i (Slot.Value v) = refl
-reads-slot i Slot.NoValue = refl
-
-cond-itself : (x : Bool) → cond x true false ≡ x
-cond-itself true = refl
-cond-itself false = refl
-
--- ---- a column that is sound, by whether its bit is set
-
-abbrev pub soundCell : DataType → Bool → Cell → Bool
-soundCell t null none = null
-soundCell t null (some b) = cond null false (isForm t b)
-
-abbrev pub soundSlot : DataType → Bool → List ℕ → Bool
-soundSlot t null slot = cond null true (isForm t slot)
+-- ---- a column of a row, by the places of its bytes
 
 -- a Varchar of rank k whose payload stands at `at` and holds the cell c
 module _ (t : DataType) (i table v k at : ℕ) (r : List ℕ) (pos : 0 < at) where
-  varchar-sound : (null : Bool) (c : Cell) → entryAt offsetWidth table k r ≡ offset c at → rangeEnd offsetWidth table v k r ≡ at + length (bytes c) → at + length (bytes c) ≤ length r
-      → ((b : List ℕ) → c ≡ some b → rangeBytes offsetWidth table v k r ≡ b)
-      → cond (reads (cond null (Value D.Null) (varlenValue t i r (rangeOf table v k r)))) (zeroIfNull (entryAt offsetWidth table k r) null) false ≡ soundCell t null c
-  unfolding rangeBytes
-  varchar-sound true none o e l h = rw o
-  varchar-sound false none o e l h = rw o
-  varchar-sound true (some b) o e l h = rw (o, ne-eqb at 0 (λ z. omega arith))
-  varchar-sound false (some b) o e l h =
-      let is : take (at + length b - at) (drop at r) ≡ b = rw (e, o) at (h b refl) in
-      rw (o, ne-eqb at 0 (λ z. omega arith), e, le-ltb (at + length b) at (omega arith), le-ltb (length r) (at + length b) l, is, reads-slot, form-anywhere) (cond-itself (isForm t b))
+  varchar-value : (null : Bool) (c : Cell) → entryAt offsetWidth table k r ≡ offset c at → rangeEnd offsetWidth table v k r ≡ at + length (bytes c) → at + length (bytes c) ≤ length r
+      → ((b : List ℕ) → c ≡ some b → take (length b) (drop at r) ≡ b)
+      → cond null (Value D.Null) (varlenValue t i r (rangeOf table v k r)) ≡ heldValue t i null at c
+  varchar-value true none o e l h = refl
+  varchar-value false none o e l h = rw o
+  varchar-value true (some b) o e l h = refl
+  varchar-value false (some b) o e l h =
+      let size : at + length b - at ≡ length b = omega arith in
+      rw (o, ne-eqb at 0 (λ z. omega arith), e, le-ltb (at + length b) at (omega arith), le-ltb (length r) (at + length b) l, size, h b refl)
 
 -- a fixed column whose slot stands at `at`
-slot-sound : (t : DataType) (i at : ℕ) (r slot : List ℕ) (null : Bool) → take (sizeOf t) (drop at r) ≡ slot
-    → cond (reads (cond null (Value D.Null) (readBytes t i r at (at + sizeOf t)))) true false ≡ soundSlot t null slot
-slot-sound t i at r slot true e = refl
-slot-sound t i at r slot false e =
+slot-value : (t : DataType) (i at : ℕ) (r slot : List ℕ) (null : Bool) → take (sizeOf t) (drop at r) ≡ slot
+    → cond null (Value D.Null) (readBytes t i r at (at + sizeOf t)) ≡ heldValue t i null at (some slot)
+slot-value t i at r slot true e = refl
+slot-value t i at r slot false e =
     let size : at + sizeOf t - at ≡ sizeOf t = omega arith in
-    rw (size, e, reads-slot, form-anywhere) (cond-itself (isForm t slot))
+    rw (size, e)
 
 -- ---- a row that is laid out of a header, a bitmap, a region of fixed columns and the cells of Varchars
 
--- its column i
+-- its column i: a Varchar's cell, a fixed column's slot
+abbrev pub heldPart : Bool → List DataType → List ℕ → List Cell → ℕ → Cell
+heldPart p ts region ps i = cond (isVarlen (typeAt ts i)) (getD ps (rankOf (map shapeOf ts) i) none) (some (take (sizeOf (typeAt ts i)) (drop (slotStart p (map shapeOf ts) i) region)))
+
+-- where it stands
+abbrev pub heldPlace : Bool → List DataType → List Cell → ℕ → ℕ
+heldPlace p ts ps i =
+    cond (isVarlen (typeAt ts i)) (minimumOf (layoutFor ts) p + length (payloads (take (rankOf (map shapeOf ts) i) ps)))
+    (fixedStart offsetWidth (length (map shapeOf ts)) (varlens (map shapeOf ts)) + slotStart p (map shapeOf ts) i)
+
+-- whether it is sound
 abbrev pub soundPart : Bool → List DataType → List ℕ → List ℕ → List Cell → ℕ → Bool
 soundPart p ts bits region ps i =
-    cond (isVarlen (typeAt ts i)) (soundCell (typeAt ts i) (eqb (bitAt i bits) 1) (getD ps (rankOf (map shapeOf ts) i) none))
-    (soundSlot (typeAt ts i) (eqb (bitAt i bits) 1) (take (sizeOf (typeAt ts i)) (drop (slotStart p (map shapeOf ts) i) region)))
+    cond (isVarlen (typeAt ts i)) (soundCell (typeAt ts i) (eqb (bitAt i bits) 1) (heldPart p ts region ps i)) (soundSlot (typeAt ts i) (eqb (bitAt i bits) 1) (bytes (heldPart p ts region ps i)))
 
 -- a payload lies among the payloads
 payload-inside : (ps : List Cell) (k : ℕ) → k < length ps → length (payloads (take k ps)) + length (bytes (getD ps k none)) ≤ length (payloads ps)
@@ -180,37 +139,112 @@ module _ {p : Bool} {ts : List DataType} {head bits region : List ℕ} {ps : Lis
     before : layoutBefore ts i ≡ layoutOf (take i ss)
     before = ap layoutOf (sym (take-map shapeOf i ts))
 
-    varchar-lay : isVarlen t ≡ true
-        → cond (reads (cond (eqb (bitAt i (drop bitmapStart row)) 1) (Value D.Null) (varlenValue t i row (rangeOf (tableStart (length ss)) (varlens ss) (rankOf ss i) row)))) (zeroIfNull (entryAt offsetWidth (tableStart (length ss)) (rankOf ss i) row) (eqb (bitAt i (drop bitmapStart row)) 1)) false
-        ≡ soundCell t (eqb (bitAt i bits) 1) (getD ps (rankOf ss i) none)
-    varchar-lay v =
-        let k : ℕ = rankOf ss i in
-        let front : List ℕ = head ++ bits in
-        let inside : k < length ps = rw (q .cells) (rank-inside ss i below (shape-at ts i ∙ rw v)) in
-        let at : ℕ = place offsetWidth front region pos ps k in
-        let c : Cell = getD ps k none in
-        let entry : entryAt offsetWidth (tableStart (length ss)) k row ≡ offset c at = ap (λ (n : ℕ). entryAt offsetWidth n k row) (sym length-front) ∙ entry-lay offsetWidth front region pos ps k inside (q .fits) in
-        let end : rangeEnd offsetWidth (tableStart (length ss)) (varlens ss) k row ≡ at + length (bytes c) = ap₂ (λ (n m : ℕ). rangeEnd offsetWidth n m k row) (sym length-front) (sym (q .cells)) ∙ end-lay offsetWidth front region pos ps k inside (q .fits) in
-        let within : at + length (bytes c) ≤ length row = rw length-lay (omega (arith, payload-inside ps k inside)) in
-        rw (bit-of i h)
-        (varchar-sound t i (tableStart (length ss)) (varlens ss) k at row (omega (arith, pos)) (eqb (bitAt i bits) 1) c entry end within
-        (λ b e. ap₂ (λ (n m : ℕ). rangeBytes offsetWidth n m k row) (sym length-front) (sym (q .cells)) ∙ range-lay offsetWidth front region pos ps k b inside e (q .fits)))
+    abbrev null : Bool
+    null = eqb (bitAt i bits) 1
 
-    fixed-lay : isVarlen t ≡ false
-        → cond (reads (cond (eqb (bitAt i (drop bitmapStart row)) 1) (Value D.Null) (readBytes t i row (fixedStart offsetWidth (length ss) (varlens ss) + slotStart p ss i) (fixedStart offsetWidth (length ss) (varlens ss) + slotStart p ss i + sizeOf t)))) true false
-        ≡ soundSlot t (eqb (bitAt i bits) 1) (take (sizeOf t) (drop (slotStart p ss i) region))
-    fixed-lay v =
-        let is : getD ss i Varlen ≡ Fixed (sizeOf t) (alignmentOf t) = shape-at ts i ∙ rw v in
-        let inside : slotStart p ss i + sizeOf t ≤ length region = rw (q .fixed) (rw (ap slotSize is) at (slot-inside p ss i (all-aligned ts) below)) in
-        rw (bit-of i h) (slot-sound t i (fixedStart offsetWidth (length ss) (varlens ss) + slotStart p ss i) row (take (sizeOf t) (drop (slotStart p ss i) region)) (eqb (bitAt i bits) 1) (slot-of (slotStart p ss i) (sizeOf t) inside))
+    -- a Varchar
+    module _ (v : isVarlen t ≡ true) where
+      abbrev k : ℕ
+      k = rankOf ss i
 
-    by-kind : (x : Bool) → isVarlen t ≡ x → soundColumn (layoutFor ts) p (layoutOf (take i ss)) t row ≡ soundPart p ts bits region ps i
-    unfolding soundColumn
-    by-kind true v = rw (v, length-take-le i ss (omega (arith, below))) (varchar-lay v)
-    by-kind false v = rw (v, layout-slot ss i p (sizeOf t) (alignmentOf t) (shape-at ts i ∙ rw v), length-take-le i ss (omega (arith, below))) (fixed-lay v)
+      abbrev cell : Cell
+      cell = getD ps k none
+
+      abbrev at : ℕ
+      at = minimumOf (layoutFor ts) p + length (payloads (take k ps))
+
+      rank : k < length ps
+      rank = rw (q .cells) (rank-inside ss i below (shape-at ts i ∙ rw v))
+
+      at-is : place offsetWidth (head ++ bits) region pos ps k ≡ at
+      at-is = ap (λ (n : ℕ). n + length (payloads (take k ps))) base-is
+
+      entry : entryAt offsetWidth (tableStart (length ss)) k row ≡ offset cell at
+      entry = ap (λ (n : ℕ). entryAt offsetWidth n k row) (sym length-front) ∙ entry-lay offsetWidth (head ++ bits) region pos ps k rank (q .fits) ∙ ap (offset cell) at-is
+
+      end : rangeEnd offsetWidth (tableStart (length ss)) (varlens ss) k row ≡ at + length (bytes cell)
+      end =
+          ap₂ (λ (n m : ℕ). rangeEnd offsetWidth n m k row) (sym length-front) (sym (q .cells)) ∙ end-lay offsetWidth (head ++ bits) region pos ps k rank (q .fits)
+          ∙ ap (λ (n : ℕ). n + length (bytes cell)) at-is
+
+      within : at + length (bytes cell) ≤ length row
+      within = rw laid-length (omega (arith, payload-inside ps k rank))
+
+      payload : (b : List ℕ) → cell ≡ some b → take (length b) (drop at row) ≡ b
+      unfolding rangeBytes
+      payload b e =
+          let size : at + length b - at ≡ length b = omega arith in
+          let is = ap₂ (λ (n m : ℕ). rangeBytes offsetWidth n m k row) (sym length-front) (sym (q .cells)) ∙ range-lay offsetWidth (head ++ bits) region pos ps k b rank e (q .fits) in
+          rw (end, entry, e, size) at is
+
+      varchar-lay : cond (eqb (bitAt i (drop bitmapStart row)) 1) (Value D.Null) (varlenValue t i row (rangeOf (tableStart (length ss)) (varlens ss) k row)) ≡ heldValue t i null at cell
+      varchar-lay = rw (bit-of i h) (varchar-value t i (tableStart (length ss)) (varlens ss) k at row (omega (arith, pos)) null cell entry end within payload)
+
+      offset-lay : cond (reads (heldContent t i null cell .0)) (zeroIfNull (entryAt offsetWidth (tableStart (length ss)) k row) (eqb (bitAt i (drop bitmapStart row)) 1)) false ≡ soundCell t null cell
+      offset-lay = rw (bit-of i h, entry) (cell-sound t i at null cell (omega (arith, pos)))
+
+    -- a fixed column
+    module _ (v : isVarlen t ≡ false) where
+      abbrev start : ℕ
+      start = fixedStart offsetWidth (length ss) (varlens ss) + slotStart p ss i
+
+      abbrev slot : List ℕ
+      slot = take (sizeOf t) (drop (slotStart p ss i) region)
+
+      inside : slotStart p ss i + sizeOf t ≤ length region
+      inside = let is : getD ss i Varlen ≡ Fixed (sizeOf t) (alignmentOf t) = shape-at ts i ∙ rw v in rw (q .fixed) (rw (ap slotSize is) at (slot-inside p ss i (all-aligned ts) below))
+
+      slot-in : take (sizeOf t) (drop start row) ≡ slot
+      slot-in = slot-of (slotStart p ss i) (sizeOf t) inside
+
+      slot-size : length slot ≡ sizeOf t
+      slot-size = length-take-le (sizeOf t) (drop (slotStart p ss i) region) (rw length-drop (omega (arith, inside)))
+
+      fixed-lay : cond (eqb (bitAt i (drop bitmapStart row)) 1) (Value D.Null) (readBytes t i row start (start + sizeOf t)) ≡ heldValue t i null start (some slot)
+      fixed-lay = rw (bit-of i h) (slot-value t i start row slot null slot-in)
+
+    abbrev held : Cell
+    held = heldPart p ts region ps i
+
+    -- what is read of it
+    pub value-lay : columnValue (layoutFor ts) p (layoutBefore ts i) t row ≡ heldValue t i null (heldPlace p ts ps i) held
+    value-lay = ap (λ (b : RowLayout). columnValue (layoutFor ts) p b t row) before ∙ by-kind (isVarlen t) refl
+      where
+        by-kind : (x : Bool) → isVarlen t ≡ x → columnValue (layoutFor ts) p (layoutOf (take i ss)) t row ≡ heldValue t i null (heldPlace p ts ps i) held
+        by-kind true v = rw (v, length-take-le i ss (omega (arith, below))) (varchar-lay v)
+        by-kind false v = rw (v, layout-slot ss i p (sizeOf t) (alignmentOf t) (shape-at ts i ∙ rw v), length-take-le i ss (omega (arith, below))) (fixed-lay v)
+
+    -- the bytes stand in their place
+    pub held-lay : (b : List ℕ) → held ≡ some b → take (length b) (drop (heldPlace p ts ps i) row) ≡ b
+    held-lay = by-kind (isVarlen t) refl
+      where
+        by-kind : (x : Bool) → isVarlen t ≡ x → (b : List ℕ) → held ≡ some b → take (length b) (drop (heldPlace p ts ps i) row) ≡ b
+        by-kind true v b e = rw v (payload v b (rw v at e))
+        by-kind false v b e =
+            let is : slot v ≡ b = ap bytes (rw v at e) in
+            rw v (rw (slot-size v, slot-in v) at (ap (λ (x : List ℕ). take (length x) (drop (start v) row)) (sym is)) ∙ is)
+
+    pub content-lay : columnContent ts p i row ≡ heldContent t i null held
+    content-lay = ap (content row) value-lay ∙ content-held t i (heldPlace p ts ps i) row null held held-lay
+
+    -- a Varchar's payload
+    pub payload-lay : isVarlen t ≡ true → soundPart p ts bits region ps i ≡ true → payloadOf ts p i row ≡ bytes held
+    payload-lay v s =
+        ap (λ (x : Bool). cond x (columnContent ts p i row .1) []) v
+        ∙ ap (λ (x : Content). x .1) content-lay
+        ∙ sound-payload t i null held v (sym (ap (λ (x : Bool). cond x (soundCell t null held) (soundSlot t null (bytes held))) v) ∙ s)
+
+    reads-lay : reads (columnValue (layoutFor ts) p (layoutBefore ts i) t row) ≡ reads (heldContent t i null held .0)
+    reads-lay = sym (reads-content row (columnValue (layoutFor ts) p (layoutBefore ts i) t row)) ∙ ap (λ (c : Content). reads (c .0)) content-lay
 
     pub column-lay : soundColumn (layoutFor ts) p (layoutBefore ts i) t row ≡ soundPart p ts bits region ps i
-    column-lay = rw before (by-kind (isVarlen t) refl)
+    unfolding soundColumn
+    column-lay = ap (λ (x : Bool). cond x (cond (isVarlen t) (offsetSound (layoutFor ts) (layoutBefore ts i) row) true) false) reads-lay
+        ∙ ap (λ (b : RowLayout). cond (reads (heldContent t i null held .0)) (cond (isVarlen t) (offsetSound (layoutFor ts) b row) true) false) before ∙ by-kind (isVarlen t) refl
+      where
+        by-kind : (x : Bool) → isVarlen t ≡ x → cond (reads (heldContent t i null held .0)) (cond (isVarlen t) (offsetSound (layoutFor ts) (layoutOf (take i ss)) row) true) false ≡ soundPart p ts bits region ps i
+        by-kind true v = rw (v, length-take-le i ss (omega (arith, below))) (offset-lay v)
+        by-kind false v = rw v (slot-sound t i null (slot v))
 
   pub first-lay : firstPayload (layoutFor ts) row ≡ minimumOf (layoutFor ts) p
   first-lay =
@@ -223,3 +257,28 @@ module _ {p : Bool} {ts : List DataType} {head bits region : List ℕ} {ps : Lis
   pub laid-sound : ((i : ℕ) → i < length ts → soundPart p ts bits region ps i ≡ true) → isSoundIn (layoutFor ts) p ts row ≡ true
   laid-sound all =
       rw (columns-sound (layoutFor ts) p row ts (λ i h. column-lay i h ∙ all i h)) (eq-eqb (firstPayload (layoutFor ts) row) (minimumOf (layoutFor ts) p) first-lay)
+
+  -- its length, by the payloads that are read
+  module _ (all : (i : ℕ) → i < length ts → soundPart p ts bits region ps i ≡ true) where
+    payload-next : (n : ℕ) → n < length ts → (x : Bool) → isVarlen (typeAt ts n) ≡ x → length (payloads (take (rankOf ss n) ps)) + length (payloadOf ts p n row) ≡ length (payloads (take (rankOf ss (suc n)) ps))
+    payload-next n l true v =
+        let k : ℕ = rankOf ss n in
+        let next : rankOf ss (suc n) ≡ suc k = through-next rankAfter ss n 0 (below n l) ∙ rw (shape-at ts n, v) (add-one k) in
+        let own : payloadOf ts p n row ≡ bytes (getD ps k none) = payload-lay n l v (all n l) ∙ ap (λ (y : Bool). bytes (cond y (getD ps k none) (some (take (sizeOf (typeAt ts n)) (drop (slotStart p ss n) region))))) v in
+        let cut : length (payloads (take (suc k) ps)) ≡ length (payloads (take k ps)) + length (bytes (getD ps k none)) = rw (take-suc ps k none (rank n l v), payloads-append, length-append, append-nil) in
+        ap (λ (m : ℕ). length (payloads (take k ps)) + m) (ap length own) ∙ sym (ap (λ (m : ℕ). length (payloads (take m ps))) next ∙ cut)
+    payload-next n l false v =
+        let k : ℕ = rankOf ss n in
+        let next : rankOf ss (suc n) ≡ k = through-next rankAfter ss n 0 (below n l) ∙ rw (shape-at ts n, v) in
+        let own : payloadOf ts p n row ≡ [] = ap (λ (y : Bool). cond y (columnContent ts p n row .1) []) v in
+        ap (λ (m : ℕ). length (payloads (take k ps)) + m) (ap length own) ∙ add-zero (length (payloads (take k ps))) ∙ sym (ap (λ (m : ℕ). length (payloads (take m ps))) next)
+
+    payloads-to : (n : ℕ) → n ≤ length ts → payloadBytes ts p row n ≡ length (payloads (take (rankOf ss n) ps))
+    payloads-to zero l = refl
+    payloads-to (suc n) l = ap (λ (m : ℕ). m + length (payloadOf ts p n row)) (payloads-to n (omega arith)) ∙ payload-next n l (isVarlen (typeAt ts n)) refl
+
+    pub payload-length : length row ≡ lengthIn ts p row
+    payload-length =
+        let n : length ts ≡ length ss = sym (length-map ts shapeOf) in
+        let every : take (rankOf ss (length ts)) ps ≡ ps = rw (n, take-all (length ss) ss (omega arith), ← q .cells) (take-all (length ps) ps (omega arith)) in
+        laid-length ∙ ap (λ (m : ℕ). minimumOf (layoutFor ts) p + m) (sym (payloads-to (length ts) (omega arith) ∙ ap (λ (cs : List Cell). length (payloads cs)) every))

@@ -40,10 +40,11 @@ use Rattle.row_sound.specs.declared.Soundness.{Soundness}
 use Rattle.row_sound.specs.declared.Soundness.the-variants.{Sound, NotSound}
 use Rattle.row_sound.specs.Sound.{soundColumn, isSoundIn, isSound, soundIn, soundness, SoundRow}
 use Rattle.row_sound.specs.Written.{Writes, null}
+use Rattle.row_sound.specs.Reread.{writtenContent, lengthIn, Reread}
 use Rattle.row_sound.proofs.Columns.{offsetsOf, sound-at, sound-ranges, sound-long, sound-lay}
-use Rattle.row_sound.proofs.Laid.{soundPart, Parts, shape-at, size-in, column-lay}
+use Rattle.row_sound.proofs.Laid.{soundPart, Parts, shape-at, size-in, column-lay, payload-length}
 use Rattle.row_sound.proofs.Built.{writes-fits, fits-all, cells-frame, cells-sound-in}
-use Rattle.row_sound.proofs.Edits.{edited}
+use Rattle.row_sound.proofs.Edits.{Edited, edited, edited-long, edited-head, edited-sound, reread}
 
 -- ---- what the test says
 
@@ -169,20 +170,32 @@ module _ {limit : ℕ} {ts : List DataType} {p : Bool} {r : List ℕ} (s : Sound
     row-columns j l =
         sym (column-lay row-parts j l) ∙ ap (λ (x : List ℕ). soundColumn (layoutFor ts) p (layoutBefore ts j) (typeAt ts j) x) (sym row-cut) ∙ sound-at p ts r (s .sound) j l
 
+    -- its length, as 01 says it
+    pub sound-length : length r ≡ lengthIn ts p r
+    sound-length = subst (λ (x : List ℕ). length x ≡ lengthIn ts p x) (sym row-cut) (payload-length row-parts row-columns)
+
     -- ---- an edit
 
-    pub edit-sound : (i : ℕ) → i < length ts → (c : Cell) → Writes (typeAt ts i) c → length (editedRow offsetWidth p ss i c r) ≤ limit → SoundRow limit ts p (editedRow offsetWidth p ss i c r)
-    edit-sound i h c w short =
-        let same : editedRow offsetWidth p ss i c r ≡ editedRow offsetWidth p ss i c (lay offsetWidth (head ++ bits) region cells) = ap (editedRow offsetWidth p ss i c) row-cut in
-        let short' : length (editedRow offsetWidth p ss i c (lay offsetWidth (head ++ bits) region cells)) < 256 ^ offsetWidth = subst (λ (n : ℕ). n < 256 ^ offsetWidth) (ap length same) (omega (arith, short, small)) in
-        let e = edited row-parts row-columns i h c w short' in
-        let new : List ℕ = editedRow offsetWidth p ss i c r in
-        let long : minimumOf (layoutFor ts) p ≤ length new = subst (λ (x : List ℕ). minimumOf (layoutFor ts) p ≤ length x) (sym same) (e .long) in
-        let header : take 4 r ≡ take 4 new = sym (ap (take 4) same ∙ e .same-head) in
-        record {
-          frame = sym (frame-depends limit (layoutFor ts) r new header row-short short (rw row-flag (sound-long p ts r (s .sound))) (rw row-flag long)) ∙ s .frame;
-          sound = subst (λ (x : List ℕ). isSoundIn (layoutFor ts) p ts x ≡ true) (sym same) (e .sound-in);
-        }
+    module _ (i : ℕ) (h : i < length ts) (c : Cell) (w : Writes (typeAt ts i) c) (short : length (editedRow offsetWidth p ss i c r) ≤ limit) where
+      abbrev new : List ℕ
+      new = editedRow offsetWidth p ss i c r
+
+      anew : Edited row-parts row-columns i h c w new
+      anew =
+          let same : new ≡ editedRow offsetWidth p ss i c (lay offsetWidth (head ++ bits) region cells) = ap (editedRow offsetWidth p ss i c) row-cut in
+          subst (Edited row-parts row-columns i h c w) (sym same) (edited row-parts row-columns i h c w (subst (λ (n : ℕ). n < 256 ^ offsetWidth) (ap length same) (omega (arith, short, small))))
+
+      -- it is sound again, packed or padded as before
+      pub edit-sound : SoundRow limit ts p new
+      edit-sound =
+          record {
+            frame = sym (frame-depends limit (layoutFor ts) r new (sym (edited-head row-parts row-columns i h c w anew)) row-short short (rw row-flag (sound-long p ts r (s .sound))) (rw row-flag (edited-long row-parts row-columns i h c w anew))) ∙ s .frame;
+            sound = edited-sound row-parts row-columns i h c w anew;
+          }
+
+      -- the column reads as what was put there, the others as before
+      pub edit-reread : Reread ts p i (writtenContent w) r new
+      edit-reread = subst (λ (x : List ℕ). Reread ts p i (writtenContent w) x new) (sym row-cut) (reread row-parts row-columns i h c w anew)
 
 -- ---- a row that is laid out of accepted values, whatever the slots of its null columns hold; one that is built
 

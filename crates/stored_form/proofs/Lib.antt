@@ -1,5 +1,6 @@
 pub mod Lengths
 pub mod Within
+pub mod Anywhere
 pub mod Matched
 pub mod Numbers
 pub mod ReadBack

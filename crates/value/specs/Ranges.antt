@@ -37,3 +37,20 @@ part area r = take (r .length) (drop (r .start) area)
 
 abbrev pub textOf : List ℕ → DataValue → List ℕ
 textOf area v = part area (rangeOf v)
+
+-- v with its text of n bytes at `at`
+abbrev pub moved : ℕ → ℕ → DataValue → DataValue
+moved at n D.Null = D.Null
+moved at n (D.SmallInt z) = D.SmallInt z
+moved at n (D.Int z) = D.Int z
+moved at n (D.BigInt z) = D.BigInt z
+moved at n (D.Real b) = D.Real b
+moved at n (D.DoublePrecision b) = D.DoublePrecision b
+moved at n (D.Numeric m) = D.Numeric m
+moved at n (D.Bool b) = D.Bool b
+moved at n (D.Char r) = D.Char (record { start = at; length = n })
+moved at n (D.Varchar r) = D.Varchar (record { start = at; length = n })
+moved at n (D.Date z) = D.Date z
+moved at n (D.Time z) = D.Time z
+moved at n (D.Bit r) = D.Bit (record { start = at; length = n })
+moved at n (D.Timestamp z) = D.Timestamp z
