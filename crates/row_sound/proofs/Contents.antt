@@ -30,14 +30,11 @@ use Rattle.row_column.specs.declared.ColumnRead.{ColumnRead}
 use Rattle.row_column.specs.declared.ColumnRead.the-variants.{Value, Refused}
 use Rattle.row_column.specs.Column.{slotValue}
 use Rattle.row_sound.specs.Sound.{reads, zeroIfNull}
+use Rattle.row_sound.specs.Slots.{isValue}
 use Rattle.row_sound.specs.Written.{Writes, null, form}
 use Rattle.row_sound.specs.Reread.{Content, content, nullContent, writtenContent}
 
 -- ---- bytes that are a value, wherever they stand
-
-abbrev isValue : SlotRead → Bool
-isValue (Slot.Value v) = true
-isValue Slot.NoValue = false
 
 abbrev pub isForm : DataType → List ℕ → Bool
 isForm t bs = isValue (readSlot t 0 bs)

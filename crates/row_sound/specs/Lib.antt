@@ -1,3 +1,4 @@
 pub mod Sound
 pub mod Written
 pub mod Reread
+pub mod Slots

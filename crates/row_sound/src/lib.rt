@@ -3,18 +3,32 @@ use datatype::DataType;
 use datatype::Record;
 use row_column::ColumnRead;
 use row_column::Frame;
+use row_format::Shape;
 use row_layout::RowLayout;
+use row_layout::VarlenRange;
+use temporal::TimeOfDay;
 ghost use mathlib.Core.Path.{_≡_};
-ghost use mathlib.Core.Bool.{true};
-ghost use Prim.Native.Nat.{_≤_};
-ghost use lib.ListN.{length};
+ghost use mathlib.Core.Bool.{false};
+ghost use Prim.Native.Nat.{_+_, _*_, _/_, _≤_, _<_};
+ghost use lib.ListN.{length, getD, take, drop};
+ghost use mir.Syntax.{w64};
+ghost use mir.Val.{toZ};
+ghost use Rattle.laws.specs.Bytes.{fromLe};
+ghost use Rattle.text.specs.Rfc3629.{isText};
+ghost use Rattle.temporal.specs.Time.{timeOf};
 ghost use Rattle.row_format.specs.Places.{fixedStart, offsetWidth, rowLimit};
-ghost use Rattle.row_layout.specs.Layout.{Bounded, noColumns};
-ghost use Rattle.datatype.specs.Types.{isVarlen};
+ghost use Rattle.row_layout.specs.Layout.{Bounded, Small, noColumns};
+ghost use Rattle.row_layout.specs.Range.{rangeOf};
+ghost use Rattle.datatype.specs.declared.DataType.the-variants.{Char, Varchar};
+ghost use Rattle.datatype.specs.Types.{isVarlen, shapeOf};
+ghost use Rattle.datatype.specs.Schema.{kindOf, recordAt};
+ghost use Rattle.datatype.specs.Steps.{plainSize, plainType, typeIn};
 ghost use Rattle.datatype.specs.Check.{typesIn, Accepted};
+ghost use Rattle.stored_form.specs.Read.{timed, readSlot};
 ghost use Rattle.row_column.specs.Frame.{Framed};
-ghost use Rattle.row_column.specs.Column.{Reachable};
-ghost use Rattle.row_sound.specs.Sound.{offsetSound, soundColumn, soundFrom, firstPayload, soundIn, soundness};
+ghost use Rattle.row_column.specs.Column.{slotPlace, Reachable};
+ghost use Rattle.row_sound.specs.Sound.{soundColumn, soundFrom, firstPayload, soundIn, soundness};
+ghost use Rattle.row_sound.specs.Slots.{isValue, rangeSound, Recorded};
 
 // A sound row is packed or padded.
 pub enum Soundness {
@@ -22,25 +36,93 @@ pub enum Soundness {
     NotSound,
 }
 
-// The offset of a Varchar against its bit.
-fn offset_sound(
+// A stored Time, at `start`.
+fn time_sound(row: &[u8], start: usize) -> bool
+    requires { ⌜ start + 8 ≤ length (now row) ⌝ }
+    ensures { λ r. ⌜ r ≡ isValue (timed (timeOf (toZ w64 (fromLe (take 8 (drop start (now (row .entry)))))))) ⌝ }
+{
+    match temporal::time_of(endian::read_i64(row, start)) {
+        TimeOfDay::Micros(_) => true,
+        TimeOfDay::OutOfRange => false,
+    }
+}
+
+// Whether the bytes at `start` are a value of a kind that no body follows. Any bytes are a number or a truth.
+fn slot_sound(kind: u8, row: &[u8], start: usize) -> bool
+    requires { ⌜ (0 < plainSize (kindOf kind)) × (start + plainSize (kindOf kind) ≤ length (now row)) ⌝ }
+    ensures { λ r. ⌜ r ≡ isValue (readSlot (plainType (kindOf kind)) start (take (plainSize (kindOf kind)) (drop start (now (row .entry))))) ⌝ }
+{
+    match kind {
+        12 => temporal::is_date(endian::read_i32(row, start)),
+        13 => time_sound(row, start),
+        15 => temporal::is_timestamp(endian::read_i64(row, start)),
+        _ => true,
+    }
+}
+
+// A column of such a kind, of `size` bytes. Its slot is looked at only where it could be no value.
+fn plain_sound(
+    kind: u8,
+    size: usize,
     layout: RowLayout,
     packed: bool,
     before: RowLayout,
-    ty: DataType,
     row: &[u8],
 ) -> bool
-    requires { ⌜ Reachable layout packed before ty (now row) × (isVarlen ty ≡ true) ⌝ }
-    ensures { λ r. ⌜ r ≡ offsetSound layout before (now (row .entry)) ⌝ }
+    requires { ⌜ (size ≡ plainSize (kindOf kind)) × ((0 < size) × ((size ≤ 8) × Reachable layout packed before (plainType (kindOf kind)) (now row))) ⌝ }
+    ensures { λ r. ⌜ r ≡ soundColumn layout packed before (plainType (kindOf kind)) (now (row .entry)) ⌝ }
 {
-    let table = layout.varlen_table_offset();
-    let offset = row_layout::offset_at(row, table, before.num_varlen_cols);
-    if null_bitmap::bit_is_set(&row[4..], before.num_columns) {
-        return offset == 0;
+    if kind < 12 {
+        return true;
     }
-    offset != 0
+    if null_bitmap::bit_is_set(&row[4..], before.num_columns) {
+        return true;
+    }
+    let start = layout.fixed_data_start() + before.slot_start(packed, size);
+    slot_sound(kind, row, start)
 }
 
+// The range of a Varchar(n) that is not null.
+fn range_sound(n: usize, row: &[u8], table: usize, varlens: usize, rank: usize) -> bool
+    requires { ⌜ (rank < varlens) × (table + varlens * offsetWidth ≤ length (now row)) ⌝ }
+    ensures { λ r. ⌜ r ≡ rangeSound n (now (row .entry)) (rangeOf table varlens rank (now (row .entry))) ⌝ }
+{
+    match row_layout::varlen_range(row, table, varlens, rank) {
+        VarlenRange::Null => false,
+        VarlenRange::Outside => false,
+        VarlenRange::Bytes(start, end) => {
+            if n < end - start {
+                return false;
+            }
+            text::is_valid(&row[start..end])
+        }
+    }
+}
+
+// A Varchar: the offset of a null is 0, and another has a range.
+fn varchar_sound(n: u16, layout: RowLayout, packed: bool, before: RowLayout, row: &[u8]) -> bool
+    requires { ⌜ Reachable layout packed before (Varchar n) (now row) ⌝ }
+    ensures { λ r. ⌜ r ≡ soundColumn layout packed before (Varchar n) (now (row .entry)) ⌝ }
+{
+    let table = layout.varlen_table_offset();
+    let rank = before.num_varlen_cols;
+    if null_bitmap::bit_is_set(&row[4..], before.num_columns) {
+        let offset = row_layout::offset_at(row, table, rank);
+        return offset == 0;
+    }
+    range_sound(n as usize, row, table, layout.num_varlen_cols, rank)
+}
+
+// The slot of a Char(n).
+fn char_sound(n: u16, layout: RowLayout, packed: bool, before: RowLayout, row: &[u8]) -> bool
+    requires { ⌜ Reachable layout packed before (Char n) (now row) ⌝ }
+    ensures { λ r. ⌜ r ≡ isText (take n (drop (slotPlace layout packed before (Char n)) (now (row .entry)))) ⌝ }
+{
+    let start = layout.fixed_data_start() + before.slot_start(packed, 1);
+    text::is_valid(&row[start..start + n as usize])
+}
+
+// A fixed column, by its reading.
 fn column_sound(
     layout: RowLayout,
     packed: bool,
@@ -48,17 +130,80 @@ fn column_sound(
     ty: DataType,
     row: &[u8],
 ) -> bool
-    requires { ⌜ Reachable layout packed before ty (now row) ⌝ }
+    requires { ⌜ Reachable layout packed before ty (now row) × (isVarlen ty ≡ false) ⌝ }
     ensures { λ r. ⌜ r ≡ soundColumn layout packed before ty (now (row .entry)) ⌝ }
 {
     match row_column::read_column(layout, packed, before, ty, row) {
         ColumnRead::Refused(_) => false,
-        ColumnRead::Value(_) => {
-            if ty.is_variable_length() {
-                return offset_sound(layout, packed, before, ty, row);
-            }
-            true
-        }
+        ColumnRead::Value(_) => true,
+    }
+}
+
+fn record_sound(
+    schema: &[u8],
+    at: usize,
+    layout: RowLayout,
+    packed: bool,
+    before: RowLayout,
+    row: &[u8],
+) -> bool
+    requires { ⌜ Recorded (now schema) at × (Reachable layout packed before (typeIn (recordAt (now schema) at)) (now row) × (isVarlen (typeIn (recordAt (now schema) at)) ≡ false)) ⌝ }
+    ensures { λ r. ⌜ r ≡ soundColumn layout packed before (typeIn (recordAt (now (schema .entry)) at)) (now (row .entry)) ⌝ }
+{
+    match datatype::record_at(schema, at) {
+        Record::Refused(_) => false,
+        Record::Column(ty, _) => column_sound(layout, packed, before, ty, row),
+    }
+}
+
+// A column whose kind is followed by a body. Any bytes are bits.
+fn body_sound(
+    kind: u8,
+    schema: &[u8],
+    at: usize,
+    layout: RowLayout,
+    packed: bool,
+    before: RowLayout,
+    row: &[u8],
+) -> bool
+    requires { ⌜ (kind ≡ getD (now schema) at 0) × ((plainSize (kindOf kind) ≡ 0) × (Recorded (now schema) at × Reachable layout packed before (typeIn (recordAt (now schema) at)) (now row))) ⌝ }
+    ensures { λ r. ⌜ r ≡ soundColumn layout packed before (typeIn (recordAt (now (schema .entry)) at)) (now (row .entry)) ⌝ }
+{
+    let n = endian::read_u16(schema, at + 1);
+    if kind == 11 {
+        return varchar_sound(n, layout, packed, before, row);
+    }
+    if null_bitmap::bit_is_set(&row[4..], before.num_columns) {
+        return true;
+    }
+    match kind {
+        9 => char_sound(n, layout, packed, before, row),
+        10 => char_sound(n, layout, packed, before, row),
+        14 => true,
+        _ => record_sound(schema, at, layout, packed, before, row),
+    }
+}
+
+// The bytes of a Numeric or Decimal.
+fn digits_size(precision: u8) -> usize
+    ensures { λ r. ⌜ (r ≡ (precision + 2) / 2) × (r ≤ 65535) ⌝ }
+{
+    (precision as usize + 2) / 2
+}
+
+// What the layout sees of a column whose kind is followed by a body.
+fn body_shape(kind: u8, schema: &[u8], at: usize) -> Shape
+    requires { ⌜ (kind ≡ getD (now schema) at 0) × ((plainSize (kindOf kind) ≡ 0) × Recorded (now schema) at) ⌝ }
+    ensures { λ r. ⌜ (r ≡ shapeOf (typeIn (recordAt (now (schema .entry)) at))) × Small r ⌝ }
+{
+    let size = digits_size(schema[at + 1]);
+    let n = endian::read_u16(schema, at + 1) as usize;
+    match kind {
+        6 => Shape::Fixed(size, 1),
+        7 => Shape::Fixed(size, 1),
+        11 => Shape::Varlen,
+        14 => Shape::Fixed((n + 7) / 8, 1),
+        _ => Shape::Fixed(n, 1),
     }
 }
 
@@ -70,18 +215,20 @@ fn columns_sound(schema: &[u8], layout: RowLayout, packed: bool, row: &[u8]) -> 
     let mut before = RowLayout::new();
     let mut at = 0;
     while at < schema.len() {
-        match datatype::record_at(schema, at) {
-            Record::Refused(_) => {
+        let kind = schema[at];
+        let size = datatype::plain_size(kind);
+        if size != 0 {
+            if !plain_sound(kind, size, layout, packed, before, row) {
                 return false;
             }
-            Record::Column(ty, next) => {
-                if column_sound(layout, packed, before, ty, row) {
-                    before = before.with_column(ty.shape());
-                    at = next;
-                } else {
-                    return false;
-                }
+            before = before.with_column(Shape::Fixed(size, size));
+            at += 1;
+        } else {
+            if !body_sound(kind, schema, at, layout, packed, before, row) {
+                return false;
             }
+            before = before.with_column(body_shape(kind, schema, at));
+            at += 3;
         }
     }
     true

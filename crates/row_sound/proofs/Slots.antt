@@ -1,0 +1,122 @@
+-- Soundness of a column without the value that is read.
+use Prim.Native.Nat.{ℕ, _+_, _-_, _≤_}
+use mathlib.Core.Path.{_≡_, refl, sym, _∙_}
+use mathlib.Core.Bool.{Bool, true, false, cond, not}
+use mathlib.Core.List.{List}
+use native.Mathlib.Omega.{arith}
+use borrow.Author.Tests.{ltb-false}
+use lib.Dec.{eqb, ltb}
+use lib.ListN.{length, take, drop, length-drop}
+use lib.Seq.{length-take-le}
+use Rattle.laws.specs.Bits.{bitAt}
+use Rattle.laws.specs.Bytes.{entryAt}
+use Rattle.laws.proofs.Truths.{by-cond}
+use Rattle.text.specs.Rfc3629.{isText}
+use Rattle.row_format.specs.Places.{bitmapStart, tableStart, fixedStart, startAt, offsetWidth}
+use Rattle.row_format.specs.Table.{rangeEnd}
+use Rattle.row_layout.specs.declared.RowLayout.{RowLayout}
+use Rattle.row_layout.specs.declared.VarlenRange.{VarlenRange}
+use Rattle.row_layout.specs.declared.VarlenRange.the-variants as Range
+use Rattle.row_layout.specs.Layout.{sizeIn}
+use Rattle.row_layout.specs.Range.{partOf, rangeOf}
+use Rattle.datatype.specs.declared.DataType.{DataType}
+use Rattle.datatype.specs.declared.DataType.the-variants.{Char, Character, Varchar}
+use Rattle.datatype.specs.Types.{sizeOf, alignmentOf, isVarlen}
+use Rattle.value.specs.declared.DataValue.{DataValue}
+use Rattle.value.specs.declared.DataValue.the-variants.{Null}
+use Rattle.stored_form.specs.declared.SlotRead.{SlotRead}
+use Rattle.stored_form.specs.declared.SlotRead.the-variants as Slot
+use Rattle.stored_form.specs.Read.{valueIf, readSlot}
+use Rattle.row_column.specs.declared.ColumnRead.{ColumnRead}
+use Rattle.row_column.specs.declared.ColumnRead.the-variants.{Value}
+use Rattle.row_column.specs.Column.{slotValue, varlenValue, slotPlace, Reachable}
+use Rattle.row_sound.specs.Sound.{reads, soundColumn}
+use Rattle.row_sound.specs.Slots.{isValue, rangeSound}
+
+-- whether the bit of the column after those of layout b is set
+abbrev pub nullBit : RowLayout → List ℕ → Bool
+nullBit b r = eqb (bitAt (b .«num_columns») (drop bitmapStart r)) 1
+
+pub value-if : (t : Bool) (v : DataValue) → t ≡ isValue (valueIf t v)
+value-if true v = refl
+value-if false v = refl
+
+-- ---- a fixed column
+
+fixed-cases : (x : Bool) (i : ℕ) (s : SlotRead) → cond (reads (cond x (Value Null) (slotValue i s))) true false ≡ cond x true (isValue s)
+fixed-cases true i s = refl
+fixed-cases false i (Slot.Value v) = refl
+fixed-cases false i Slot.NoValue = refl
+
+either-way : (x : Bool) {y : Bool} → true ≡ y → true ≡ cond x true y
+either-way true e = refl
+either-way false e = e
+
+pub so-many : (a z : ℕ) → a + z - a ≡ z
+so-many a z = omega arith
+
+text-cases : (t u : Bool) (i : ℕ) (v : DataValue) → cond (reads (slotValue i (cond t Slot.NoValue (valueIf u v)))) true false ≡ cond t false u
+text-cases true u i v = refl
+text-cases false true i v = refl
+text-cases false false i v = refl
+
+module _ (l : RowLayout) (p : Bool) (b : RowLayout) (r : List ℕ) where
+  fixed-sound : (t : DataType) → isVarlen t ≡ false → soundColumn l p b t r ≡ cond (nullBit b r) true (isValue (readSlot t (slotPlace l p b t) (take (sizeOf t) (drop (slotPlace l p b t) r))))
+  unfolding soundColumn
+  fixed-sound t v =
+      rw (v, so-many (slotPlace l p b t) (sizeOf t)) (fixed-cases (nullBit b r) (b .«num_columns») (readSlot t (slotPlace l p b t) (take (sizeOf t) (drop (slotPlace l p b t) r))))
+
+  pub null-sound : (t : DataType) → isVarlen t ≡ false → nullBit b r ≡ true → true ≡ soundColumn l p b t r
+  null-sound t v e = sym (fixed-sound t v ∙ rw e)
+
+  -- of a type that any bytes are a value of
+  pub any-sound : (t : DataType) → isVarlen t ≡ false → ((a : ℕ) (bs : List ℕ) → true ≡ isValue (readSlot t a bs)) → true ≡ soundColumn l p b t r
+  any-sound t v f = either-way (nullBit b r) (f (slotPlace l p b t) (take (sizeOf t) (drop (slotPlace l p b t) r))) ∙ sym (fixed-sound t v)
+
+  -- not null, with a slot of z bytes at a
+  pub slot-told : (t : DataType) → isVarlen t ≡ false → {z : ℕ} → sizeOf t ≡ z → nullBit b r ≡ false → {a : ℕ} → a ≡ slotPlace l p b t → {q : Bool} → q ≡ isValue (readSlot t a (take z (drop a r))) → q ≡ soundColumn l p b t r
+  slot-told t v e f h g = rw (h, ← e) at g ∙ sym (fixed-sound t v ∙ rw f)
+
+  -- where it stands
+  pub place-is : (t : DataType) {z : ℕ} → alignmentOf t ≡ z → {f s : ℕ} → f ≡ fixedStart offsetWidth (l .«num_columns») (l .«num_varlen_cols») → s ≡ startAt p z (sizeIn b p) → f + s ≡ slotPlace l p b t
+  place-is t e g h = rw (g, h, e)
+
+  -- Character is stored as Char is
+  pub as-char : {n : ℕ} → Reachable l p b (Character n) r → Reachable l p b (Char n) r
+  as-char k = record { whole = k .whole; before = k .before; digits = k .digits; column = k .column; table = k .table; rank = λ v. k .rank v; slot = λ v. k .slot v }
+
+  -- ---- a Varchar
+
+  module _ (n i : ℕ) where
+    abbrev Same : VarlenRange → Type 0
+    Same g = cond (reads (varlenValue (Varchar n) i r g)) true false ≡ rangeSound n r g
+
+    bytes-same : (a e : ℕ) → a ≤ e → e ≤ length r → Same (Range.Bytes a e)
+    bytes-same a e h k =
+        let m : length (take (e - a) (drop a r)) ≡ e - a = length-take-le (e - a) (drop a r) (rw length-drop (omega arith)) in
+        rw m (text-cases (ltb n (e - a)) (isText (take (e - a) (drop a r))) i _)
+
+    part-same : (a e : ℕ) → Same (partOf (length r) a e)
+    part-same a e =
+        by-cond Same (ltb e a) Range.Outside _ (λ f. refl)
+        (λ f. by-cond Same (ltb (length r) e) Range.Outside (Range.Bytes a e) (λ g. refl) (λ g. bytes-same a e (ltb-false e a f) (ltb-false (length r) e g)))
+
+    range-cases : (z : Bool) (g : VarlenRange) → Same g → cond (reads (varlenValue (Varchar n) i r (cond z Range.Null g))) (not z) false ≡ rangeSound n r (cond z Range.Null g)
+    range-cases true g h = refl
+    range-cases false g h = h
+
+  varchar-cases : (x z : Bool) (c : ColumnRead) (w : Bool) → cond (reads c) (not z) false ≡ w → cond (reads (cond x (Value Null) c)) (cond x z (not z)) false ≡ cond x z w
+  varchar-cases true z c w h = refl
+  varchar-cases false z c w h = h
+
+  abbrev offsetOf : ℕ
+  offsetOf = entryAt offsetWidth (tableStart (l .«num_columns»)) (b .«num_varlen_cols») r
+
+  abbrev rangeIn : VarlenRange
+  rangeIn = rangeOf (tableStart (l .«num_columns»)) (l .«num_varlen_cols») (b .«num_varlen_cols») r
+
+  pub varchar-told : (n : ℕ) → soundColumn l p b (Varchar n) r ≡ cond (nullBit b r) (eqb offsetOf 0) (rangeSound n r rangeIn)
+  unfolding soundColumn
+  varchar-told n =
+      let i : ℕ = b .«num_columns» in
+      varchar-cases (nullBit b r) (eqb offsetOf 0) (varlenValue (Varchar n) i r rangeIn) (rangeSound n r rangeIn) (range-cases n i (eqb offsetOf 0) (partOf (length r) offsetOf (rangeEnd offsetWidth (tableStart (l .«num_columns»)) (l .«num_varlen_cols») (b .«num_varlen_cols») r)) (part-same n i offsetOf (rangeEnd offsetWidth (tableStart (l .«num_columns»)) (l .«num_varlen_cols») (b .«num_varlen_cols») r)))
