@@ -114,3 +114,13 @@ pub fn with_null(schema: &[u8], buf: &mut [u8], handle: RowHandle, column: usize
         }
     }
 }
+
+// The column set to null, and the handle with it.
+pub fn set_null(handle: &mut RowHandle, schema: &[u8], buf: &mut [u8], column: usize) -> Answer
+    ensures { λ r. ⌜ (r, (now (buf .exit), now (handle .exit))) ≡ handleSetNull offsetWidth rowLimit (now (schema .entry)) (now (buf .entry)) (now (handle .entry)) column ⌝ }
+{
+    let before = *handle;
+    let edited = with_null(schema, buf, before, column);
+    *handle = edited.handle;
+    edited.answer
+}
