@@ -1,1 +1,2 @@
 mod Handling
+mod Parts

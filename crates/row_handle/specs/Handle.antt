@@ -1,7 +1,7 @@
 -- 01, "What must change shape": "a small row handle of length and layout is lent and changed by the set calls". What such a call answers, what it leaves in
 -- the buffer, and what in the handle.
 use Prim.Native.Nat.{ℕ}
-use mathlib.Core.Bool.{Bool}
+use mathlib.Core.Bool.{Bool, false}
 use mathlib.Core.List.{List}
 use Rattle.error.specs.declared.Answer.{Answer}
 use Rattle.error.specs.declared.Answer.the-variants.{Done, Refused}
@@ -41,3 +41,13 @@ handleSet w limit schema buf h i list area = handled schema h (setCall w limit s
 
 abbrev pub handleSetNull : ℕ → ℕ → List ℕ → List ℕ → RowHandle → ℕ → Handled
 handleSetNull w limit schema buf h i = handled schema h (setNullCall w limit schema buf (h .length) i)
+
+-- ---- how a handle is made
+
+-- of a row of n bytes whose layout nobody has stored yet
+abbrev pub handleAt : ℕ → RowHandle
+handleAt n = record { length = n; layout = record { «num_columns» = 0; «num_varlen_cols» = 0; «fixed_size» = 0; packed = false } }
+
+-- from fresh; after a refusal of a row of no bytes
+abbrev pub handleFresh : ℕ → ℕ → List ℕ → List ℕ → Handled
+handleFresh w limit schema out = handled schema (handleAt 0) (freshCall w limit schema out)
