@@ -1,2 +1,4 @@
 mod Handling
 mod Parts
+pub mod Flag
+pub mod Runs

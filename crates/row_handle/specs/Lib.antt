@@ -1,1 +1,2 @@
 pub mod Handle
+pub mod Runs
