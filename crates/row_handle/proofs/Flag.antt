@@ -1,7 +1,7 @@
 -- How a plain call ends, whatever it is called with; and that an accepted one keeps the row's flag.
-use Prim.Native.Nat.{ℕ, _≤_, _<_, _^_}
-use mathlib.Core.Bool.{Bool, true, cond}
-use mathlib.Core.List.{List, [], _∷_, _++_, map}
+use Prim.Native.Nat.{ℕ, _≤_, _<_}
+use mathlib.Core.Bool.{Bool, cond}
+use mathlib.Core.List.{List, [], _∷_, _++_}
 use mathlib.Core.Option.{none, some}
 use mathlib.Core.Path.{_≡_, refl, sym, ap, _∙_, subst}
 use native.Mathlib.Omega.{arith}
@@ -9,7 +9,7 @@ use borrow.Author.Tests.{ltb-false}
 use lib.Dec.{leb, ltb}
 use lib.ListN.{length, take, drop, take-append-drop}
 use lib.Seq.{sets, length-take-le}
-use Rattle.laws.proofs.Bytes.{AllBytes, Below, all-below, below-take}
+use Rattle.laws.proofs.Bytes.{AllBytes, all-below, below-take}
 use Rattle.laws.proofs.Stores.{sets-start}
 use Rattle.laws.proofs.Truths.{by-cond}
 use Rattle.error.specs.declared.Refusal.the-variants.{NoSuchColumn, NoRoom, NotSound}

@@ -11,10 +11,10 @@ use Rattle.error.specs.declared.Answer.{Answer}
 use Rattle.error.specs.Answer.{Outcome}
 use Rattle.row_format.specs.Row.{packedFlag}
 use Rattle.row_layout.specs.declared.RowLayout.{RowLayout}
-use Rattle.datatype.specs.Check.{layoutFor, typesIn, Accepted}
+use Rattle.datatype.specs.Check.{Accepted}
 use Rattle.row_column.specs.Frame.{isPacked, varlenField}
 use Rattle.row_handle.specs.declared.RowHandle.{RowHandle}
-use Rattle.row_handle.specs.Handle.{geometry, layoutOf, handleAfter, handled}
+use Rattle.row_handle.specs.Handle.{geometry, handleAfter, handled}
 
 -- fewer bytes than a header's have no flag
 pub short-flag : (r : List ℕ) → AllBytes r → length r < 4 → false ≡ isPacked r

@@ -2,3 +2,4 @@ mod Handling
 mod Parts
 pub mod Flag
 pub mod Runs
+pub mod Worked

@@ -1,34 +1,33 @@
 -- A run of calls through a handle against the run of the plain calls, and the handle's layout after it.
 use Prim.Native.Nat.{ℕ}
-use mathlib.Core.Bool.{Bool, true}
+use mathlib.Core.Bool.{true}
 use mathlib.Core.List.{List, [], _∷_, _++_, map}
 use mathlib.Core.Option.{none, some}
 use mathlib.Core.Path.{_≡_, refl, sym, ap, _∙_, subst}
 use lib.ListN.{length, replicate}
 use Rattle.error.specs.declared.Answer.{Answer}
 use Rattle.error.specs.declared.Answer.the-variants.{Done, Refused}
-use Rattle.error.specs.Answer.{Outcome, placed}
+use Rattle.error.specs.Answer.{Outcome}
 use Rattle.row_format.specs.Places.{offsetWidth, rowLimit}
 use Rattle.row_format.specs.Zeroed.{zeroedRow}
 use Rattle.datatype.specs.declared.DataType.{DataType}
 use Rattle.datatype.specs.Types.{shapeOf}
-use Rattle.datatype.specs.Schema.{Parsed, schemaOf, types}
-use Rattle.datatype.specs.Check.{typeAt, checked, onSchema, layoutFor, typesIn}
+use Rattle.datatype.specs.Schema.{Parsed}
+use Rattle.datatype.specs.Check.{typeAt, checked, onSchema, typesIn}
 use Rattle.datatype.proofs.Accept.{on-good}
-use Rattle.value_list.specs.Lists.{listOf}
 use Rattle.row_column.specs.Frame.{isPacked}
 use Rattle.row_sound.proofs.Rows.{told-row}
-use Rattle.row_build.specs.Build.{buildCall, freshCall}
+use Rattle.row_build.specs.Build.{freshCall}
 use Rattle.row_edit.specs.Edit.{given, edited}
-use Rattle.history.specs.History.{Call, setValue, setNull, State, rowOf, called, handedBack, next, Entry, noted, run, sheetAfter, texts, lastValues, sheetCells}
-use Rattle.history.specs.Demand.{left, sheet, cells, zeroed}
+use Rattle.history.specs.History.{Call, setValue, setNull, State, rowOf, called, handedBack, next, Entry, noted, run, sheetAfter}
+use Rattle.history.specs.Demand.{left, sheet, zeroed}
 use Rattle.history.proofs.Calls.{Ends, refusal, written, tested-ends, placed-ends}
 use Rattle.history.proofs.Histories.{history, histories}
 use Rattle.history.proofs.Accepts.{accepts}
 use Rattle.row_handle.specs.declared.HandleLayout.{HandleLayout}
 use Rattle.row_handle.specs.declared.RowHandle.{RowHandle}
-use Rattle.row_handle.specs.Handle.{geometry, layoutOf, handleAfter, Handled, handled, handleAt, handleFresh}
-use Rattle.row_handle.specs.Runs.{HandleState, stateOf, handleCalled, handleNext, handleRun, handleAnswers, answers, sheetBy, Laid, HandleHistory, plain, handleLeft, handleZeroed, handleSheet, handleCells, Carries, HandlesTold}
+use Rattle.row_handle.specs.Handle.{layoutOf, handleAfter, Handled, handled, handleAt}
+use Rattle.row_handle.specs.Runs.{HandleState, stateOf, handleCalled, handleNext, handleRun, handleAnswers, answers, sheetBy, Laid, HandleHistory, plain, handleLeft, handleZeroed, handleSheet, Carries, HandlesTold}
 use Rattle.row_handle.proofs.Flag.{opened-ends, flag-row}
 
 module _ (w limit : ℕ) (schema : List ℕ) where

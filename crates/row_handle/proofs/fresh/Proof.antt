@@ -12,9 +12,6 @@ use Rattle.row_handle.specs.declared.RowHandle.{RowHandle}
 use Rattle.row_handle.specs.Handle.{handled}
 use Rattle.row_handle.proofs.Handling.{handled-good}
 use Rattle.row_handle.proofs.fresh.Tie as tie
-use Rattle.datatype.proofs.check_schema.Reads as check-schema-reads
-use Rattle.row_build.proofs.fresh_row.Reads as fresh-row-reads
-use Rattle.row_handle.proofs.handle_after.Reads as handle-after-reads
 
 new-requires : tie.Need-new-requires
 new-requires c κs = search needs

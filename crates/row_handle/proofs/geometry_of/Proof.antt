@@ -1,7 +1,6 @@
 use borrow.Author.Needs.{needs}
 use Rattle.row_handle.proofs.geometry_of.Statement.{statement}
 use Rattle.row_handle.proofs.geometry_of.Tie as tie
-use Rattle.row_handle.proofs.fixed_size.Reads as fixed-size-reads
 
 fixed-size-requires : tie.Need-fixed-size-requires
 fixed-size-requires c κs = search needs

@@ -1,8 +1,6 @@
 use borrow.Author.Needs.{needs}
 use Rattle.row_handle.proofs.handle_after.Statement.{statement}
 use Rattle.row_handle.proofs.handle_after.Tie as tie
-use Rattle.row_handle.proofs.geometry_of.Reads as geometry-of-reads
-use Rattle.row_handle.proofs.is_packed.Reads as is-packed-reads
 
 enum-known-answer : tie.Need-enum-known-answer
 enum-known-answer c = search needs

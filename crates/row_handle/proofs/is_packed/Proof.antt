@@ -3,7 +3,6 @@ use Rattle.row_handle.proofs.is_packed.Statement.{statement}
 use denote.Ref.{now}
 use Rattle.row_handle.proofs.Handling.{short-flag}
 use Rattle.row_handle.proofs.is_packed.Tie as tie
-use Rattle.endian.proofs.read_u16.Reads as read-u16-reads
 
 returns : tie.Need-returns
 returns c = short-flag (now (c .before .before .args .row)) (c .before .shared-slice-known .given) (c .if1 .taken)

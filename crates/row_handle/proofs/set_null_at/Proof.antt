@@ -6,7 +6,6 @@ use Rattle.row_format.specs.Places.{offsetWidth, rowLimit}
 use Rattle.row_handle.specs.declared.RowHandle.{RowHandle}
 use Rattle.row_handle.specs.Handle.{handleSetNull}
 use Rattle.row_handle.proofs.set_null_at.Tie as tie
-use Rattle.row_handle.proofs.with_null.Reads as with-null-reads
 
 new-requires : tie.Need-new-requires
 new-requires c κs = search needs

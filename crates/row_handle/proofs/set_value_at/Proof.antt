@@ -6,7 +6,6 @@ use Rattle.row_format.specs.Places.{offsetWidth, rowLimit}
 use Rattle.row_handle.specs.declared.RowHandle.{RowHandle}
 use Rattle.row_handle.specs.Handle.{handleSet}
 use Rattle.row_handle.proofs.set_value_at.Tie as tie
-use Rattle.row_handle.proofs.with_value.Reads as with-value-reads
 
 new-requires : tie.Need-new-requires
 new-requires c κs = search needs

@@ -8,9 +8,6 @@ use Rattle.datatype.proofs.Accept.{accepted, on-good, on-refused}
 use Rattle.row_handle.specs.Handle.{handled}
 use Rattle.row_handle.proofs.Handling.{handled-good}
 use Rattle.row_handle.proofs.with_value.Tie as tie
-use Rattle.datatype.proofs.check_schema.Reads as check-schema-reads
-use Rattle.row_edit.proofs.set_checked.Reads as set-checked-reads
-use Rattle.row_handle.proofs.handle_after.Reads as handle-after-reads
 
 check-schema-requires : tie.Need-check-schema-requires
 check-schema-requires c κs = search needs
