@@ -10,6 +10,7 @@ ghost use Rattle.row_column.specs.Frame.{isPacked};
 ghost use Rattle.row_handle.specs.Handle.{geometry, handleAfter, handleAt, handleFresh, handleSet, handleSetNull};
 
 // The geometry of a row of a schema: how many columns, how many Varchars, and the bytes of the fixed columns, packed or padded as the row's flag says.
+#[repr(C)]
 pub struct HandleLayout {
     pub num_columns: usize,
     pub num_varlen_cols: usize,
@@ -17,6 +18,7 @@ pub struct HandleLayout {
     pub packed: bool,
 }
 
+#[repr(C)]
 pub struct RowHandle {
     pub length: usize,
     pub layout: HandleLayout,
