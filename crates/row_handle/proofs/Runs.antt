@@ -5,6 +5,7 @@ use mathlib.Core.List.{List, [], _∷_, _++_, map}
 use mathlib.Core.Option.{none, some}
 use mathlib.Core.Path.{_≡_, refl, sym, ap, _∙_, subst}
 use lib.ListN.{length, replicate}
+use Rattle.error.specs.declared.Refusal.{Refusal}
 use Rattle.error.specs.declared.Answer.{Answer}
 use Rattle.error.specs.declared.Answer.the-variants.{Done, Refused}
 use Rattle.error.specs.Answer.{Outcome}
@@ -29,6 +30,10 @@ use Rattle.row_handle.specs.declared.RowHandle.{RowHandle}
 use Rattle.row_handle.specs.Handle.{layoutOf, handleAfter, Handled, handled, handleAt}
 use Rattle.row_handle.specs.Runs.{HandleState, stateOf, handleCalled, handleNext, handleRun, handleAnswers, answers, sheetBy, Laid, HandleHistory, plain, handleLeft, handleZeroed, handleSheet, Carries, HandlesTold}
 use Rattle.row_handle.proofs.Flag.{opened-ends, flag-row}
+
+abbrev IsRefused : Answer → Type 0
+IsRefused (Done m) = ⊥
+IsRefused (Refused e) = Unit {0}
 
 module _ (w limit : ℕ) (schema : List ℕ) where
   -- ---- from any handle: one call
@@ -73,7 +78,7 @@ module _ (w limit : ℕ) (schema : List ℕ) where
 
   -- ---- the layout
 
-  -- a refused call leaves buffer and handle, an accepted one stores the layout
+  -- how each call ends, whatever it is called with
   ends : (c : Call) (s : State) → Ends (s .buf) (λ r. Unit {0}) (called w limit schema c s)
   ends (setValue i list area) s =
       opened-ends w limit schema (s .row-length) i _ λ ts p room sound h. tested-ends (given limit (typeAt ts i) i list area) _ λ b g. placed-ends limit (edited w ts p (s .buf) (s .row-length) i (some b)) λ short fits. tt
@@ -95,6 +100,14 @@ module _ (w limit : ℕ) (schema : List ℕ) where
   pub laid-run : (cs : List Call) (s : HandleState) → Laid schema s → Laid schema (handleRun w limit schema cs s)
   laid-run [] s l = l
   laid-run (c ∷ cs) s l = laid-run cs (handleNext (handleCalled w limit schema c s)) (laid-next c s l)
+
+  -- a refused call leaves buffer and handle as they were
+  refused-of : (s : HandleState) (o : Outcome) → Ends (s .buf) (λ r. Unit {0}) o → {e : Refusal} → o .0 ≡ Refused e → handleNext (handled schema (s .handle) o) ≡ s
+  refused-of s o (refusal b q) f = subst (λ (x : Outcome). handleNext (handled schema (s .handle) x) ≡ s) (sym q) refl
+  refused-of s o (written r q u) f = absurd (subst IsRefused (sym f ∙ ap (λ (x : Outcome). x .0) q) tt)
+
+  pub refused-same : (c : Call) (s : HandleState) {e : Refusal} → handleCalled w limit schema c s .0 ≡ Refused e → handleNext (handleCalled w limit schema c s) ≡ s
+  refused-same c s f = ap handleNext (step c s) ∙ refused-of s (called w limit schema c (stateOf s)) (ends c (stateOf s)) (sym (step-answer c s) ∙ f)
 
   -- "whatever came in": behind an accepted call the handle has the layout of schema and flag, whatever it began with
   pub laid-accepted : (cs : List Call) (c : Call) (ds : List Call) (s : HandleState) {m : ℕ} → handleCalled w limit schema c (handleRun w limit schema cs s) .0 ≡ Done m → Laid schema (handleRun w limit schema (cs ++ c ∷ ds) s)
