@@ -50,6 +50,12 @@ static void show_text(const char *call, rook_text_answer answer) {
         printf("%-28s\"%.*s\" at %zu\n", call, (int)answer.length, (const char *)row + answer.start, answer.start);
 }
 
+static void show_handle(rook_row_handle handle) {
+    rook_row_layout layout = handle.layout;
+    printf("%-28slength %zu, %zu columns, %zu Varchars, %zu fixed bytes, %s\n", "the handle", handle.length,
+           layout.num_columns, layout.num_varlen_cols, layout.fixed_size, layout.packed ? "packed" : "padded");
+}
+
 int main(void) {
     size_t n = sizeof schema;
     uint8_t list[54];
@@ -74,6 +80,15 @@ int main(void) {
     length = show("set column 2 to a text", set(2), row);
     length = show("set column 1 to null", rook_row_set_null(schema, n, row, sizeof row, length, 1), row);
     length = show("set column 3 to null", rook_row_set_null(schema, n, row, sizeof row, length, 3), row);
+
+    rook_row_handle handle = {length, {0, 0, 0, false}};
+    show("handle, column 3 to null", rook_row_handle_set_null(&handle, schema, n, row, sizeof row, 3), row);
+    show_handle(handle);
+    show("handle, set column 1",
+         rook_row_handle_set(&handle, schema, n, row, sizeof row, 1, longer, sizeof longer, bytes("ABCDE"), 5), row);
+    show_handle(handle);
+    show("handle, column 1 to null", rook_row_handle_set_null(&handle, schema, n, row, sizeof row, 1), row);
+    show_handle(handle);
 
     printf("%-28s%u\n", "text: an umlaut", rook_text_valid(bytes("Z\xC3\xBCrich"), 7));
     printf("%-28s%u\n", "text: an umlaut, cut", rook_text_valid(bytes("Z\xC3\xBCrich"), 2));

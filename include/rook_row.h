@@ -1,7 +1,7 @@
 /* The typed-row codec, proved for every input. Link with librook_row.a.
  *
  * Slices. A slice passes as a pointer and then its length, in bytes; `wanted` in column numbers. An empty slice may
- * have any pointer. What a call writes to (`out`, `buf`) overlaps no other slice; slices that it only reads may
+ * have any pointer. What a call writes to (`out`, `buf`, a handle) overlaps no other slice; slices that it only reads may
  * overlap.
  *
  * Answers. Every answer comes back by value. `number` is 0 for done, else that of the refusal; `place` goes with it.
@@ -49,6 +49,7 @@
 #ifndef ROOK_ROW_H
 #define ROOK_ROW_H
 
+#include <stdbool.h>
 #include <stddef.h>
 #include <stdint.h>
 
@@ -74,6 +75,21 @@ typedef struct {
     size_t start; /* in the row */
     size_t length;
 } rook_text_answer;
+
+/* A handle: a row's length, and its layout: how many columns, how many Varchars, the bytes of the fixed columns, and
+ * whether the row is packed. No call uses the layout that it gets, so a handle is made of the length that fresh, build
+ * or an edit handed back, and zeros. */
+typedef struct {
+    size_t num_columns;
+    size_t num_varlen_cols;
+    size_t fixed_size;
+    bool packed;
+} rook_row_layout;
+
+typedef struct {
+    size_t length;
+    rook_row_layout layout;
+} rook_row_handle;
 
 /* The row of nulls.
  * Gets a schema, and writes the row at the front of `out`; bytes past the row stay as they are.
@@ -119,6 +135,15 @@ rook_row_answer rook_row_set(const uint8_t *schema, size_t schema_length, uint8_
  * `buf` is as it was, and `length` is `row_length`. */
 rook_row_answer rook_row_set_null(const uint8_t *schema, size_t schema_length, uint8_t *buf, size_t buf_length,
                                   size_t row_length, size_t column);
+
+/* As rook_row_set and rook_row_set_null, on the row of a handle: `row_length` is the handle's length.
+ * An accepted call stores the row's length afterwards and the row's layout in the handle; a refused one leaves the
+ * handle as it was. */
+rook_row_answer rook_row_handle_set(rook_row_handle *handle, const uint8_t *schema, size_t schema_length, uint8_t *buf,
+                                    size_t buf_length, size_t column, const uint8_t *values, size_t values_length,
+                                    const uint8_t *text, size_t text_length);
+rook_row_answer rook_row_handle_set_null(rook_row_handle *handle, const uint8_t *schema, size_t schema_length,
+                                         uint8_t *buf, size_t buf_length, size_t column);
 
 /* The text of a column.
  * Gets a schema, a row and a column of type Char, Character or Varchar; writes nothing.

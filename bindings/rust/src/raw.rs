@@ -65,6 +65,25 @@ struct TextAnswer {
     length: usize,
 }
 
+/// Where the parts of a row stand: the counts of columns and Varchars, the bytes of the fixed columns, and whether
+/// the row is packed.
+#[repr(C)]
+#[derive(Debug, Clone, Copy, PartialEq, Eq, Hash, Default)]
+pub struct Layout {
+    pub num_columns: usize,
+    pub num_varlen_cols: usize,
+    pub fixed_size: usize,
+    pub packed: bool,
+}
+
+/// A row's length and layout. No call uses the layout that it gets; an accepted one stores the row's.
+#[repr(C)]
+#[derive(Debug, Clone, Copy, PartialEq, Eq, Hash, Default)]
+pub struct Handle {
+    pub length: usize,
+    pub layout: Layout,
+}
+
 // A slice passes as a pointer and a length; include/rook_row.h says the same in C.
 extern "C" {
     fn rook_row_fresh(
@@ -111,6 +130,26 @@ extern "C" {
         buf: *mut u8,
         buf_length: usize,
         row_length: usize,
+        column: usize,
+    ) -> RowAnswer;
+    fn rook_row_handle_set(
+        handle: *mut Handle,
+        schema: *const u8,
+        schema_length: usize,
+        buf: *mut u8,
+        buf_length: usize,
+        column: usize,
+        values: *const u8,
+        values_length: usize,
+        text: *const u8,
+        text_length: usize,
+    ) -> RowAnswer;
+    fn rook_row_handle_set_null(
+        handle: *mut Handle,
+        schema: *const u8,
+        schema_length: usize,
+        buf: *mut u8,
+        buf_length: usize,
         column: usize,
     ) -> RowAnswer;
     fn rook_row_text(
@@ -225,6 +264,52 @@ pub fn set_null(
             buf.as_mut_ptr(),
             buf.len(),
             row_length,
+            column,
+        )
+    };
+    done(answer.number, answer.place, answer.length)
+}
+
+/// As `set`, on the row of a handle, which an accepted call changes.
+pub fn handle_set(
+    handle: &mut Handle,
+    schema: &[u8],
+    buf: &mut [u8],
+    column: usize,
+    values: &[u8],
+    text: &[u8],
+) -> Result<usize, Refusal> {
+    let answer = unsafe {
+        rook_row_handle_set(
+            handle,
+            schema.as_ptr(),
+            schema.len(),
+            buf.as_mut_ptr(),
+            buf.len(),
+            column,
+            values.as_ptr(),
+            values.len(),
+            text.as_ptr(),
+            text.len(),
+        )
+    };
+    done(answer.number, answer.place, answer.length)
+}
+
+/// As `set_null`, on the row of a handle.
+pub fn handle_set_null(
+    handle: &mut Handle,
+    schema: &[u8],
+    buf: &mut [u8],
+    column: usize,
+) -> Result<usize, Refusal> {
+    let answer = unsafe {
+        rook_row_handle_set_null(
+            handle,
+            schema.as_ptr(),
+            schema.len(),
+            buf.as_mut_ptr(),
+            buf.len(),
             column,
         )
     };

@@ -8,6 +8,8 @@ use Rattle.error.specs.declared.Flag.the-variants as Flag
 use Rattle.error.specs.Answer.{Outcome}
 use Rattle.error.specs.Refusal.{numberOf, placeOf}
 use Rattle.laws.specs.Bits.{bitValue}
+use Rattle.row_handle.specs.declared.RowHandle.{RowHandle}
+use Rattle.row_handle.specs.Handle.{Handled}
 use Rattle.rook_row.specs.declared.RowAnswer.{RowAnswer}
 use Rattle.row_text.specs.declared.ColumnText.{ColumnText}
 use Rattle.row_text.specs.declared.ColumnText.the-variants as Text
@@ -30,3 +32,7 @@ flagAnswer (Flag.Refused e) = record { number = numberOf e; place = placeOf e; f
 abbrev pub textAnswer : ColumnText → TextAnswer
 textAnswer (Text.Part x) = record { number = 0; place = 0; start = x .start; length = x .length }
 textAnswer (Text.Refused e) = record { number = numberOf e; place = placeOf e; start = 0; length = 0 }
+
+-- a call through a handle: with the bytes of the buffer and the handle after it
+abbrev pub handleOutcome : ℕ → Handled → RowAnswer × (List ℕ × RowHandle)
+handleOutcome n o = (rowAnswer n (o .0), o .1)

@@ -2,6 +2,7 @@
 // An enum does not cross that border, so an answer is a struct of numbers: document 01's number and place, and what the call hands out.
 use error::Answer;
 use error::Flag;
+use row_handle::RowHandle;
 use row_text::ColumnText;
 ghost use mathlib.Core.Path.{_≡_};
 ghost use Rattle.row_format.specs.Places.{offsetWidth, rowLimit};
@@ -10,10 +11,11 @@ ghost use Rattle.null_bitmap.specs.Bitmap.{nullFlag};
 ghost use Rattle.row_build.specs.Build.{freshCall, buildCall};
 ghost use Rattle.row_decode.specs.Read.{readCall};
 ghost use Rattle.row_edit.specs.Edit.{setCall, setNullCall};
+ghost use Rattle.row_handle.specs.Handle.{handleSet, handleSetNull};
 ghost use Rattle.row_same.specs.Rows.{sameCall};
 ghost use Rattle.row_text.specs.Text.{textCall};
 ghost use Rattle.text.specs.Rfc3629.{isText};
-ghost use Rattle.rook_row.specs.Answers.{rowAnswer, rowOutcome, flagAnswer, textAnswer};
+ghost use Rattle.rook_row.specs.Answers.{rowAnswer, rowOutcome, handleOutcome, flagAnswer, textAnswer};
 
 #[repr(C)]
 pub struct RowAnswer {
@@ -141,6 +143,77 @@ pub extern "C" fn rook_row_set_null(
         row_edit::set_null(schema, buf, row_length, column),
         row_length,
     )
+}
+
+// An answer, and the handle after the call.
+pub struct HandleAnswer {
+    pub answer: RowAnswer,
+    pub handle: RowHandle,
+}
+
+fn handle_value(
+    schema: &[u8],
+    buf: &mut [u8],
+    handle: RowHandle,
+    column: usize,
+    values: &[u8],
+    text: &[u8],
+) -> HandleAnswer
+    ensures { λ r. ⌜ (r .answer, (now (buf .exit), r .handle)) ≡ handleOutcome (handle .length) (handleSet offsetWidth rowLimit (now (schema .entry)) (now (buf .entry)) handle column (now (values .entry)) (now (text .entry))) ⌝ }
+{
+    let edited = row_handle::with_value(schema, buf, handle, column, values, text);
+    let answer = edited.answer;
+    let next = edited.handle;
+    HandleAnswer {
+        answer: row_answer(answer, handle.length),
+        handle: next,
+    }
+}
+
+fn handle_null(schema: &[u8], buf: &mut [u8], handle: RowHandle, column: usize) -> HandleAnswer
+    ensures { λ r. ⌜ (r .answer, (now (buf .exit), r .handle)) ≡ handleOutcome (handle .length) (handleSetNull offsetWidth rowLimit (now (schema .entry)) (now (buf .entry)) handle column) ⌝ }
+{
+    let edited = row_handle::with_null(schema, buf, handle, column);
+    let answer = edited.answer;
+    let next = edited.handle;
+    HandleAnswer {
+        answer: row_answer(answer, handle.length),
+        handle: next,
+    }
+}
+
+// As `rook_row_set`, on the row of a handle: its length is the handle's, which an accepted call changes, with the layout.
+#[no_mangle]
+pub extern "C" fn rook_row_handle_set(
+    handle: &mut RowHandle,
+    schema: &[u8],
+    buf: &mut [u8],
+    column: usize,
+    values: &[u8],
+    text: &[u8],
+) -> RowAnswer
+    ensures { λ r. ⌜ (r, (now (buf .exit), now (handle .exit))) ≡ handleOutcome (now (handle .entry) .length) (handleSet offsetWidth rowLimit (now (schema .entry)) (now (buf .entry)) (now (handle .entry)) column (now (values .entry)) (now (text .entry))) ⌝ }
+{
+    let before = *handle;
+    let edited = handle_value(schema, buf, before, column, values, text);
+    *handle = edited.handle;
+    edited.answer
+}
+
+// As `rook_row_set_null`, on the row of a handle.
+#[no_mangle]
+pub extern "C" fn rook_row_handle_set_null(
+    handle: &mut RowHandle,
+    schema: &[u8],
+    buf: &mut [u8],
+    column: usize,
+) -> RowAnswer
+    ensures { λ r. ⌜ (r, (now (buf .exit), now (handle .exit))) ≡ handleOutcome (now (handle .entry) .length) (handleSetNull offsetWidth rowLimit (now (schema .entry)) (now (buf .entry)) (now (handle .entry)) column) ⌝ }
+{
+    let before = *handle;
+    let edited = handle_null(schema, buf, before, column);
+    *handle = edited.handle;
+    edited.answer
 }
 
 // The text of a column: where it stands in the row. A null has number 0 and an empty range at 0.

@@ -59,7 +59,8 @@ fn write_nulls(layout: RowLayout, out: &mut [u8])
     );
 }
 
-fn fresh_row(layout: RowLayout, out: &mut [u8]) -> Answer
+// Behind the schema's check, for a caller that keeps its layout.
+pub fn fresh_row(layout: RowLayout, out: &mut [u8]) -> Answer
     requires { ⌜ Bounded layout ⌝ }
     ensures { λ r. ⌜ (r, now (out .exit)) ≡ placed (now (out .entry)) (nullRow layout) ⌝ }
 {

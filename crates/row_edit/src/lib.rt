@@ -244,7 +244,8 @@ fn open_row(schema: &[u8], layout: RowLayout, buf: &[u8], n: usize, column: usiz
     }
 }
 
-fn set_checked(
+// Behind the schema's check, for a caller that keeps its layout.
+pub fn set_checked(
     schema: &[u8],
     layout: RowLayout,
     buf: &mut [u8],
@@ -262,7 +263,13 @@ fn set_checked(
     }
 }
 
-fn null_checked(schema: &[u8], layout: RowLayout, buf: &mut [u8], n: usize, column: usize) -> Answer
+pub fn null_checked(
+    schema: &[u8],
+    layout: RowLayout,
+    buf: &mut [u8],
+    n: usize,
+    column: usize,
+) -> Answer
     requires { ⌜ Accepted (now schema) layout ⌝ }
     ensures { λ r. ⌜ (r, now (buf .exit)) ≡ setNullIn offsetWidth rowLimit (now (buf .entry)) n column (typesIn (now (schema .entry))) ⌝ }
 {

@@ -1,0 +1,5 @@
+mod Handling
+mod Parts
+pub mod Flag
+pub mod Runs
+pub mod Worked

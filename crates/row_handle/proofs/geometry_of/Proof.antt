@@ -1,0 +1,12 @@
+use borrow.Author.Needs.{needs}
+use Rattle.row_handle.proofs.geometry_of.Statement.{statement}
+use Rattle.row_handle.proofs.geometry_of.Tie as tie
+
+fixed-size-requires : tie.Need-fixed-size-requires
+fixed-size-requires c κs = search needs
+
+returns : tie.Need-returns
+returns c = rw (c .fixed-size .ensures)
+
+pub geometry-of-spec : {M : Type 1} → statement M
+geometry-of-spec = tie.close (tie.spec fixed-size-requires returns)

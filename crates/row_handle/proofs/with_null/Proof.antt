@@ -1,0 +1,47 @@
+use borrow.Author.Needs.{needs}
+use Rattle.row_handle.proofs.with_null.Statement.{statement}
+use denote.Ref.{now}
+use mathlib.Core.Path.{sym, ap, _∙_}
+use Rattle.row_format.specs.Places.{offsetWidth, rowLimit}
+use Rattle.datatype.specs.Schema.{schemaOf}
+use Rattle.datatype.proofs.Accept.{accepted, on-good, on-refused}
+use Rattle.row_handle.specs.Handle.{handled}
+use Rattle.row_handle.proofs.Handling.{handled-good}
+use Rattle.row_handle.proofs.with_null.Tie as tie
+
+check-schema-requires : tie.Need-check-schema-requires
+check-schema-requires c κs = search needs
+
+enum-known-e : tie.Need-enum-known-e
+enum-known-e c = search needs
+
+enum-known-layout : tie.Need-enum-known-layout
+enum-known-layout c = search needs
+
+null-checked-requires : tie.Need-null-checked-requires
+null-checked-requires c κs = accepted (now (c .before .before .before .before .before .before .before .args .schema)) (sym (c .before .before .before .before .check-schema .ensures .0) ∙ c .before .before .layout .given .1) ((rw (c .before .before .layout .given .1) at (c .before .before .before .before .check-schema .ensures .1)) .bounded)
+
+handle-after-requires : tie.Need-handle-after-requires
+handle-after-requires c κs = search needs
+
+returns : tie.Need-returns
+returns c = ap (handled (now (c .before .before .before .before .before .before .args .schema)) (c .before .before .before .before .before .before .args .handle)) (on-refused (schemaOf offsetWidth rowLimit (now (c .before .before .before .before .before .before .args .schema))) _ _ (sym (c .before .before .before .check-schema .ensures .0) ∙ c .before .e .given .1))
+
+same-length : tie.Need-same-length
+same-length c = search needs
+
+returns-2 : tie.Need-returns-2
+returns-2 c = let good = sym (c .before .before .before .before .before .before .before .before .before .check-schema .ensures .0) ∙ c .before .before .before .before .before .before .before .layout .given .1 in handled-good (now (c .before .before .before .before .before .before .before .before .before .before .before .before .args .schema)) (c .before .before .before .before .before .before .before .before .before .before .before .before .args .handle) (accepted (now (c .before .before .before .before .before .before .before .before .before .before .before .before .args .schema)) good ((rw (c .before .before .before .before .before .before .before .layout .given .1) at (c .before .before .before .before .before .before .before .before .before .check-schema .ensures .1)) .bounded)) (c .before .before .before .before .null-checked .ensures ∙ on-good (now (c .before .before .before .before .before .before .before .before .before .before .before .before .args .schema)) good _ _) (c .handle-after .ensures)
+
+pub with-null-spec : {M : Type 1} → statement M
+with-null-spec =
+    tie.close
+    (tie.spec
+    check-schema-requires
+    enum-known-e
+    enum-known-layout
+    null-checked-requires
+    handle-after-requires
+    returns
+    same-length
+    returns-2)

@@ -1,0 +1,3 @@
+pub mod Handle
+pub mod Runs
+pub mod Worked
