@@ -58,7 +58,20 @@ fn record_size(list: &[u8], at: usize) -> usize
         return 0;
     }
     let body = body_length(kind);
-    if list.len() - at - 1 < body {
+    let left = list.len() - at - 1;
+    if body == 4 {
+        if left < 4 {
+            return 0;
+        }
+        return 5;
+    }
+    if body == 8 {
+        if left < 8 {
+            return 0;
+        }
+        return 9;
+    }
+    if left < body {
         return 0;
     }
     1 + body
