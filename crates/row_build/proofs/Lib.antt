@@ -1,6 +1,7 @@
 pub mod Nulls
 pub mod Tests
 pub mod Walk
+pub mod Held
 pub mod Bits
 pub mod Measuring
 pub mod Cells

@@ -22,7 +22,7 @@ use Rattle.value_list.specs.declared.ValueRecord.the-variants as Value
 use Rattle.value_list.specs.Lists.{values, records as valueRecords, valuesOf}
 use Rattle.value_list.proofs.Lists.{First as FirstValue, records-first}
 use Rattle.row_build.specs.declared.Given.{Given}
-use Rattle.row_build.specs.Steps.{valuesIn, Buildable, Readable, ReadAt}
+use Rattle.row_build.specs.Steps.{valuesIn, Buildable, Readable, ReadAt, valueIn}
 
 -- value i of a list
 abbrev pub valueAt : List DataValue → ℕ → DataValue
@@ -38,11 +38,6 @@ pub record Together (s list : List ℕ) (i at from : ℕ) : Type 0 where
 pub together-start : {s : List ℕ} {l : RowLayout} {list area : List ℕ} → Buildable s l list area → Together s list 0 0 0
 unfolding valuesOf
 together-start {s} {l} {list} b = record { within = omega arith; columns = b .accepted .schema; fuel = length list; given = b .taken }
-
--- what a value record says
-abbrev valueIn : ValueRecord → DataValue
-valueIn (Value.Value v next) = v
-valueIn (Value.Refused e) = Null
 
 abbrev nextIn : ValueRecord → ℕ
 nextIn (Value.Value v next) = next

@@ -1,11 +1,14 @@
 -- For the proofs: what the inner functions hand on.
 use Prim.Native.Nat.{ℕ, _+_, _*_, _/_, _≤_, _<_}
-use mathlib.Core.Bool.{true, false, cond}
+use mathlib.Core.Bool.{Bool, true, false, cond}
 use mathlib.Core.List.{List, [], _++_, map}
 use mathlib.Core.Option.{none, some}
 use mathlib.Core.Path.{_≡_}
-use lib.ListN.{length, replicate}
+use lib.Dec.{eqb, leb, ltb}
+use lib.ListN.{length, getD, replicate}
 use lib.Seq.{sets}
+use mir.Syntax.{w32, w64}
+use mir.Val.{toZ}
 use Rattle.error.specs.declared.Refusal.{Refusal}
 use Rattle.error.specs.declared.Answer.{Answer}
 use Rattle.error.specs.declared.Answer.the-variants as Answer
@@ -19,17 +22,22 @@ use Rattle.row_layout.specs.Layout.{Bounded}
 use Rattle.datatype.specs.declared.DataType.{DataType}
 use Rattle.datatype.specs.declared.Record.the-variants as Column
 use Rattle.datatype.specs.Types.{sizeOf, isVarlen, shapeOf, precisionOf}
-use Rattle.datatype.specs.Schema.{recordAt}
+use Rattle.datatype.specs.Schema.{Kind, unknown, plain, sized, digits, kindOf as columnKind, recordAt}
+use Rattle.datatype.specs.Steps.{plainSize, typeIn}
 use Rattle.datatype.specs.Check.{typesIn, Accepted}
+use Rattle.temporal.specs.Ranges.{isDate, isTime, isTimestamp}
+use Rattle.value.specs.declared.TextRange.{TextRange}
 use Rattle.value.specs.declared.DataValue.{DataValue}
-use Rattle.value.specs.Kinds.{matches}
-use Rattle.value.specs.Ranges.{textOf}
+use Rattle.value.specs.declared.DataValue.the-variants.{Null}
+use Rattle.value.specs.Kinds.{valueKind, matches}
+use Rattle.value.specs.Ranges.{inArea, part, textOf}
+use Rattle.value_list.specs.declared.ValueRecord.{ValueRecord}
 use Rattle.value_list.specs.declared.ValueRecord.the-variants as Value
-use Rattle.value_list.specs.Records.{recordAt as valueRecordAt}
+use Rattle.value_list.specs.Records.{bodyLength, numberAt, rangeAt, recordAt as valueRecordAt}
 use Rattle.value_list.specs.Lists.{Values, values, refused as wrong, valuesOf}
-use Rattle.stored_form.specs.Write.{accepted as holds, storedForm}
+use Rattle.stored_form.specs.Write.{fitsText, accepted as holds, storedForm}
 use Rattle.row_build.specs.declared.Given.{Given}
-use Rattle.row_build.specs.Stored.{Tested, good, refused, isNull, cellsFrom}
+use Rattle.row_build.specs.Stored.{Tested, good, refused, isNull, cellIn, cellsFrom}
 use Rattle.row_build.specs.Build.{freshRow}
 
 -- the bytes of a row of nulls, by its layout: header, bits that are set and spare ones that are clear, zeros
@@ -67,6 +75,50 @@ pub record ReadAt (s : List ℕ) (at : ℕ) (list : List ℕ) (from : ℕ) (g : 
   pub type-is : recordAt s at ≡ Column.Column (g .ty) (g .«next_type»)
   pub value-is : valueRecordAt list from ≡ Value.Value (g .value) (g .«next_value»)
 
+-- ---- the same by the bytes of the records
+
+-- the value that a record says
+abbrev pub valueIn : ValueRecord → DataValue
+valueIn (Value.Value v next) = v
+valueIn (Value.Refused e) = Null
+
+-- the place after a column's record: one byte of kind, and two more where the kind has no size of its own
+abbrev pub afterColumn : List ℕ → ℕ → ℕ
+afterColumn s at = cond (eqb (plainSize (columnKind (getD s at 0))) 0) (at + 3) (at + 1)
+
+-- the records at two places, where there are any
+abbrev pub givenAt : List ℕ → ℕ → List ℕ → ℕ → Given
+givenAt s at list from = record { ty = typeIn (recordAt s at); value = valueIn (valueRecordAt list from); «next_type» = afterColumn s at; «next_value» = from + 1 + bodyLength (getD list from 0) }
+
+abbrev pub declaredAt : List ℕ → ℕ → ℕ
+declaredAt s at = cond (ltb (length s) (at + 3)) 0 (numberAt 2 s (at + 1))
+
+-- the kind of the values of a column
+abbrev pub heldKind : Kind → ℕ
+heldKind unknown = 0
+heldKind (plain t) = valueKind t
+heldKind (sized t) = valueKind (t 0)
+heldKind (digits t) = valueKind (t 0 0)
+
+abbrev pub textSuits : ℕ → TextRange → List ℕ → Bool
+textSuits n r area = cond (inArea (length area) r) (fitsText n (part area r)) false
+
+-- whether a value of kind k, whose body stands at a place of the list, suits the types of that kind; false for Numeric and Bit
+abbrev pub suitsAt : ℕ → ℕ → List ℕ → ℕ → List ℕ → Bool
+suitsAt k n list at area =
+    cond (eqb k 6) false
+    (cond (eqb k 7) (leb (getD list at 0) 1)
+    (cond (eqb k 8) (textSuits n (rangeAt list at) area)
+    (cond (eqb k 9) (textSuits n (rangeAt list at) area)
+    (cond (eqb k 10) (isDate (toZ w32 (numberAt 4 list at)))
+    (cond (eqb k 11) (isTime (toZ w64 (numberAt 8 list at)))
+    (cond (eqb k 12) false
+    (cond (eqb k 13) (isTimestamp (toZ w64 (numberAt 8 list at)))
+    true)))))))
+
+abbrev pub payloadLength : ℕ → List ℕ → ℕ → ℕ
+payloadLength k list at = cond (eqb k 9) (numberAt 2 list (at + 2)) 0
+
 -- ---- the first pass: the row's length
 
 -- the payload that a column's cell adds
@@ -76,6 +128,9 @@ payloadOf t c = cond (isVarlen t) (length (bytes c)) 0
 abbrev pub payloadAnswer : DataType → Tested Cell → Answer
 payloadAnswer t (good c) = Answer.Done (payloadOf t c)
 payloadAnswer t (refused e) = Answer.Refused e
+
+abbrev pub payloadIn : ℕ → List ℕ → ℕ → List ℕ → ℕ → List ℕ → Answer
+payloadIn i s at list from area = payloadAnswer (typeIn (recordAt s at)) (cellIn i (typeIn (recordAt s at)) (valueIn (valueRecordAt list from)) area)
 
 abbrev pub Short : Answer → Type 0
 Short (Answer.Done n) = n ≤ rowLimit

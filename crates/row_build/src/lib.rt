@@ -21,12 +21,14 @@ ghost use Rattle.row_format.specs.Places.{offsetWidth, rowLimit, bitmapStart, b
 ghost use Rattle.row_format.specs.Edit.{bitEdit};
 ghost use Rattle.row_layout.specs.Layout.{Bounded, minimumOf};
 ghost use Rattle.datatype.specs.Types.{isVarlen, precisionOf};
+ghost use Rattle.datatype.specs.Schema.{kindOf};
 ghost use Rattle.datatype.specs.Check.{typesIn, Accepted};
 ghost use Rattle.value.specs.Ranges.{textOf};
+ghost use Rattle.value_list.specs.Records.{bodyLength, rangeAt};
 ghost use Rattle.stored_form.specs.Write.{storedForm};
 ghost use Rattle.row_build.specs.Stored.{isNull, cellIn, cellsFrom};
 ghost use Rattle.row_build.specs.Build.{buildValues, buildRow, buildCall, freshCall};
-ghost use Rattle.row_build.specs.Steps.{nullBits, nullRow, valuesIn, Buildable, Readable, ReadAt, payloadAnswer, Short, measured, fixedStored, varlenStored, columnStored, Storable, rowOf, Fillable};
+ghost use Rattle.row_build.specs.Steps.{nullBits, nullRow, valuesIn, Buildable, Readable, ReadAt, declaredAt, afterColumn, heldKind, textSuits, suitsAt, payloadLength, payloadIn, payloadAnswer, Short, measured, fixedStored, varlenStored, columnStored, Storable, rowOf, Fillable};
 
 // n bits that are set, and clear ones up to the end of the last byte.
 fn write_null_bits(out: &mut [u8], at: usize, n: usize)
@@ -135,6 +137,140 @@ fn payload_size(column: usize, ty: DataType, value: DataValue, text: &[u8]) -> A
     Answer::Done(0)
 }
 
+// The n that follows the kind of a column; 0 where the record is too short for it.
+fn declared_length(schema: &[u8], at: usize) -> usize
+    requires { ⌜ at < length (now schema) ⌝ }
+    ensures { λ r. ⌜ r ≡ declaredAt (now (schema .entry)) at ⌝ }
+{
+    if schema.len() < at + 3 {
+        return 0;
+    }
+    endian::read_u16(schema, at + 1) as usize
+}
+
+// The place after a column's record, which was accepted.
+fn after_column(schema: &[u8], at: usize) -> usize
+    requires { ⌜ at < length (now schema) ⌝ }
+    ensures { λ r. ⌜ r ≡ afterColumn (now (schema .entry)) at ⌝ }
+{
+    if datatype::plain_size(schema[at]) == 0 {
+        return at + 3;
+    }
+    at + 1
+}
+
+// The kind of the values that a column of a kind holds; 0 for no kind.
+fn held_kind(kind: u8) -> u8
+    ensures { λ r. ⌜ r ≡ heldKind (kindOf kind) ⌝ }
+{
+    match kind {
+        1 => 1,
+        2 => 2,
+        3 => 3,
+        4 => 4,
+        5 => 5,
+        6 => 6,
+        7 => 6,
+        8 => 7,
+        9 => 8,
+        10 => 8,
+        11 => 9,
+        12 => 10,
+        13 => 11,
+        14 => 12,
+        15 => 13,
+        _ => 0,
+    }
+}
+
+// Whether the range at a place of the list is a text of at most n bytes.
+fn text_suits(values: &[u8], body: usize, n: usize, text: &[u8]) -> bool
+    requires { ⌜ body + 4 ≤ length (now values) ⌝ }
+    ensures { λ r. ⌜ r ≡ textSuits n (rangeAt (now (values .entry)) body) (now (text .entry)) ⌝ }
+{
+    let start = endian::read_u16(values, body) as usize;
+    let length = endian::read_u16(values, body + 2) as usize;
+    if text.len() < start + length {
+        return false;
+    }
+    if n < length {
+        return false;
+    }
+    text::is_valid(&text[start..start + length])
+}
+
+// Whether a column holds a value of its kind, whose body stands at a place of the list. No for numerics and bits, which are tested as values.
+fn suits_at(kind: u8, n: usize, values: &[u8], body: usize, text: &[u8]) -> bool
+    requires { ⌜ body + bodyLength kind ≤ length (now values) ⌝ }
+    ensures { λ r. ⌜ r ≡ suitsAt kind n (now (values .entry)) body (now (text .entry)) ⌝ }
+{
+    match kind {
+        6 => false,
+        7 => values[body] <= 1,
+        8 => text_suits(values, body, n, text),
+        9 => text_suits(values, body, n, text),
+        10 => temporal::is_date(endian::read_i32(values, body)),
+        11 => temporal::is_time(endian::read_i64(values, body)),
+        12 => false,
+        13 => temporal::is_timestamp(endian::read_i64(values, body)),
+        _ => true,
+    }
+}
+
+// The payload of a value whose body stands at a place of the list.
+fn payload_length(kind: u8, values: &[u8], body: usize) -> usize
+    requires { ⌜ body + bodyLength kind ≤ length (now values) ⌝ }
+    ensures { λ r. ⌜ r ≡ payloadLength kind (now (values .entry)) body ⌝ }
+{
+    if kind == 9 {
+        return endian::read_u16(values, body + 2) as usize;
+    }
+    0
+}
+
+// The same for records at two places, read as a type and a value.
+fn payload_given(
+    schema: &[u8],
+    at: usize,
+    column: usize,
+    values: &[u8],
+    from: usize,
+    text: &[u8],
+) -> Answer
+    requires { ⌜ Readable (now schema) at (now values) from × (length (now text) ≤ rowLimit) ⌝ }
+    ensures { λ r. ⌜ (r ≡ payloadIn column (now (schema .entry)) at (now (values .entry)) from (now (text .entry))) × Short r ⌝ }
+{
+    let given = given_at(schema, at, values, from);
+    let ty = given.ty;
+    let value = given.value;
+    payload_size(column, ty, value, text)
+}
+
+// The same by the bytes of the records, where these show that the value is null or held.
+fn payload_at(
+    schema: &[u8],
+    at: usize,
+    column: usize,
+    values: &[u8],
+    from: usize,
+    text: &[u8],
+) -> Answer
+    requires { ⌜ Readable (now schema) at (now values) from × (length (now text) ≤ rowLimit) ⌝ }
+    ensures { λ r. ⌜ (r ≡ payloadIn column (now (schema .entry)) at (now (values .entry)) from (now (text .entry))) × Short r ⌝ }
+{
+    let kind = values[from];
+    if kind == 0 {
+        return Answer::Done(0);
+    }
+    if kind == held_kind(schema[at]) {
+        let n = declared_length(schema, at);
+        if suits_at(kind, n, values, from + 1, text) {
+            return Answer::Done(payload_length(kind, values, from + 1));
+        }
+    }
+    payload_given(schema, at, column, values, from, text)
+}
+
 // The row's length, or the first refusal.
 fn row_length(schema: &[u8], layout: RowLayout, values: &[u8], text: &[u8]) -> Answer
     requires { ⌜ Buildable (now schema) layout (now values) (now text) ⌝ }
@@ -145,18 +281,15 @@ fn row_length(schema: &[u8], layout: RowLayout, values: &[u8], text: &[u8]) -> A
     let mut at = 0;
     let mut from = 0;
     while column < layout.num_columns {
-        let given = given_at(schema, at, values, from);
-        let ty = given.ty;
-        let value = given.value;
-        match payload_size(column, ty, value, text) {
+        match payload_at(schema, at, column, values, from, text) {
             Answer::Refused(e) => {
                 return Answer::Refused(e);
             }
             Answer::Done(n) => {
                 size += n;
                 column += 1;
-                at = given.next_type;
-                from = given.next_value;
+                at = after_column(schema, at);
+                from = from + 1 + value_list::body_length(values[from]);
             }
         }
     }
