@@ -1,14 +1,13 @@
 -- A column's value by the bytes of both records: what the kinds and the body tell of it.
 use Prim.Native.Nat.{ℕ, _+_, _-_, _≤_, _<_}
-use mathlib.Core.Path.{_≡_, refl, sym, ap, _∙_, subst}
+use mathlib.Core.Path.{_≡_, refl, sym, ap, _∙_}
 use mathlib.Core.Bool.{Bool, true, false, cond, false≢true}
 use mathlib.Core.List.{List}
 use native.Mathlib.Omega.{arith}
-use borrow.Author.Tests.{eq-eqb, ne-eqb, eqb-true, eqb-false, le-leb, lt-leb}
+use borrow.Author.Tests.{eqb-true, eqb-false, le-leb, lt-leb}
 use lib.Dec.{eqb, ltb}
 use lib.ListN.{length, getD, take, drop, length-drop}
 use lib.Seq.{length-take-le}
-use Rattle.error.specs.declared.Refusal.{Refusal}
 use Rattle.error.specs.declared.Refusal.the-variants.{BadRecord, BadSchema}
 use Rattle.error.specs.declared.Answer.the-variants as Answer
 use Rattle.laws.proofs.Truths.{by-cond}
@@ -19,13 +18,13 @@ use Rattle.datatype.specs.declared.DataType.the-variants as T
 use Rattle.datatype.specs.declared.Record.{Record}
 use Rattle.datatype.specs.declared.Record.the-variants.{Column, Refused}
 use Rattle.datatype.specs.Types.{isVarlen}
-use Rattle.datatype.specs.Schema.{Kind, unknown, plain, sized, digits, bodyKind, kindOf as columnKind, goodDigits, recordOf, recordAt}
+use Rattle.datatype.specs.Schema.{Kind, unknown, plain, sized, digits, kindOf as columnKind, goodDigits, recordOf, recordAt}
 use Rattle.datatype.specs.Steps.{plainSize, typeIn}
 use Rattle.datatype.proofs.Records.{Bodied, no, word, pair, bodied}
 use Rattle.datatype.proofs.Plain.{plain-record, body-record}
 use Rattle.value.specs.declared.TextRange.{TextRange}
 use Rattle.value.specs.declared.DataValue.{DataValue}
-use Rattle.value.specs.Kinds.{kindOf, valueKind, matches}
+use Rattle.value.specs.Kinds.{valueKind, matches}
 use Rattle.value.specs.Ranges.{noText, inArea, rangeOf}
 use Rattle.value_list.specs.declared.ValueRecord.{ValueRecord}
 use Rattle.value_list.specs.declared.ValueRecord.the-variants as Value
@@ -33,7 +32,7 @@ use Rattle.value_list.specs.Records.{bodyLength, numberAt, valueAt, recordAt as
 use Rattle.value_list.proofs.Records.{Given, given}
 use Rattle.stored_form.specs.Write.{accepted}
 use Rattle.row_build.specs.Stored.{isNull, cellIn}
-use Rattle.row_build.specs.Steps.{Readable, ReadAt, valueIn, afterColumn, givenAt, declaredAt, heldKind, textSuits, suitsAt, payloadLength, payloadAnswer, payloadIn, Short}
+use Rattle.row_build.specs.Steps.{Readable, ReadAt, valueIn, afterColumn, givenAt, declaredAt, heldKind, textSuits, suitsAt, payloadLength, payloadAnswer, payloadIn}
 use Rattle.row_build.proofs.Tests.{size-null, size-fixed, size-varchar, payload-short}
 
 -- ---- the records at two places
@@ -85,7 +84,7 @@ module _ {s : List ℕ} {at : ℕ} {list : List ℕ} {from : ℕ} (r : Readable 
 
 -- ---- a column's kind tells the kind of its values, and the bytes after it what a text column was declared with
 
-abbrev Declared : DataType → ℕ → Type 0
+abbrev pub Declared : DataType → ℕ → Type 0
 Declared T.SmallInt n = Unit {0}
 Declared T.Int n = Unit {0}
 Declared T.BigInt n = Unit {0}
@@ -148,7 +147,7 @@ told-of (digits t) f s at =
     by-cond (Told (valueKind (t 0 0)) (declaredAt s at)) (ltb (length s) (at + 3)) (Refused (BadRecord at)) _ (λ g. tt)
     (λ g. by-cond (Told (valueKind (t 0 0)) (declaredAt s at)) (goodDigits p z) (Column (t p z) (at + 3)) (Refused (BadSchema at)) (λ u. f p z (declaredAt s at)) (λ u. tt))
 
-told : (s : List ℕ) (at : ℕ) {t : DataType} {next : ℕ} → recordAt s at ≡ Column t next → (heldKind (columnKind (getD s at 0)) ≡ valueKind t) × Declared t (declaredAt s at)
+pub told : (s : List ℕ) (at : ℕ) {t : DataType} {next : ℕ} → recordAt s at ≡ Column t next → (heldKind (columnKind (getD s at 0)) ≡ valueKind t) × Declared t (declaredAt s at)
 told s at e = rw e at (told-of (columnKind (getD s at 0)) (telling (getD s at 0)) s at)
 
 -- ---- the text of a range
@@ -179,27 +178,26 @@ module _ (list : List ℕ) (at : ℕ) where
   body t = valueAt (valueKind t) list at
 
   record Body (t : DataType) : Type 0 where
-    kind : kindOf (body t) ≡ valueKind t
     match : matches t (body t) ≡ true
     value : isNull (body t) ≡ false
     payload : payloadLength (valueKind t) list at ≡ cond (isVarlen t) (rangeOf (body t) .length) 0
 
   body-of : (t : DataType) → Body t
-  body-of T.SmallInt = record { kind = refl; match = refl; value = refl; payload = refl }
-  body-of T.Int = record { kind = refl; match = refl; value = refl; payload = refl }
-  body-of T.BigInt = record { kind = refl; match = refl; value = refl; payload = refl }
-  body-of T.Real = record { kind = refl; match = refl; value = refl; payload = refl }
-  body-of T.DoublePrecision = record { kind = refl; match = refl; value = refl; payload = refl }
-  body-of (T.Numeric p s) = record { kind = refl; match = refl; value = refl; payload = refl }
-  body-of (T.Decimal p s) = record { kind = refl; match = refl; value = refl; payload = refl }
-  body-of T.Bool = record { kind = refl; match = refl; value = refl; payload = refl }
-  body-of (T.Char n) = record { kind = refl; match = refl; value = refl; payload = refl }
-  body-of (T.Character n) = record { kind = refl; match = refl; value = refl; payload = refl }
-  body-of (T.Varchar n) = record { kind = refl; match = refl; value = refl; payload = refl }
-  body-of T.Date = record { kind = refl; match = refl; value = refl; payload = refl }
-  body-of T.Time = record { kind = refl; match = refl; value = refl; payload = refl }
-  body-of (T.Bit n) = record { kind = refl; match = refl; value = refl; payload = refl }
-  body-of T.Timestamp = record { kind = refl; match = refl; value = refl; payload = refl }
+  body-of T.SmallInt = record { match = refl; value = refl; payload = refl }
+  body-of T.Int = record { match = refl; value = refl; payload = refl }
+  body-of T.BigInt = record { match = refl; value = refl; payload = refl }
+  body-of T.Real = record { match = refl; value = refl; payload = refl }
+  body-of T.DoublePrecision = record { match = refl; value = refl; payload = refl }
+  body-of (T.Numeric p s) = record { match = refl; value = refl; payload = refl }
+  body-of (T.Decimal p s) = record { match = refl; value = refl; payload = refl }
+  body-of T.Bool = record { match = refl; value = refl; payload = refl }
+  body-of (T.Char n) = record { match = refl; value = refl; payload = refl }
+  body-of (T.Character n) = record { match = refl; value = refl; payload = refl }
+  body-of (T.Varchar n) = record { match = refl; value = refl; payload = refl }
+  body-of T.Date = record { match = refl; value = refl; payload = refl }
+  body-of T.Time = record { match = refl; value = refl; payload = refl }
+  body-of (T.Bit n) = record { match = refl; value = refl; payload = refl }
+  body-of T.Timestamp = record { match = refl; value = refl; payload = refl }
 
   module _ (area : List ℕ) where
     -- no range lies in every area

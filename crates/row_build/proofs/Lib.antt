@@ -2,6 +2,7 @@ pub mod Nulls
 pub mod Tests
 pub mod Walk
 pub mod Held
+pub mod Forms
 pub mod Bits
 pub mod Measuring
 pub mod Cells

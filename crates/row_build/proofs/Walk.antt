@@ -84,7 +84,7 @@ module _ {s : List ℕ} {l : RowLayout} {list area : List ℕ} (b : Buildable s 
         value-there = λ e. subst IsValue (sym (value-left .first .first) ∙ e) tt;
       }
 
-  pub few : i < 256
+  few : i < 256
   few = omega (arith, some-left s at (256 - i) (w .columns) column-there)
 
   module _ {g : Given} (r : ReadAt s at list from g) where

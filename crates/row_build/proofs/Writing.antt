@@ -1,5 +1,5 @@
 -- The second pass: the row of the columns before one stands in the output, and each column is a few stores.
-use Prim.Native.Nat.{ℕ, suc, _+_, _≤_, _<_}
+use Prim.Native.Nat.{ℕ, suc, _+_, _*_, _≤_, _<_}
 use mathlib.Core.Path.{_≡_, refl, sym, ap, _∙_, subst}
 use mathlib.Core.Bool.{Bool, true, false, cond}
 use mathlib.Core.List.{List, map}
@@ -13,7 +13,7 @@ use Rattle.laws.proofs.Forall.{forall-length}
 use Rattle.laws.proofs.Maps.{take-map, at-map}
 use Rattle.row_format.specs.declared.Shape.{Shape}
 use Rattle.row_format.specs.declared.Shape.the-variants.{Fixed, Varlen}
-use Rattle.row_format.specs.Places.{varlens, rankOf, slotStart, offsetWidth, rowLimit, minimum}
+use Rattle.row_format.specs.Places.{varlens, rankOf, slotStart, offsetWidth, rowLimit, minimum, tableStart, fixedStart}
 use Rattle.row_format.specs.Table.{Cell}
 use Rattle.row_format.specs.Row.{packedFlag, header, builtRow, slotSize, FitsCell}
 use Rattle.row_format.proofs.Places.{rank-inside, packed-inside}
@@ -21,13 +21,12 @@ use Rattle.row_format.proofs.Row.{length-header, length-row, slots-fit, packed-
 use Rattle.row_format.proofs.Fresh.{length-fresh}
 use Rattle.row_format.proofs.Build.{upTo, up-to-start, up-to-end, built-le, built-null, length-built-fixed, length-built-varlen, step-fixed, step-varlen}
 use Rattle.row_layout.specs.declared.RowLayout.{RowLayout}
-use Rattle.row_layout.specs.Layout.{Bounded, noColumns, withColumn, minimumOf}
+use Rattle.row_layout.specs.Layout.{withColumn, minimumOf}
 use Rattle.datatype.specs.declared.DataType.{DataType}
 use Rattle.datatype.specs.declared.DataType.the-variants as T
 use Rattle.datatype.specs.Types.{sizeOf, alignmentOf, isVarlen, shapeOf}
-use Rattle.datatype.specs.Check.{typeAt, layoutBefore, typesIn}
-use Rattle.datatype.proofs.Again.{before-next}
-use Rattle.value.specs.declared.DataValue.{DataValue}
+use Rattle.datatype.specs.Check.{layoutBefore, typesIn}
+use Rattle.datatype.proofs.Again.{before-next, grown}
 use Rattle.value.specs.Ranges.{textOf}
 use Rattle.stored_form.specs.Write.{storedForm}
 use Rattle.row_column.proofs.Reach.{columns-all}
@@ -43,37 +42,37 @@ use Rattle.row_build.proofs.Cells.{cell-at, cells-fit}
 abbrev pub rowUpTo : List ℕ → List ℕ → List ℕ → ℕ → List ℕ
 rowUpTo s list area i = builtRow offsetWidth (map shapeOf (typesIn s)) (upTo i (cellsIn s list area))
 
-pub record Writing (s : List ℕ) (l : RowLayout) (list area out₀ out : List ℕ) (b : RowLayout) (at from end : ℕ) : Type 0 where
-  pub walk : Together s list (b .«num_columns») at from
-  pub bounded : Bounded b
-  pub so-far : b ≡ layoutBefore (typesIn s) (b .«num_columns»)
-  pub written : out ≡ sets out₀ 0 (rowUpTo s list area (b .«num_columns»))
-  pub end-is : end ≡ length (rowUpTo s list area (b .«num_columns»))
+pub record Writing (s : List ℕ) (l : RowLayout) (list area out₀ out : List ℕ) (i at from slot entry end : ℕ) : Type 0 where
+  pub walk : Together s list i at from
+  pub slot-is : slot ≡ fixedStart offsetWidth (l .«num_columns») (l .«num_varlen_cols») + layoutBefore (typesIn s) i .«packed_size»
+  pub entry-is : entry ≡ tableStart (l .«num_columns») + layoutBefore (typesIn s) i .«num_varlen_cols» * offsetWidth
+  pub written : out ≡ sets out₀ 0 (rowUpTo s list area i)
+  pub end-is : end ≡ length (rowUpTo s list area i)
 
--- a fixed column leaves the row's end where it is
-pub storable-fixed : {l b : RowLayout} {t : DataType} {v : DataValue} {area : List ℕ} {end n : ℕ} → Storable l b t v area end n → Storable l b t v area 0 n
-storable-fixed p =
-    record {
-      whole = p .whole;
-      before = p .before;
-      column = p .column;
-      bit = p .bit;
-      digits = p .digits;
-      match = p .match;
-      suited = p .suited;
-      slot = p .slot;
-      entry = p .entry;
-      payload = λ v. omega (arith, p .payload v);
-      end-fits = omega (arith, p .end-fits);
-    }
+-- a column more in a layout
+packed-more : (b : RowLayout) (t : DataType) → withColumn b (shapeOf t) .«packed_size» ≡ b .«packed_size» + sizeOf t
+packed-more b T.SmallInt = refl
+packed-more b T.Int = refl
+packed-more b T.BigInt = refl
+packed-more b T.Real = refl
+packed-more b T.DoublePrecision = refl
+packed-more b (T.Numeric p s) = refl
+packed-more b (T.Decimal p s) = refl
+packed-more b T.Bool = refl
+packed-more b (T.Char n) = refl
+packed-more b (T.Character n) = refl
+packed-more b (T.Varchar n) = omega arith
+packed-more b T.Date = refl
+packed-more b T.Time = refl
+packed-more b (T.Bit n) = refl
+packed-more b T.Timestamp = refl
 
--- a column that is stored
-module _ (l b : RowLayout) (t : DataType) (v : DataValue) (x : List ℕ) (end : ℕ) (out : List ℕ) (res : ℕ) (out' : List ℕ) (n : isNull v ≡ false) where
-  pub stored-varlen : isVarlen t ≡ true → res ≡ end + length x → out' ≡ varlenStored l b x end out → (res, out') ≡ columnStored l b t v x end out
-  stored-varlen f p q = rw (n, f, p, q)
-
-  pub stored-fixed : isVarlen t ≡ false → res ≡ end → out' ≡ fixedStored l b x out → (res, out') ≡ columnStored l b t v x end out
-  stored-fixed f p q = rw (n, f, p, q)
+rank-more : (b : RowLayout) (t : DataType) → withColumn b (shapeOf t) .«num_varlen_cols» * offsetWidth ≡ b .«num_varlen_cols» * offsetWidth + cond (isVarlen t) offsetWidth 0
+rank-more b t = by-shape (isVarlen t)
+  where
+    by-shape : (f : Bool) → withColumn b (cond f Varlen (Fixed (sizeOf t) (alignmentOf t))) .«num_varlen_cols» * offsetWidth ≡ b .«num_varlen_cols» * offsetWidth + cond f offsetWidth 0
+    by-shape true = omega arith
+    by-shape false = omega arith
 
 module _ {s : List ℕ} {l : RowLayout} {list area out₀ : List ℕ} (f : Fillable s l list area out₀) where
   abbrev ts : List DataType
@@ -102,38 +101,41 @@ module _ {s : List ℕ} {l : RowLayout} {list area out₀ : List ℕ} (f : Filla
   start-row : rowUpTo s list area 0 ≡ freshRow offsetWidth ts
   start-row = ap (builtRow offsetWidth ss) (up-to-start cs ∙ rw (forall-length fit, length-map ts shapeOf))
 
-  pub write-start : Writing s l list area out₀ out₀ noColumns 0 0 (minimumOf l true)
+  pub write-start : Writing s l list area out₀ out₀ 0 0 0 (fixedStart offsetWidth (l .«num_columns») (l .«num_varlen_cols»)) (tableStart (l .«num_columns»)) (minimumOf l true)
   write-start =
       record {
         walk = together-start (f .given);
-        bounded = record { few = omega arith; ranked = omega arith; tight = omega arith; wide = omega arith };
-        so-far = refl;
+        slot-is = omega arith;
+        entry-is = omega arith;
         written = f .nulls ∙ ap (sets out₀ 0) (sym start-row);
         end-is = minimum-is ∙ sym (length-fresh offsetWidth ss) ∙ ap length (rw (← length-map ts shapeOf) at (sym start-row));
       }
 
-  module _ {out : List ℕ} {b : RowLayout} {at from end : ℕ} (k : Writing s l list area out₀ out b at from end) where
+  module _ {out : List ℕ} {i at from slot entry end : ℕ} (k : Writing s l list area out₀ out i at from slot entry end) where
     pub write-size : length out ≡ length out₀
     write-size = rw (k .written, length-sets)
 
-    pub write-end : l .«num_columns» ≤ b .«num_columns» → out ≡ sets out₀ 0 (rowOf s list area)
+    pub write-end : l .«num_columns» ≤ i → out ≡ sets out₀ 0 (rowOf s list area)
     write-end h =
-        let n : b .«num_columns» ≡ length cs = rw (forall-length fit, length-map ts shapeOf) (omega (arith, k .walk .within, columns-all (f .given .accepted))) in
-        k .written ∙ ap (λ (ds : List Cell). sets out₀ 0 (builtRow offsetWidth ss ds)) (ap (λ (i : ℕ). upTo i cs) n ∙ up-to-end cs)
+        let n : i ≡ length cs = rw (forall-length fit, length-map ts shapeOf) (omega (arith, k .walk .within, columns-all (f .given .accepted))) in
+        k .written ∙ ap (λ (ds : List Cell). sets out₀ 0 (builtRow offsetWidth ss ds)) (ap (λ (j : ℕ). upTo j cs) n ∙ up-to-end cs)
 
-    module _ (h : b .«num_columns» < length ts) {g : Given} (r : ReadAt s at list from g) where
-      abbrev i : ℕ
-      i = b .«num_columns»
-
+    module _ (h : i < length ts) {g : Given} (r : ReadAt s at list from g) where
       inside : i < length ss
       inside = rw length-map h
 
       -- where the column's bytes go
-      rank-is : b .«num_varlen_cols» ≡ rankOf ss i
-      rank-is = ap (λ (m : RowLayout). m .«num_varlen_cols») (k .so-far) ∙ rw (take-map shapeOf i ts)
+      rank-is : layoutBefore ts i .«num_varlen_cols» ≡ rankOf ss i
+      rank-is = rw (take-map shapeOf i ts)
 
-      start-is : b .«packed_size» ≡ slotStart true ss i
-      start-is = ap (λ (m : RowLayout). m .«packed_size») (k .so-far) ∙ rw (packed-start (getD ss i Varlen), take-map shapeOf i ts)
+      start-is : layoutBefore ts i .«packed_size» ≡ slotStart true ss i
+      start-is = rw (packed-start (getD ss i Varlen), take-map shapeOf i ts)
+
+      slot-at : slot ≡ fixedStart offsetWidth (length ss) (varlens ss) + slotStart true ss i
+      slot-at = k .slot-is ∙ rw (columns-are, varlens-are, start-is)
+
+      entry-at : entry ≡ tableStart (length ss) + rankOf ss i * offsetWidth
+      entry-at = k .entry-is ∙ rw (columns-are, rank-is)
 
       shape-is : getD ss i Varlen ≡ shapeOf (g .ty)
       shape-is = at-map shapeOf i ts (T.Varchar 0) ∙ ap shapeOf (sym (type-given (f .given) (k .walk) h r))
@@ -150,46 +152,61 @@ module _ {s : List ℕ} {l : RowLayout} {list area out₀ : List ℕ} (f : Filla
       abbrev form : List ℕ
       form = storedForm (g .ty) (g .value) (textOf area (g .value))
 
+      next-layout : layoutBefore ts (i + 1) ≡ withColumn (layoutBefore ts i) (shapeOf (g .ty))
+      next-layout = before-next ts i h ∙ ap (λ (u : DataType). withColumn (layoutBefore ts i) (shapeOf u)) (sym (type-given (f .given) (k .walk) h r))
+
+      packed-next : layoutBefore ts (i + 1) .«packed_size» ≡ layoutBefore ts i .«packed_size» + sizeOf (g .ty)
+      packed-next = ap (λ (q : RowLayout). q .«packed_size») next-layout ∙ packed-more (layoutBefore ts i) (g .ty)
+
+      rank-next : layoutBefore ts (i + 1) .«num_varlen_cols» * offsetWidth ≡ layoutBefore ts i .«num_varlen_cols» * offsetWidth + cond (isVarlen (g .ty)) offsetWidth 0
+      rank-next = ap (λ (q : RowLayout). q .«num_varlen_cols» * offsetWidth) next-layout ∙ rank-more (layoutBefore ts i) (g .ty)
+
+      -- far from the machine's limit
+      pub write-places : (slot + sizeOf (g .ty) ≤ 40000000) × (entry ≤ 40000000)
+      write-places =
+          let b = f .given .accepted .bounded in
+          let e = f .given .accepted .layout in
+          let u = rw e at (grown ts (i + 1) (omega (arith, h))) in
+          let v = rw e at (grown ts i (omega (arith, h))) in
+          (rw (k .slot-is) (omega (arith, packed-next, u .packed, b .few, b .ranked, b .tight)), rw (k .entry-is) (omega (arith, v .varlens, b .few, b .ranked)))
+
       -- ---- the stores
 
       module _ (res : ℕ) (out' : List ℕ) where
         abbrev Stepped : Type 0
         Stepped = (out' ≡ sets out₀ 0 (rowUpTo s list area (suc i))) × (res ≡ length (rowUpTo s list area (suc i)))
 
-        fixed : getD cs i none ≡ some form → isVarlen (g .ty) ≡ false → res ≡ end → out' ≡ fixedStored l b form out → Stepped
+        fixed : getD cs i none ≡ some form → isVarlen (g .ty) ≡ false → res ≡ end → out' ≡ fixedStored i slot form out → Stepped
         fixed e v p q = (
-          q ∙ rw (columns-are, varlens-are, start-is, k .written) (step-fixed offsetWidth fit i inside form e out₀ (f .room) (sizeOf (g .ty)) (alignmentOf (g .ty)) (fixed-is v)),
+          q ∙ rw (slot-at, k .written) (step-fixed offsetWidth fit i inside form e out₀ (f .room) (sizeOf (g .ty)) (alignmentOf (g .ty)) (fixed-is v)),
           p ∙ k .end-is ∙ sym (length-built-fixed offsetWidth fit i inside form e (sizeOf (g .ty)) (alignmentOf (g .ty)) (fixed-is v)),
         )
 
-        varlen : getD cs i none ≡ some form → isVarlen (g .ty) ≡ true → res ≡ end + length form → out' ≡ varlenStored l b form end out → Stepped
+        varlen : getD cs i none ≡ some form → isVarlen (g .ty) ≡ true → res ≡ end + length form → out' ≡ varlenStored i entry form end out → Stepped
         varlen e v p q = (
-          q ∙ rw (columns-are, rank-is, k .written, k .end-is) (step-varlen offsetWidth fit i inside form e out₀ (f .room) (varlen-is v)),
+          q ∙ rw (entry-at, k .written, k .end-is) (step-varlen offsetWidth fit i inside form e out₀ (f .room) (varlen-is v)),
           p ∙ rw (k .end-is) (sym (length-built-varlen offsetWidth fit i inside form e (varlen-is v))),
         )
 
         kept : getD cs i none ≡ none → res ≡ end → out' ≡ out → Stepped
         kept e p q = let same = built-null offsetWidth fit i e in (q ∙ k .written ∙ ap (sets out₀ 0) (sym same), p ∙ k .end-is ∙ ap length (sym same))
 
-        stepped : (c : Cell) → getD cs i none ≡ c → CellIs (g .ty) (g .value) area c → (res, out') ≡ columnStored l b (g .ty) (g .value) form end out → Stepped
+        stepped : (c : Cell) → getD cs i none ≡ c → CellIs (g .ty) (g .value) area c → (res, out') ≡ columnStored i slot entry (g .ty) (g .value) form end out → Stepped
         stepped none e (null n) o = let p = rw n at o in kept e (ap (λ (z : ℕ × List ℕ). z .0) p) (ap (λ (z : ℕ × List ℕ). z .1) p)
         stepped (some x) e (stored n m a) o = by-shape (isVarlen (g .ty)) refl (rw n at o)
           where
-            by-shape : (t : Bool) → isVarlen (g .ty) ≡ t → _≡_ {A = ℕ × List ℕ} (res, out') (cond t (end + length form, varlenStored l b form end out) (end, fixedStored l b form out)) → Stepped
+            by-shape : (t : Bool) → isVarlen (g .ty) ≡ t → _≡_ {A = ℕ × List ℕ} (res, out') (cond t (end + length form, varlenStored i entry form end out) (end, fixedStored i slot form out)) → Stepped
             by-shape true v p = varlen e v (ap (λ (z : ℕ × List ℕ). z .0) p) (ap (λ (z : ℕ × List ℕ). z .1) p)
             by-shape false v p = fixed e v (ap (λ (z : ℕ × List ℕ). z .0) p) (ap (λ (z : ℕ × List ℕ). z .1) p)
 
-        pub write-more : (res, out') ≡ columnStored l b (g .ty) (g .value) form end out → Bounded (withColumn b (shapeOf (g .ty)))
-            → Writing s l list area out₀ out' (withColumn b (shapeOf (g .ty))) (g .«next_type») (g .«next_value») res
-        write-more o small =
+        pub write-more : (res, out') ≡ columnStored i slot entry (g .ty) (g .value) form end out
+            → Writing s l list area out₀ out' (i + 1) (g .«next_type») (g .«next_value») (slot + sizeOf (g .ty)) (entry + cond (isVarlen (g .ty)) offsetWidth 0) res
+        write-more o =
             let p = stepped (getD cs i none) refl cell o in
             record {
               walk = together-next (f .given) (k .walk) h r;
-              bounded = small;
-              so-far =
-                  ap (λ (u : DataType). withColumn b (shapeOf u)) (type-given (f .given) (k .walk) h r)
-                  ∙ ap (λ (m : RowLayout). withColumn m (shapeOf (typeAt ts i))) (k .so-far)
-                  ∙ sym (before-next ts i h);
+              slot-is = rw (k .slot-is) (omega (arith, packed-next));
+              entry-is = rw (k .entry-is) (omega (arith, rank-next));
               written = rw (add-one i) (p .0);
               end-is = rw (add-one i) (p .1);
             }
@@ -205,7 +222,7 @@ module _ {s : List ℕ} {l : RowLayout} {list area out₀ : List ℕ} (f : Filla
       end-small : end ≤ rowLimit
       end-small = rw (k .end-is) (omega (arith, built-le offsetWidth fit i, f .short))
 
-      room-for : (c : Cell) → getD cs i none ≡ c → CellIs (g .ty) (g .value) area c → isNull (g .value) ≡ false → Storable l b (g .ty) (g .value) area end (length out)
+      room-for : (c : Cell) → getD cs i none ≡ c → CellIs (g .ty) (g .value) area c → isNull (g .value) ≡ false → Storable (l .«num_columns») i slot entry (g .ty) (g .value) area end (length out)
       room-for none e (null n) z = let q : true ≡ false = sym n ∙ z in absurd (subst IsTrue q tt)
         where
           IsTrue : Bool → Type 0
@@ -213,15 +230,12 @@ module _ {s : List ℕ} {l : RowLayout} {list area out₀ : List ℕ} (f : Filla
           IsTrue false = ⊥
       room-for (some x) e (stored n m a) z =
           record {
-            whole = f .given .accepted .bounded;
-            before = k .bounded;
-            column = rw columns-are inside;
-            bit = omega (arith, long, inside);
+            bit = record { column = rw columns-are inside; bit = omega (arith, long, inside) };
             digits = digits-given (f .given) (k .walk) h r;
             match = m;
             suited = a;
-            slot = λ v. rw (columns-are, varlens-are, start-is) (omega (arith, long, rw (ap slotSize (fixed-is v)) at (packed-inside ss i inside)));
-            entry = λ v. rw (columns-are, rank-is) (omega (arith, long, rank-inside ss i inside (varlen-is v)));
+            slot-in = λ v. rw slot-at (omega (arith, long, rw (ap slotSize (fixed-is v)) at (packed-inside ss i inside)));
+            entry-in = λ v. rw entry-at (omega (arith, long, rank-inside ss i inside (varlen-is v)));
             payload = λ v. rw write-size (omega (arith, f .room, payload-end e v));
             end-fits = by-shape (isVarlen (g .ty)) refl;
           }
@@ -230,5 +244,5 @@ module _ {s : List ℕ} {l : RowLayout} {list area out₀ : List ℕ} (f : Filla
           by-shape true v = omega (arith, f .short, payload-end e v)
           by-shape false v = omega (arith, end-small)
 
-      pub write-room : isNull (g .value) ≡ false → Storable l b (g .ty) (g .value) area end (length out)
+      pub write-room : isNull (g .value) ≡ false → Storable (l .«num_columns») i slot entry (g .ty) (g .value) area end (length out)
       write-room = room-for (getD cs i none) refl cell

@@ -1,24 +1,23 @@
 -- For the proofs: what the inner functions hand on.
-use Prim.Native.Nat.{ℕ, _+_, _*_, _/_, _≤_, _<_}
+use Prim.Native.Nat.{ℕ, _+_, _*_, _-_, _/_, _≤_, _<_}
 use mathlib.Core.Bool.{Bool, true, false, cond}
-use mathlib.Core.List.{List, [], _++_, map}
+use mathlib.Core.List.{List, [], _∷_, _++_, map}
 use mathlib.Core.Option.{none, some}
 use mathlib.Core.Path.{_≡_}
 use lib.Dec.{eqb, leb, ltb}
 use lib.ListN.{length, getD, replicate}
 use lib.Seq.{sets}
-use mir.Syntax.{w32, w64}
-use mir.Val.{toZ}
+use mir.Syntax.{w16, w32, w64}
+use mir.Val.{toZ, ofZ}
 use Rattle.error.specs.declared.Refusal.{Refusal}
 use Rattle.error.specs.declared.Answer.{Answer}
 use Rattle.error.specs.declared.Answer.the-variants as Answer
 use Rattle.laws.specs.Bytes.{toLe}
-use Rattle.row_format.specs.Places.{offsetWidth, rowLimit, bitmapStart, bitmapSize, tableStart, fixedStart}
+use Rattle.row_format.specs.Places.{offsetWidth, rowLimit, bitmapStart, bitmapSize}
 use Rattle.row_format.specs.Table.{Cell, bytes, payloads}
 use Rattle.row_format.specs.Row.{packedFlag, bitmap, varlenCells, builtRow}
 use Rattle.row_format.specs.Edit.{bitEdit}
 use Rattle.row_layout.specs.declared.RowLayout.{RowLayout}
-use Rattle.row_layout.specs.Layout.{Bounded}
 use Rattle.datatype.specs.declared.DataType.{DataType}
 use Rattle.datatype.specs.declared.Record.the-variants as Column
 use Rattle.datatype.specs.Types.{sizeOf, isVarlen, shapeOf, precisionOf}
@@ -143,27 +142,63 @@ measured m ts (refused e) = Answer.Refused e
 
 -- ---- the second pass: one column after another
 
--- x stored for the column after those of layout b, in a row of layout l: in its slot, or at the row's end with its offset; and its bit cleared
-abbrev pub fixedStored : RowLayout → RowLayout → List ℕ → List ℕ → List ℕ
-fixedStored l b x out = bitEdit (b .«num_columns») (some x) (sets out (fixedStart offsetWidth (l .«num_columns») (l .«num_varlen_cols») + b .«packed_size») x)
+-- the stored form of the value at a place
+abbrev pub formIn : List ℕ → ℕ → List ℕ → ℕ → List ℕ → List ℕ
+formIn s at list from area = storedForm (typeIn (recordAt s at)) (valueIn (valueRecordAt list from)) (textOf area (valueIn (valueRecordAt list from)))
 
-abbrev pub varlenStored : RowLayout → RowLayout → List ℕ → ℕ → List ℕ → List ℕ
-varlenStored l b x end out = bitEdit (b .«num_columns») (some x) (sets (sets out (tableStart (l .«num_columns») + b .«num_varlen_cols» * offsetWidth) (toLe offsetWidth end)) end x)
+-- that of a value of kind k whose body stands at a place: other kinds than Numeric, Char, Varchar and Bit
+abbrev pub bodyStored : ℕ → List ℕ → ℕ → List ℕ
+bodyStored k list at =
+    cond (eqb k 1) (toLe 2 (ofZ w16 (toZ w16 (numberAt 2 list at))))
+    (cond (eqb k 2) (toLe 4 (ofZ w32 (toZ w32 (numberAt 4 list at))))
+    (cond (eqb k 3) (toLe 8 (ofZ w64 (toZ w64 (numberAt 8 list at))))
+    (cond (eqb k 4) (toLe 4 (numberAt 4 list at))
+    (cond (eqb k 5) (toLe 8 (numberAt 8 list at))
+    (cond (eqb k 7) (getD list at 0 ∷ [])
+    (cond (eqb k 10) (toLe 4 (ofZ w32 (toZ w32 (numberAt 4 list at))))
+    (cond (eqb k 11) (toLe 8 (ofZ w64 (toZ w64 (numberAt 8 list at))))
+    (cond (eqb k 13) (toLe 8 (ofZ w64 (toZ w64 (numberAt 8 list at))))
+    []))))))))
+
+abbrev pub blankFilled : ℕ → List ℕ → List ℕ
+blankFilled n x = x ++ replicate (n - length x) 0x20
+
+-- x stored for column i: in its slot, or at the row's end with its offset; and its bit cleared
+abbrev pub fixedStored : ℕ → ℕ → List ℕ → List ℕ → List ℕ
+fixedStored i slot x out = bitEdit i (some x) (sets out slot x)
+
+abbrev pub varlenStored : ℕ → ℕ → List ℕ → ℕ → List ℕ → List ℕ
+varlenStored i entry x end out = bitEdit i (some x) (sets (sets out entry (toLe offsetWidth end)) end x)
 
 -- the row's end and the output afterwards
-abbrev pub columnStored : RowLayout → RowLayout → DataType → DataValue → List ℕ → ℕ → List ℕ → ℕ × List ℕ
-columnStored l b t v x end out = cond (isNull v) (end, out) (cond (isVarlen t) (end + length x, varlenStored l b x end out) (end, fixedStored l b x out))
+abbrev pub columnStored : ℕ → ℕ → ℕ → DataType → DataValue → List ℕ → ℕ → List ℕ → ℕ × List ℕ
+columnStored i slot entry t v x end out = cond (isNull v) (end, out) (cond (isVarlen t) (end + length x, varlenStored i entry x end out) (end, fixedStored i slot x out))
 
-pub record Storable (l b : RowLayout) (t : DataType) (v : DataValue) (area : List ℕ) (end n : ℕ) : Type 0 where
-  pub whole : Bounded l
-  pub before : Bounded b
-  pub column : b .«num_columns» < l .«num_columns»
-  pub bit : bitmapStart + b .«num_columns» / 8 < n
+-- a value that is stored in n bytes: in a slot, at the row's end, its bit
+pub record SlotReady (t : DataType) (v : DataValue) (area : List ℕ) (slot n : ℕ) : Type 0 where
+  pub fixed : isVarlen t ≡ false
   pub digits : precisionOf t ≤ 38
   pub match : matches t v ≡ true
   pub suited : holds t v area ≡ true
-  pub slot : isVarlen t ≡ false → fixedStart offsetWidth (l .«num_columns») (l .«num_varlen_cols») + b .«packed_size» + sizeOf t ≤ n
-  pub entry : isVarlen t ≡ true → tableStart (l .«num_columns») + b .«num_varlen_cols» * offsetWidth + offsetWidth ≤ n
+  pub room : slot + sizeOf t ≤ n
+
+pub record PayloadReady (r : TextRange) (area : List ℕ) (entry end n : ℕ) : Type 0 where
+  pub inside : r .start + r .length ≤ length area
+  pub entry-in : entry + offsetWidth ≤ n
+  pub room : end + r .length ≤ n
+  pub small : end + r .length ≤ rowLimit
+
+pub record BitReady (columns i n : ℕ) : Type 0 where
+  pub column : i < columns
+  pub bit : bitmapStart + i / 8 < n
+
+pub record Storable (columns i slot entry : ℕ) (t : DataType) (v : DataValue) (area : List ℕ) (end n : ℕ) : Type 0 where
+  pub bit : BitReady columns i n
+  pub digits : precisionOf t ≤ 38
+  pub match : matches t v ≡ true
+  pub suited : holds t v area ≡ true
+  pub slot-in : isVarlen t ≡ false → slot + sizeOf t ≤ n
+  pub entry-in : isVarlen t ≡ true → entry + offsetWidth ≤ n
   pub payload : isVarlen t ≡ true → end + length (storedForm t v (textOf area v)) ≤ n
   pub end-fits : end + payloadOf t (some (storedForm t v (textOf area v))) ≤ rowLimit
 

@@ -10,7 +10,8 @@ use value_list::ListCheck;
 use value_list::ValueRecord;
 ghost use mathlib.Core.Path.{_≡_};
 ghost use Prim.Native.Nat.{_+_, _/_, _≤_, _<_};
-ghost use mathlib.Core.Bool.{true, false};
+ghost use mathlib.Core.Bool.{true, false, cond};
+ghost use lib.Dec.{eqb};
 ghost use mathlib.Core.List.{[]};
 ghost use mathlib.Core.Option.{some};
 ghost use lib.ListN.{length};
@@ -20,15 +21,15 @@ ghost use Rattle.error.specs.declared.Answer.the-variants.{Done};
 ghost use Rattle.row_format.specs.Places.{offsetWidth, rowLimit, bitmapStart, bitmapSize};
 ghost use Rattle.row_format.specs.Edit.{bitEdit};
 ghost use Rattle.row_layout.specs.Layout.{Bounded, minimumOf};
-ghost use Rattle.datatype.specs.Types.{isVarlen, precisionOf};
-ghost use Rattle.datatype.specs.Schema.{kindOf};
+ghost use Rattle.datatype.specs.Types.{sizeOf, precisionOf};
+ghost use Rattle.datatype.specs.Schema.{kindOf, recordAt};
+ghost use Rattle.datatype.specs.Steps.{typeIn};
 ghost use Rattle.datatype.specs.Check.{typesIn, Accepted};
-ghost use Rattle.value.specs.Ranges.{textOf};
-ghost use Rattle.value_list.specs.Records.{bodyLength, rangeAt};
-ghost use Rattle.stored_form.specs.Write.{storedForm};
+ghost use Rattle.value.specs.Ranges.{part};
+ghost use Rattle.value_list.specs.Records.{bodyLength, rangeAt, recordAt as valueRecordAt};
 ghost use Rattle.row_build.specs.Stored.{isNull, cellIn, cellsFrom};
 ghost use Rattle.row_build.specs.Build.{buildValues, buildRow, buildCall, freshCall};
-ghost use Rattle.row_build.specs.Steps.{nullBits, nullRow, valuesIn, Buildable, Readable, ReadAt, declaredAt, afterColumn, heldKind, textSuits, suitsAt, payloadLength, payloadIn, payloadAnswer, Short, measured, fixedStored, varlenStored, columnStored, Storable, rowOf, Fillable};
+ghost use Rattle.row_build.specs.Steps.{nullBits, nullRow, valuesIn, Buildable, Readable, ReadAt, declaredAt, afterColumn, heldKind, textSuits, suitsAt, payloadLength, payloadIn, payloadAnswer, Short, measured, valueIn, formIn, bodyStored, blankFilled, fixedStored, varlenStored, columnStored, SlotReady, PayloadReady, BitReady, Storable, rowOf, Fillable};
 
 // n bits that are set, and clear ones up to the end of the last byte.
 fn write_null_bits(out: &mut [u8], at: usize, n: usize)
@@ -199,7 +200,7 @@ fn text_suits(values: &[u8], body: usize, n: usize, text: &[u8]) -> bool
     text::is_valid(&text[start..start + length])
 }
 
-// Whether a column holds a value of its kind, whose body stands at a place of the list. No for numerics and bits, which are tested as values.
+// Whether a column holds a value of its kind, whose body stands at a place of the list. False for Numeric and Bit: `payload_given` tests these.
 fn suits_at(kind: u8, n: usize, values: &[u8], body: usize, text: &[u8]) -> bool
     requires { ⌜ body + bodyLength kind ≤ length (now values) ⌝ }
     ensures { λ r. ⌜ r ≡ suitsAt kind n (now (values .entry)) body (now (text .entry)) ⌝ }
@@ -228,7 +229,7 @@ fn payload_length(kind: u8, values: &[u8], body: usize) -> usize
     0
 }
 
-// The same for records at two places, read as a type and a value.
+// `payload_size` for the records at two places.
 fn payload_given(
     schema: &[u8],
     at: usize,
@@ -246,7 +247,7 @@ fn payload_given(
     payload_size(column, ty, value, text)
 }
 
-// The same by the bytes of the records, where these show that the value is null or held.
+// What `payload_given` answers, by the bytes of the records where these show that the value is null or that the column holds it.
 fn payload_at(
     schema: &[u8],
     at: usize,
@@ -304,63 +305,181 @@ fn clear_bit(out: &mut [u8], n: usize, i: usize)
     null_bitmap::clear_null(&mut out[4..], n, i);
 }
 
-// A stored form in its slot.
-fn write_fixed(
-    layout: RowLayout,
-    before: RowLayout,
-    ty: DataType,
-    value: DataValue,
-    text: &[u8],
-    out: &mut [u8],
-)
-    requires { ⌜ Storable layout before ty value (now text) 0 (length (now out)) × (isVarlen ty ≡ false) ⌝ }
-    ensures { λ _. ⌜ now (out .exit) ≡ fixedStored layout before (storedForm ty value (textOf (now (text .entry)) value)) (now (out .entry)) ⌝ }
+// The bytes of a column's slot.
+fn slot_size(schema: &[u8], at: usize) -> usize
+    requires { ⌜ at < length (now schema) ⌝ }
+    ensures { λ r. ⌜ r ≡ sizeOf (typeIn (recordAt (now (schema .entry)) at)) ⌝ }
 {
-    let at = layout.fixed_data_start() + before.packed_size;
-    value_encode::to_bytes_for_type(out, at, ty, value, text);
-    clear_bit(out, layout.num_columns, before.num_columns);
+    let kind = schema[at];
+    let size = datatype::plain_size(kind);
+    if size != 0 {
+        return size;
+    }
+    if kind == 11 {
+        return 0;
+    }
+    if kind == 9 {
+        return declared_length(schema, at);
+    }
+    match datatype::record_at(schema, at) {
+        Record::Refused(_) => 0,
+        Record::Column(ty, _) => ty.fixed_size(),
+    }
 }
 
-// A payload at the row's end, with its offset; the new end.
-fn write_varchar(
-    layout: RowLayout,
-    before: RowLayout,
-    ty: DataType,
-    value: DataValue,
+// The bytes in the offset table of a column that holds values of a kind.
+fn entry_size(kind: u8) -> usize
+    ensures { λ r. ⌜ (r ≡ cond (eqb kind 9) offsetWidth 0) × (r ≤ 2) ⌝ }
+{
+    if kind == 9 {
+        return 2;
+    }
+    0
+}
+
+// The body of a value, which is its stored form for all kinds but Numeric, Char, Varchar and Bit.
+fn write_body(out: &mut [u8], slot: usize, kind: u8, values: &[u8], body: usize)
+    requires { ⌜ (body + bodyLength kind ≤ length (now values)) × (slot + bodyLength kind ≤ length (now out)) ⌝ }
+    ensures { λ _. ⌜ now (out .exit) ≡ sets (now (out .entry)) slot (bodyStored kind (now (values .entry)) body) ⌝ }
+{
+    match kind {
+        1 => endian::write_u16(out, slot, endian::read_u16(values, body)),
+        2 => endian::write_u32(out, slot, endian::read_u32(values, body)),
+        3 => endian::write_u64(out, slot, endian::read_u64(values, body)),
+        4 => endian::write_u32(out, slot, endian::read_u32(values, body)),
+        5 => endian::write_u64(out, slot, endian::read_u64(values, body)),
+        7 => out[slot] = values[body],
+        10 => endian::write_u32(out, slot, endian::read_u32(values, body)),
+        11 => endian::write_u64(out, slot, endian::read_u64(values, body)),
+        13 => endian::write_u64(out, slot, endian::read_u64(values, body)),
+        _ => {}
+    }
+}
+
+// A Char's text, whose range stands at a place of the list, and blanks up to n bytes.
+fn write_char(out: &mut [u8], slot: usize, n: usize, values: &[u8], body: usize, text: &[u8])
+    requires { ⌜ (body + 4 ≤ length (now values)) × ((slot + n ≤ length (now out)) × (textSuits n (rangeAt (now values) body) (now text) ≡ true)) ⌝ }
+    ensures { λ _. ⌜ now (out .exit) ≡ sets (now (out .entry)) slot (blankFilled n (part (now (text .entry)) (rangeAt (now (values .entry)) body))) ⌝ }
+{
+    let start = endian::read_u16(values, body) as usize;
+    let length = endian::read_u16(values, body + 2) as usize;
+    value_encode::write_char(out, slot, &text[start..start + length], n);
+}
+
+// A stored form, of records that are read as a type and a value.
+fn write_given(
+    schema: &[u8],
+    at: usize,
+    values: &[u8],
+    from: usize,
     text: &[u8],
     out: &mut [u8],
+    slot: usize,
+)
+    requires { ⌜ Readable (now schema) at (now values) from × SlotReady (typeIn (recordAt (now schema) at)) (valueIn (valueRecordAt (now values) from)) (now text) slot (length (now out)) ⌝ }
+    ensures { λ _. ⌜ now (out .exit) ≡ sets (now (out .entry)) slot (formIn (now (schema .entry)) at (now (values .entry)) from (now (text .entry))) ⌝ }
+{
+    let given = given_at(schema, at, values, from);
+    let ty = given.ty;
+    let value = given.value;
+    value_encode::to_bytes_for_type(out, slot, ty, value, text);
+}
+
+// A stored form in its slot, by the bytes of the records where these show it.
+fn write_slot(
+    schema: &[u8],
+    at: usize,
+    values: &[u8],
+    from: usize,
+    text: &[u8],
+    out: &mut [u8],
+    slot: usize,
+)
+    requires { ⌜ Readable (now schema) at (now values) from × SlotReady (typeIn (recordAt (now schema) at)) (valueIn (valueRecordAt (now values) from)) (now text) slot (length (now out)) ⌝ }
+    ensures { λ _. ⌜ now (out .exit) ≡ sets (now (out .entry)) slot (formIn (now (schema .entry)) at (now (values .entry)) from (now (text .entry))) ⌝ }
+{
+    let kind = values[from];
+    match kind {
+        6 => write_given(schema, at, values, from, text, out, slot),
+        8 => write_char(
+            out,
+            slot,
+            declared_length(schema, at),
+            values,
+            from + 1,
+            text,
+        ),
+        12 => write_given(schema, at, values, from, text, out, slot),
+        _ => write_body(out, slot, kind, values, from + 1),
+    }
+}
+
+// A stored form in its slot, and the column's bit.
+fn write_fixed(
+    schema: &[u8],
+    at: usize,
+    values: &[u8],
+    from: usize,
+    text: &[u8],
+    out: &mut [u8],
+    columns: usize,
+    column: usize,
+    slot: usize,
+)
+    requires { ⌜ Readable (now schema) at (now values) from × (SlotReady (typeIn (recordAt (now schema) at)) (valueIn (valueRecordAt (now values) from)) (now text) slot (length (now out)) × BitReady columns column (length (now out))) ⌝ }
+    ensures { λ _. ⌜ now (out .exit) ≡ fixedStored column slot (formIn (now (schema .entry)) at (now (values .entry)) from (now (text .entry))) (now (out .entry)) ⌝ }
+{
+    write_slot(schema, at, values, from, text, out, slot);
+    clear_bit(out, columns, column);
+}
+
+// A payload at the row's end, with its offset and the column's bit; the new end. The payload's range stands at a place of the list.
+fn write_varchar(
+    values: &[u8],
+    body: usize,
+    text: &[u8],
+    out: &mut [u8],
+    columns: usize,
+    column: usize,
+    entry: usize,
     end: usize,
 ) -> usize
-    requires { ⌜ Storable layout before ty value (now text) end (length (now out)) × (isVarlen ty ≡ true) ⌝ }
-    ensures { λ r. ⌜ (r ≡ end + length (storedForm ty value (textOf (now (text .entry)) value))) × (now (out .exit) ≡ varlenStored layout before (storedForm ty value (textOf (now (text .entry)) value)) end (now (out .entry))) ⌝ }
+    requires { ⌜ (body + 4 ≤ length (now values)) × (PayloadReady (rangeAt (now values) body) (now text) entry end (length (now out)) × BitReady columns column (length (now out))) ⌝ }
+    ensures { λ r. ⌜ (r ≡ end + rangeAt (now (values .entry)) body .length) × (now (out .exit) ≡ varlenStored column entry (part (now (text .entry)) (rangeAt (now (values .entry)) body)) end (now (out .entry))) ⌝ }
 {
-    let entry = layout.varlen_table_offset() + before.num_varlen_cols * 2;
+    let start = endian::read_u16(values, body) as usize;
+    let length = endian::read_u16(values, body + 2) as usize;
     endian::write_u16(out, entry, end as u16);
-    value_encode::to_bytes_for_type(out, end, ty, value, text);
-    clear_bit(out, layout.num_columns, before.num_columns);
-    end + value.range().length
+    endian::copy(out, end, &text[start..start + length]);
+    clear_bit(out, columns, column);
+    end + length
 }
 
 // A column's value: nothing for a null, which the row of nulls has already; the row's end after it.
 fn write_column(
-    layout: RowLayout,
-    before: RowLayout,
-    ty: DataType,
-    value: DataValue,
+    schema: &[u8],
+    at: usize,
+    values: &[u8],
+    from: usize,
     text: &[u8],
     out: &mut [u8],
+    columns: usize,
+    column: usize,
+    slot: usize,
+    entry: usize,
     end: usize,
 ) -> usize
-    requires { ⌜ (isNull value ≡ false → Storable layout before ty value (now text) end (length (now out))) ⌝ }
-    ensures { λ r. ⌜ (r, now (out .exit)) ≡ columnStored layout before ty value (storedForm ty value (textOf (now (text .entry)) value)) end (now (out .entry)) ⌝ }
+    requires { ⌜ Readable (now schema) at (now values) from × (isNull (valueIn (valueRecordAt (now values) from)) ≡ false → Storable columns column slot entry (typeIn (recordAt (now schema) at)) (valueIn (valueRecordAt (now values) from)) (now text) end (length (now out))) ⌝ }
+    ensures { λ r. ⌜ (r, now (out .exit)) ≡ columnStored column slot entry (typeIn (recordAt (now (schema .entry)) at)) (valueIn (valueRecordAt (now (values .entry)) from)) (formIn (now (schema .entry)) at (now (values .entry)) from (now (text .entry))) end (now (out .entry)) ⌝ }
 {
-    if value.kind() == 0 {
+    let kind = values[from];
+    if kind == 0 {
         return end;
     }
-    if ty.is_variable_length() {
-        return write_varchar(layout, before, ty, value, text, out, end);
+    if kind == 9 {
+        return write_varchar(values, from + 1, text, out, columns, column, entry, end);
     }
-    write_fixed(layout, before, ty, value, text, out);
+    write_fixed(schema, at, values, from, text, out, columns, column, slot);
     end
 }
 
@@ -369,18 +488,32 @@ fn write_columns(schema: &[u8], layout: RowLayout, values: &[u8], text: &[u8], o
     requires { ⌜ Fillable (now schema) layout (now values) (now text) (now out) ⌝ }
     ensures { λ _. ⌜ now (out .exit) ≡ sets (now (out .entry)) 0 (rowOf (now (schema .entry)) (now (values .entry)) (now (text .entry))) ⌝ }
 {
-    let mut before = RowLayout::new();
+    let mut column = 0;
     let mut at = 0;
     let mut from = 0;
+    let mut slot = layout.fixed_data_start();
+    let mut entry = layout.varlen_table_offset();
     let mut end = layout.min_row_size(true);
-    while before.num_columns < layout.num_columns {
-        let given = given_at(schema, at, values, from);
-        let ty = given.ty;
-        let value = given.value;
-        end = write_column(layout, before, ty, value, text, out, end);
-        before = before.with_column(ty.shape());
-        at = given.next_type;
-        from = given.next_value;
+    while column < layout.num_columns {
+        let columns = layout.num_columns;
+        end = write_column(
+            schema,
+            at,
+            values,
+            from,
+            text,
+            out,
+            columns,
+            column,
+            slot,
+            entry,
+            end,
+        );
+        slot += slot_size(schema, at);
+        entry += entry_size(held_kind(schema[at]));
+        at = after_column(schema, at);
+        from = from + 1 + value_list::body_length(values[from]);
+        column += 1;
     }
 }
 

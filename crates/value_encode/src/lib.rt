@@ -127,7 +127,7 @@ fn write_numeric(out: &mut [u8], at: usize, x: NumericValue, p: usize)
 }
 
 // The text, then blanks up to n bytes.
-fn write_char(out: &mut [u8], at: usize, text: &[u8], n: usize)
+pub fn write_char(out: &mut [u8], at: usize, text: &[u8], n: usize)
     requires { ⌜ (length (now text) ≤ n) × (at + n ≤ length (now out)) ⌝ }
     ensures { λ _. ⌜ now (out .exit) ≡ sets (now (out .entry)) at (now (text .entry) ++ replicate (n - length (now (text .entry))) 0x20) ⌝ }
 {

@@ -3,7 +3,6 @@ use Rattle.row_build.proofs.Measuring.{Measuring, measure-start, measur
 use Rattle.row_build.proofs.Walk.{readable}
 use Rattle.row_build.proofs.Held.{read-at}
 use Prim.Native.Nat.{_-_}
-use native.Mathlib.Omega.{arith}
 use borrow.Author.Needs.{needs}
 use Rattle.row_build.proofs.row_length.Tie as tie
 use Rattle.row_build.proofs.after_column.Reads as after-column-reads

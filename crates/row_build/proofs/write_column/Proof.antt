@@ -1,53 +1,60 @@
 use borrow.Author.Needs.{needs}
 use Rattle.row_build.proofs.write_column.Statement.{statement}
-use Rattle.row_build.proofs.write_column.Tie as tie
-use Rattle.laws.proofs.Tests.{by-tests}
-use Rattle.row_build.proofs.Writing.{storable-fixed, stored-varlen, stored-fixed}
-use Rattle.value.specs.Kinds.{kindOf}
-use borrow.Author.Tests.{ne-eqb}
-use mathlib.Core.Path.{sym, _∙_, refl}
-use Rattle.stored_form.specs.Write.{storedForm}
-use Rattle.value.specs.Ranges.{textOf}
+use Rattle.row_build.proofs.Held.{body-within}
+use Rattle.row_build.proofs.Forms.{is-null, is-value, slot-ready, slot-stored, payload-ready, varchar-stored}
+use native.Mathlib.Omega.{arith}
 use denote.Ref.{now}
+use Rattle.row_build.proofs.write_column.Tie as tie
+use Rattle.row_build.proofs.write_fixed.Reads as write-fixed-reads
+use Rattle.row_build.proofs.write_varchar.Reads as write-varchar-reads
 
-kind-requires : tie.Need-kind-requires
-kind-requires c κs = search needs
+shared-slice-read-kind : tie.Need-shared-slice-read-kind
+shared-slice-read-kind c = search needs
 
 returns : tie.Need-returns
-returns c = rw (← c .before .kind .ensures) (search by-tests)
+returns c = rw (is-null (c .before .before .before .before .before .before .pre .0) (c .if1 .taken))
 
-is-variable-length-requires : tie.Need-is-variable-length-requires
-is-variable-length-requires c κs = search needs
+add-write-varchar : tie.Need-add-write-varchar
+add-write-varchar c = search needs
 
 write-varchar-requires : tie.Need-write-varchar-requires
-write-varchar-requires c κs = (c .before .before .before .before .before .before .before .pre (ne-eqb (kindOf (c .before .before .before .before .before .before .before .args .value)) 0 (rw (c .before .before .before .before .kind .ensures) at (c .before .before .before .if1 .left))), sym (c .before .before .is-variable-length .ensures) ∙ c .before .if2 .taken)
+write-varchar-requires c κs =
+    let p = c .before .before .before .before .before .before .before .before .pre in
+    let q = p .1 (is-value (p .0) (c .before .before .if1 .left)) in
+    let h = rw (c .before .if2 .taken) at (body-within (p .0)) in
+    (omega (arith, h), (payload-ready (p .0) q (c .before .if2 .taken), q .bit))
 
 same-length : tie.Need-same-length
 same-length c = search needs
 
 returns-2 : tie.Need-returns-2
 returns-2 c =
-    let a = c .before .before .before .before .before .before .before .before .before .before .args in
-    stored-varlen (a .layout) (a .before) (a .ty) (a .value) (storedForm (a .ty) (a .value) (textOf (now (a .text)) (a .value))) (a .end) (now (a .out)) _ _ (ne-eqb (kindOf (a .value)) 0 (rw (c .before .before .before .before .before .before .before .kind .ensures) at (c .before .before .before .before .before .before .if1 .left))) (sym (c .before .before .before .before .before .is-variable-length .ensures) ∙ c .before .before .before .before .if2 .taken) (c .before .before .write-varchar .ensures .0) (c .before .before .write-varchar .ensures .1)
+    let p = c .before .before .before .before .before .before .before .before .before .before .before .pre in
+    let z = is-value (p .0) (c .before .before .before .before .before .if1 .left) in
+    varchar-stored (p .0) (p .1 z) (c .before .before .before .before .if2 .taken) _ (now (c .before .before .before .before .before .before .before .before .before .before .before .args .out)) _ z (c .before .before .write-varchar .ensures .0) (c .before .before .write-varchar .ensures .1)
 
 write-fixed-requires : tie.Need-write-fixed-requires
-write-fixed-requires c κs = (storable-fixed (c .before .before .before .before .before .before .before .pre (ne-eqb (kindOf (c .before .before .before .before .before .before .before .args .value)) 0 (rw (c .before .before .before .before .kind .ensures) at (c .before .before .before .if1 .left)))), sym (c .before .before .is-variable-length .ensures) ∙ c .before .if2 .left)
+write-fixed-requires c κs =
+    let p = c .before .before .before .before .before .before .before .before .pre in
+    let q = p .1 (is-value (p .0) (c .before .before .if1 .left)) in
+    (p .0, (slot-ready (p .0) q (c .before .if2 .left), q .bit))
 
 same-length-2 : tie.Need-same-length-2
 same-length-2 c = search needs
 
 returns-3 : tie.Need-returns-3
 returns-3 c =
-    let a = c .before .before .before .before .before .before .before .before .before .before .args in
-    stored-fixed (a .layout) (a .before) (a .ty) (a .value) (storedForm (a .ty) (a .value) (textOf (now (a .text)) (a .value))) (a .end) (now (a .out)) _ _ (ne-eqb (kindOf (a .value)) 0 (rw (c .before .before .before .before .before .before .before .kind .ensures) at (c .before .before .before .before .before .before .if1 .left))) (sym (c .before .before .before .before .before .is-variable-length .ensures) ∙ c .before .before .before .before .if2 .left) refl (c .before .before .write-fixed .ensures)
+    let p = c .before .before .before .before .before .before .before .before .before .before .before .pre in
+    let z = is-value (p .0) (c .before .before .before .before .before .if1 .left) in
+    slot-stored (p .0) (p .1 z) (c .before .before .before .before .if2 .left) (now (c .before .before .before .before .before .before .before .before .before .before .before .args .out)) _ z (c .before .before .write-fixed .ensures)
 
 pub write-column-spec : {M : Type 1} → statement M
 write-column-spec =
     tie.close
     (tie.spec
-    kind-requires
+    shared-slice-read-kind
     returns
-    is-variable-length-requires
+    add-write-varchar
     write-varchar-requires
     same-length
     returns-2

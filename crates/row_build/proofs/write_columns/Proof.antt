@@ -1,52 +1,110 @@
-use borrow.Author.Needs.{needs}
 use Rattle.row_build.proofs.write_columns.Statement.{statement}
-use Rattle.row_build.proofs.write_columns.Tie as tie
-use Rattle.row_build.proofs.Writing.{Writing, write-start, write-size, write-end, write-more, write-room}
+use Rattle.row_build.proofs.Writing.{Writing, write-start, write-size, write-end, write-more, write-room, write-places}
 use Rattle.row_build.proofs.Measuring.{left}
-use Rattle.row_build.proofs.Walk.{readable, few}
-use native.Mathlib.Omega.{arith}
+use Rattle.row_build.proofs.Walk.{readable}
+use Rattle.row_build.proofs.Held.{read-at}
+use Rattle.row_build.proofs.Forms.{entry-bytes}
 use Prim.Native.Nat.{_-_}
+use borrow.Author.Needs.{needs}
+use Rattle.row_build.proofs.write_columns.Tie as tie
+use Rattle.row_build.proofs.after_column.Reads as after-column-reads
+use Rattle.row_build.proofs.entry_size.Reads as entry-size-reads
+use Rattle.row_build.proofs.held_kind.Reads as held-kind-reads
+use Rattle.row_build.proofs.slot_size.Reads as slot-size-reads
+use Rattle.row_build.proofs.write_column.Reads as write-column-reads
+use Rattle.row_layout.proofs.RowLayout.fixed_data_start.Reads as fixed-data-start-reads
+use Rattle.row_layout.proofs.RowLayout.min_row_size.Reads as min-row-size-reads
+use Rattle.row_layout.proofs.RowLayout.varlen_table_offset.Reads as varlen-table-offset-reads
+use Rattle.value_list.proofs.body_length.Reads as body-length-reads
 
 abbrev Inv-loop : tie.InvT-loop
-Inv-loop schema layout values text out₀ before₀ at₀ from₀ end₀ out before at from end = Writing schema layout values text out₀ out before at from end
+Inv-loop schema layout values text out₀ column₀ at₀ from₀ slot₀ entry₀ end₀ out column at from slot entry end = Writing schema layout values text out₀ out column at from slot entry end
 
 abbrev μ-loop : tie.MeasureT-loop
-μ-loop schema layout values text out₀ before₀ at₀ from₀ end₀ out before at from end = layout .«num_columns» - before .«num_columns»
+μ-loop schema layout values text out₀ column₀ at₀ from₀ slot₀ entry₀ end₀ out column at from slot entry end = layout .«num_columns» - column
 
-new-requires : tie.Need-new-requires Inv-loop μ-loop
-new-requires c κs = search needs
+fixed-data-start-requires : tie.Need-fixed-data-start-requires Inv-loop μ-loop
+fixed-data-start-requires c κs = c .before .before .before .before .pre .given .accepted .bounded
+
+varlen-table-offset-requires : tie.Need-varlen-table-offset-requires Inv-loop μ-loop
+varlen-table-offset-requires c κs = c .before .before .before .before .before .pre .given .accepted .bounded
 
 min-row-size-requires : tie.Need-min-row-size-requires Inv-loop μ-loop
-min-row-size-requires c κs = c .before .before .before .before .before .pre .given .accepted .bounded
+min-row-size-requires c κs = c .before .before .before .before .before .before .pre .given .accepted .bounded
 
 loop-holds : tie.Need-loop-holds Inv-loop μ-loop
-loop-holds c = rw (c .before .new .ensures, c .min-row-size .ensures) (write-start (c .before .before .before .before .before .before .pre))
-
-given-at-requires : tie.Need-given-at-requires Inv-loop μ-loop
-given-at-requires c κs = readable (c .before .before .before .before .before .before .before .before .before .before .pre .given) (c .before .before .before .loop .inv .walk) (left (c .before .before .before .before .before .before .before .before .before .before .pre .given) (c .if1 .taken))
+loop-holds c = rw (c .before .before .fixed-data-start .ensures, c .before .varlen-table-offset .ensures, c .min-row-size .ensures) (write-start (c .before .before .before .before .before .before .before .pre))
 
 write-column-requires : tie.Need-write-column-requires Inv-loop μ-loop
-write-column-requires c κs = write-room (c .before .before .before .before .before .before .before .before .before .before .before .before .pre) (c .before .before .before .before .before .loop .inv) (left (c .before .before .before .before .before .before .before .before .before .before .before .before .pre .given) (c .before .before .if1 .taken)) (c .before .given-at .ensures)
+write-column-requires c κs =
+    let p = c .before .before .before .before .before .before .before .before .before .before .before .pre in
+    let h = left (p .given) (c .before .if1 .taken) in
+    let r = readable (p .given) (c .before .before .before .loop .inv .walk) h in
+    (r, write-room p (c .before .before .before .loop .inv) h (read-at r))
 
-shape-requires : tie.Need-shape-requires Inv-loop μ-loop
-shape-requires c κs = search needs
+slot-size-requires : tie.Need-slot-size-requires Inv-loop μ-loop
+slot-size-requires c κs = readable (c .before .before .before .before .before .before .before .before .before .before .before .before .before .before .pre .given) (c .before .before .before .before .before .before .loop .inv .walk) (left (c .before .before .before .before .before .before .before .before .before .before .before .before .before .before .pre .given) (c .before .before .before .before .if1 .taken)) .column
 
-with-column-requires : tie.Need-with-column-requires Inv-loop μ-loop
-with-column-requires c κs = (few (c .before .before .before .before .before .before .before .before .before .before .before .before .before .before .before .before .pre .given) (c .before .before .before .before .before .before .before .before .before .loop .inv .walk) (left (c .before .before .before .before .before .before .before .before .before .before .before .before .before .before .before .before .pre .given) (c .before .before .before .before .before .before .if1 .taken)), (c .before .before .before .before .before .before .before .before .before .loop .inv .bounded, c .shape .ensures .1))
+add-slot : tie.Need-add-slot Inv-loop μ-loop
+add-slot c =
+    let p = c .before .before .before .before .before .before .before .before .before .before .before .before .before .before .before .pre in
+    let h = left (p .given) (c .before .before .before .before .before .if1 .taken) in
+    let q = rw (← c .slot-size .ensures) at (write-places p (c .before .before .before .before .before .before .before .loop .inv) h (read-at (readable (p .given) (c .before .before .before .before .before .before .before .loop .inv .walk) h)) .0) in
+    search needs
+
+shared-slice-read-held-kind : tie.Need-shared-slice-read-held-kind Inv-loop μ-loop
+shared-slice-read-held-kind c = readable (c .before .before .before .before .before .before .before .before .before .before .before .before .before .before .before .before .pre .given) (c .before .before .before .before .before .before .before .before .loop .inv .walk) (left (c .before .before .before .before .before .before .before .before .before .before .before .before .before .before .before .before .pre .given) (c .before .before .before .before .before .before .if1 .taken)) .column
+
+held-kind-requires : tie.Need-held-kind-requires Inv-loop μ-loop
+held-kind-requires c κs = search needs
+
+entry-size-requires : tie.Need-entry-size-requires Inv-loop μ-loop
+entry-size-requires c κs = search needs
+
+add-entry : tie.Need-add-entry Inv-loop μ-loop
+add-entry c =
+    let p = c .before .before .before .before .before .before .before .before .before .before .before .before .before .before .before .before .before .before .pre in
+    let h = left (p .given) (c .before .before .before .before .before .before .before .before .if1 .taken) in
+    let q = write-places p (c .before .before .before .before .before .before .before .before .before .before .loop .inv) h (read-at (readable (p .given) (c .before .before .before .before .before .before .before .before .before .before .loop .inv .walk) h)) .1 in
+    search needs
+
+after-column-requires : tie.Need-after-column-requires Inv-loop μ-loop
+after-column-requires c κs = readable (c .before .before .before .before .before .before .before .before .before .before .before .before .before .before .before .before .before .before .pre .given) (c .before .before .before .before .before .before .before .before .before .before .loop .inv .walk) (left (c .before .before .before .before .before .before .before .before .before .before .before .before .before .before .before .before .before .before .pre .given) (c .before .before .before .before .before .before .before .before .if1 .taken)) .column
+
+add-from : tie.Need-add-from Inv-loop μ-loop
+add-from c = let q = readable (c .before .before .before .before .before .before .before .before .before .before .before .before .before .before .before .before .before .before .before .pre .given) (c .before .before .before .before .before .before .before .before .before .before .before .loop .inv .walk) (left (c .before .before .before .before .before .before .before .before .before .before .before .before .before .before .before .before .before .before .before .pre .given) (c .before .before .before .before .before .before .before .before .before .if1 .taken)) .value in search needs
+
+shared-slice-read-body-length : tie.Need-shared-slice-read-body-length Inv-loop μ-loop
+shared-slice-read-body-length c = readable (c .before .before .before .before .before .before .before .before .before .before .before .before .before .before .before .before .before .before .before .before .pre .given) (c .before .before .before .before .before .before .before .before .before .before .before .before .loop .inv .walk) (left (c .before .before .before .before .before .before .before .before .before .before .before .before .before .before .before .before .before .before .before .before .pre .given) (c .before .before .before .before .before .before .before .before .before .before .if1 .taken)) .value
+
+body-length-requires : tie.Need-body-length-requires Inv-loop μ-loop
+body-length-requires c κs = search needs
+
+add-from-2 : tie.Need-add-from-2 Inv-loop μ-loop
+add-from-2 c =
+    let g = c .before .before .before .before .before .before .before .before .before .before .before .before .before .before .before .before .before .before .before .before .before .good in
+    let q = readable (c .before .before .before .before .before .before .before .before .before .before .before .before .before .before .before .before .before .before .before .before .before .pre .given) (c .before .before .before .before .before .before .before .before .before .before .before .before .before .loop .inv .walk) (left (c .before .before .before .before .before .before .before .before .before .before .before .before .before .before .before .before .before .before .before .before .before .pre .given) (c .before .before .before .before .before .before .before .before .before .before .before .if1 .taken)) .value in
+    let b = c .body-length .ensures .1 in
+    search needs
+
+add-column : tie.Need-add-column Inv-loop μ-loop
+add-column c = search needs
 
 loop-less : tie.Need-loop-less Inv-loop μ-loop
-loop-less c = rw (c .with-column .ensures .0) (omega (arith, c .before .before .before .before .before .before .before .if1 .taken))
+loop-less c = search needs
 
 loop-again : tie.Need-loop-again Inv-loop μ-loop
 loop-again c =
-    let w = rw (c .before .shape .ensures .0) at (c .with-column .ensures .0) in
-    rw w (write-more (c .before .before .before .before .before .before .before .before .before .before .before .before .before .before .before .before .before .pre) (c .before .before .before .before .before .before .before .before .before .before .loop .inv) (left (c .before .before .before .before .before .before .before .before .before .before .before .before .before .before .before .before .before .pre .given) (c .before .before .before .before .before .before .before .if1 .taken)) (c .before .before .before .before .before .before .given-at .ensures) (c .before .before .before .before .write-column .result) _ (c .before .before .before .before .write-column .ensures) (rw w at (c .with-column .ensures .1)))
+    let p = c .before .before .before .before .before .before .before .before .before .before .before .before .before .before .before .before .before .before .before .before .before .pre in
+    let h = left (p .given) (c .before .before .before .before .before .before .before .before .before .before .before .if1 .taken) in
+    let r = readable (p .given) (c .before .before .before .before .before .before .before .before .before .before .before .before .before .loop .inv .walk) h in
+    rw (c .before .before .after-column .ensures, c .body-length .ensures .0, c .before .before .before .before .before .before .slot-size .ensures, entry-bytes r (c .before .before .before .before .held-kind .ensures) (c .before .before .before .entry-size .ensures .0)) (write-more p (c .before .before .before .before .before .before .before .before .before .before .before .before .before .loop .inv) h (read-at r) (c .before .before .before .before .before .before .before .before .before .write-column .result) _ (c .before .before .before .before .before .before .before .before .before .write-column .ensures))
 
 same-length : tie.Need-same-length Inv-loop μ-loop
-same-length c = write-size (c .before .before .before .before .before .before .before .before .before .before .pre) (c .before .before .before .loop .inv)
+same-length c = write-size (c .before .before .before .before .before .before .before .before .before .before .pre) (c .before .before .loop .inv)
 
 returns : tie.Need-returns Inv-loop μ-loop
-returns c = write-end (c .before .before .before .before .before .before .before .before .before .before .pre) (c .before .before .before .loop .inv) (c .if1 .left)
+returns c = write-end (c .before .before .before .before .before .before .before .before .before .before .pre) (c .before .before .loop .inv) (c .if1 .left)
 
 pub write-columns-spec : {M : Type 1} → statement M
 write-columns-spec =
@@ -54,13 +112,23 @@ write-columns-spec =
     (tie.spec
     Inv-loop
     μ-loop
-    new-requires
+    fixed-data-start-requires
+    varlen-table-offset-requires
     min-row-size-requires
     loop-holds
-    given-at-requires
     write-column-requires
-    shape-requires
-    with-column-requires
+    slot-size-requires
+    add-slot
+    shared-slice-read-held-kind
+    held-kind-requires
+    entry-size-requires
+    add-entry
+    after-column-requires
+    add-from
+    shared-slice-read-body-length
+    body-length-requires
+    add-from-2
+    add-column
     loop-less
     loop-again
     same-length

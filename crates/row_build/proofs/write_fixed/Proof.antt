@@ -1,21 +1,11 @@
 use borrow.Author.Needs.{needs}
 use Rattle.row_build.proofs.write_fixed.Statement.{statement}
 use Rattle.row_build.proofs.write_fixed.Tie as tie
-use Rattle.row_build.proofs.Tests.{length-slot}
-use denote.Ref.{now}
+use Rattle.row_build.proofs.clear_bit.Reads as clear-bit-reads
+use Rattle.row_build.proofs.write_slot.Reads as write-slot-reads
 
-fixed-data-start-requires : tie.Need-fixed-data-start-requires
-fixed-data-start-requires c κs = search needs
-
-add-at : tie.Need-add-at
-add-at c = search needs
-
-to-bytes-for-type-requires : tie.Need-to-bytes-for-type-requires
-to-bytes-for-type-requires c κs =
-    let a = c .before .before .before .before .before .args in
-    let p = c .before .before .before .before .before .pre .0 in
-    let n = length-slot (a .ty) (a .value) (now (a .text)) (p .match) (p .suited) (c .before .before .before .before .before .pre .1) in
-    (p .digits, (p .suited, rw (n, c .before .before .fixed-data-start .ensures) (p .slot (c .before .before .before .before .before .pre .1))))
+write-slot-requires : tie.Need-write-slot-requires
+write-slot-requires c κs = search needs
 
 clear-bit-requires : tie.Need-clear-bit-requires
 clear-bit-requires c κs = search needs
@@ -24,15 +14,7 @@ same-length : tie.Need-same-length
 same-length c = search needs
 
 returns : tie.Need-returns
-returns c = rw (c .before .before .clear-bit .ensures, c .before .before .before .before .before .before .to-bytes-for-type .ensures, c .before .before .before .before .before .before .before .before .before .fixed-data-start .ensures)
+returns c = rw (c .before .before .clear-bit .ensures, c .before .before .before .before .before .before .write-slot .ensures)
 
 pub write-fixed-spec : {M : Type 1} → statement M
-write-fixed-spec =
-    tie.close
-    (tie.spec
-    fixed-data-start-requires
-    add-at
-    to-bytes-for-type-requires
-    clear-bit-requires
-    same-length
-    returns)
+write-fixed-spec = tie.close (tie.spec write-slot-requires clear-bit-requires same-length returns)

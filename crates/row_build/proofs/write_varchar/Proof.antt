@@ -1,64 +1,82 @@
 use borrow.Author.Needs.{needs}
 use Rattle.row_build.proofs.write_varchar.Statement.{statement}
+use native.Mathlib.Omega.{arith}
+use mathlib.Core.Path.{_≡_, ap}
+use Prim.Native.Nat.{ℕ, _+_, _-_}
 use Rattle.row_build.proofs.write_varchar.Tie as tie
-use Rattle.row_build.proofs.Tests.{length-payload}
-use denote.Ref.{now}
+use Rattle.endian.proofs.read_u16.Reads as read-u16-reads
+use Rattle.endian.proofs.write_u16.Reads as write-u16-reads
+use Rattle.row_build.proofs.clear_bit.Reads as clear-bit-reads
 
-varlen-table-offset-requires : tie.Need-varlen-table-offset-requires
-varlen-table-offset-requires c κs = search needs
+read-u16-requires : tie.Need-read-u16-requires
+read-u16-requires c κs = search needs
 
-mul-entry : tie.Need-mul-entry
-mul-entry c = search needs
+cast-start : tie.Need-cast-start
+cast-start c = search needs
 
-add-entry : tie.Need-add-entry
-add-entry c = search needs
+add-read-u16 : tie.Need-add-read-u16
+add-read-u16 c = search needs
+
+read-u16-requires-2 : tie.Need-read-u16-requires-2
+read-u16-requires-2 c κs = search needs
+
+cast-length : tie.Need-cast-length
+cast-length c = search needs
 
 cast-write-u16 : tie.Need-cast-write-u16
 cast-write-u16 c = search needs
 
 write-u16-requires : tie.Need-write-u16-requires
-write-u16-requires c κs = rw (c .before .before .varlen-table-offset .ensures) (c .before .before .before .before .before .pre .0 .entry (c .before .before .before .before .before .pre .1))
+write-u16-requires c κs = search needs
 
-to-bytes-for-type-requires : tie.Need-to-bytes-for-type-requires
-to-bytes-for-type-requires c κs =
-    let p = c .before .before .before .before .before .before .before .before .before .pre .0 in
-    (p .digits, (p .suited, rw (c .before .before .out .given) (p .payload (c .before .before .before .before .before .before .before .before .before .pre .1))))
+add-copy : tie.Need-add-copy
+add-copy c = search needs
+
+sub-copy : tie.Need-sub-copy
+sub-copy c = search needs
+
+part-copy-start : tie.Need-part-copy-start
+part-copy-start c = search needs
+
+part-copy-end : tie.Need-part-copy-end
+part-copy-end c = search needs
+
+copy-requires : tie.Need-copy-requires
+copy-requires c κs = search needs
 
 clear-bit-requires : tie.Need-clear-bit-requires
 clear-bit-requires c κs = search needs
 
-range-requires : tie.Need-range-requires
-range-requires c κs = search needs
-
 add-result : tie.Need-add-result
-add-result c =
-    let a = c .before .before .before .before .before .before .before .before .before .before .before .before .before .before .before .before .before .before .args in
-    let p = c .before .before .before .before .before .before .before .before .before .before .before .before .before .before .before .before .before .before .pre .0 in
-    let q = rw (c .before .before .before .before .before .before .before .before .before .before .before .before .before .before .before .before .before .before .pre .1, length-payload (a .ty) (a .value) (now (a .text)) (p .match) (p .suited) (c .before .before .before .before .before .before .before .before .before .before .before .before .before .before .before .before .before .before .pre .1)) at (p .end-fits) in
-    rw (c .before .range .ensures) (search needs)
+add-result c = search needs
 
 same-length : tie.Need-same-length
 same-length c = search needs
 
 returns : tie.Need-returns
 returns c =
-    let a = c .before .before .before .before .before .before .before .before .before .before .before .before .before .before .before .before .before .before .args in
-    let p = c .before .before .before .before .before .before .before .before .before .before .before .before .before .before .before .before .before .before .pre .0 in
-    let q = length-payload (a .ty) (a .value) (now (a .text)) (p .match) (p .suited) (c .before .before .before .before .before .before .before .before .before .before .before .before .before .before .before .before .before .before .pre .1) in
-    (rw (c .before .range .ensures, q), rw (c .before .before .before .before .clear-bit .ensures, c .before .before .before .before .before .before .before .before .to-bytes-for-type .ensures, c .before .before .before .before .before .before .before .before .before .before .before .before .write-u16 .ensures, c .before .before .before .before .before .before .before .before .before .before .before .before .before .before .before .varlen-table-offset .ensures))
+    let s = c .before .before .before .before .before .before .before .before .before .before .before .before .before .before .read-u16 .result in
+    let l = c .before .before .before .before .before .before .before .before .before .before .before .before .before .read-u162 .result in
+    let e : s + l - s ≡ l = omega arith in
+    (ap (λ (n : ℕ). c .before .before .before .before .before .before .before .before .before .before .before .before .before .before .before .before .before .before .args .end + n) (c .before .before .before .before .before .before .before .before .before .before .before .before .before .read-u162 .ensures), rw (c .before .before .clear-bit .ensures, c .before .before .before .before .before .before .copy .ensures, c .before .before .before .before .before .before .before .before .before .before .before .write-u16 .ensures, e, c .before .before .before .before .before .before .before .before .before .before .before .before .before .before .read-u16 .ensures, c .before .before .before .before .before .before .before .before .before .before .before .before .before .read-u162 .ensures))
 
 pub write-varchar-spec : {M : Type 1} → statement M
 write-varchar-spec =
     tie.close
     (tie.spec
-    varlen-table-offset-requires
-    mul-entry
-    add-entry
+    read-u16-requires
+    cast-start
+    add-read-u16
+    read-u16-requires-2
+    cast-length
     cast-write-u16
     write-u16-requires
-    to-bytes-for-type-requires
+    add-copy
+    sub-copy
+    part-copy-start
+    part-copy-end
+    copy-requires
     clear-bit-requires
-    range-requires
     add-result
     same-length
     returns)
