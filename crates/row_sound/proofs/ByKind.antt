@@ -104,15 +104,6 @@ module _ (s : List ℕ) (at k : ℕ) where
       (λ e. by-cond Fixedly (eqb k 11) (sized T.Varchar) _ (λ e. absurd (h (eqb-true k 11 e)))
       (λ e. by-cond Fixedly (eqb k 14) (sized T.Bit) unknown (λ e. refl) (λ e. refl))))))
 
-  text-cases : (t u : Bool) → Fixed (fromLe (take 2 (drop (at + 1) s))) 1 ≡ shapeOf (bodyType s at (cond t (sized T.Char) (cond u (sized T.Character) unknown)))
-  text-cases true u = refl
-  text-cases false true = refl
-  text-cases false false = refl
-
-  -- Char and Character
-  pub text-shape : (k ≡ 6 → ⊥) → (k ≡ 7 → ⊥) → (k ≡ 11 → ⊥) → (k ≡ 14 → ⊥) → Fixed (fromLe (take 2 (drop (at + 1) s))) 1 ≡ shapeOf (bodyType s at (bodyKind k))
-  text-shape a b c d = rw (ne-eqb k 6 a, ne-eqb k 7 b, ne-eqb k 11 c, ne-eqb k 14 d) (text-cases (eqb k 9) (eqb k 10))
-
 abbrev IsColumn : Record → Type 0
 IsColumn (Column t next) = Unit {0}
 IsColumn (Refused r) = ⊥
@@ -155,9 +146,6 @@ typed-as {s} {at} b e = body-typed b ∙ ap (λ (i : ℕ). bodyType s at (bodyKi
 
 pub recorded-good : {s : List ℕ} {at : ℕ} → Recorded s at → {e : Refusal} → recordAt s at ≡ Refused e → ⊥
 recorded-good c e = subst IsColumn (sym (c .is) ∙ e) tt
-
-pub body-here : {s : List ℕ} {at k : ℕ} → Bodily s at k → recordAt s at ≡ Column (typeIn (recordAt s at)) (at + 3)
-body-here {s} {at} b = b .is ∙ ap (λ (t : DataType). Column t (at + 3)) (sym (body-typed b))
 
 -- a record that the walk has come to
 pub recorded : {s : List ℕ} {b : RowLayout} {at : ℕ} → Ahead s b at → at < length s → Recorded s at

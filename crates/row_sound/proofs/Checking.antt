@@ -1,6 +1,6 @@
 -- The walk over the columns: the columns that are left decide.
 use Prim.Native.Nat.{ℕ, _≤_, _<_}
-use mathlib.Core.Path.{_≡_, refl}
+use mathlib.Core.Path.{_≡_, refl, sym, ap, subst}
 use mathlib.Core.Bool.{Bool, true, false}
 use mathlib.Core.List.{List, []}
 use native.Mathlib.Omega.{arith}
@@ -9,10 +9,12 @@ use Rattle.row_layout.specs.declared.RowLayout.{RowLayout}
 use Rattle.row_layout.specs.Layout.{Bounded, noColumns, withColumn}
 use Rattle.datatype.specs.declared.DataType.{DataType}
 use Rattle.datatype.specs.declared.Record.the-variants.{Column}
+use Rattle.datatype.specs.declared.Step.{Step}
 use Rattle.datatype.specs.Types.{shapeOf}
 use Rattle.datatype.specs.Schema.{recordAt}
 use Rattle.datatype.specs.Check.{typesIn}
-use Rattle.datatype.proofs.Again.{Ahead, ahead-start, ahead-end, ahead-split, ahead-more}
+use Rattle.datatype.specs.Steps.{typeIn, passed}
+use Rattle.datatype.proofs.Again.{Ahead, ahead-start, ahead-end, ahead-split, ahead-more, ahead-column, step-is}
 use Rattle.row_column.specs.Frame.{Framed}
 use Rattle.row_sound.specs.Sound.{soundColumn, soundFrom}
 
@@ -37,3 +39,11 @@ module _ {s : List ℕ} {l : RowLayout} {p : Bool} {r : List ℕ} {b : RowLayout
 
     pub check-bad : soundColumn l p b t r ≡ false → false ≡ soundFrom l p r noColumns (typesIn s)
     check-bad q = rw (ahead-split (k .walk) h e, q) at (k .rest)
+
+  -- the step to the next column, by the type that its record says
+  pub check-next : (h : at < length s) → soundColumn l p b (typeIn (recordAt s at)) r ≡ true → {q : Step} → q ≡ passed at b (recordAt s at) → Bounded (q .before) → Checking s l p r (q .before) (q .at)
+  check-next h sound e small =
+      let n = ahead-column (k .walk) h in
+      let is = step-is (k .walk) h e in
+      subst (λ (x : Step). Checking s l p r (x .before) (x .at)) (sym is)
+      (check-more h (n .is) (subst (λ (t : DataType). soundColumn l p b t r ≡ true) (ap typeIn (n .is)) sound) (subst (λ (x : Step). Bounded (x .before)) is small))

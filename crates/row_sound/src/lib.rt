@@ -3,7 +3,6 @@ use datatype::DataType;
 use datatype::Record;
 use row_column::ColumnRead;
 use row_column::Frame;
-use row_format::Shape;
 use row_layout::RowLayout;
 use row_layout::VarlenRange;
 use temporal::TimeOfDay;
@@ -17,10 +16,10 @@ ghost use Rattle.laws.specs.Bytes.{fromLe};
 ghost use Rattle.text.specs.Rfc3629.{isText};
 ghost use Rattle.temporal.specs.Time.{timeOf};
 ghost use Rattle.row_format.specs.Places.{fixedStart, offsetWidth, rowLimit};
-ghost use Rattle.row_layout.specs.Layout.{Bounded, Small, noColumns};
+ghost use Rattle.row_layout.specs.Layout.{Bounded, noColumns};
 ghost use Rattle.row_layout.specs.Range.{rangeOf};
 ghost use Rattle.datatype.specs.declared.DataType.the-variants.{Char, Varchar};
-ghost use Rattle.datatype.specs.Types.{isVarlen, shapeOf};
+ghost use Rattle.datatype.specs.Types.{isVarlen};
 ghost use Rattle.datatype.specs.Schema.{kindOf, recordAt};
 ghost use Rattle.datatype.specs.Steps.{plainSize, plainType, typeIn};
 ghost use Rattle.datatype.specs.Check.{typesIn, Accepted};
@@ -184,27 +183,24 @@ fn body_sound(
     }
 }
 
-// The bytes of a Numeric or Decimal.
-fn digits_size(precision: u8) -> usize
-    ensures { λ r. ⌜ (r ≡ (precision + 2) / 2) × (r ≤ 65535) ⌝ }
+// The column whose record stands at a place of the schema, by its kind.
+fn kind_sound(
+    schema: &[u8],
+    at: usize,
+    layout: RowLayout,
+    packed: bool,
+    before: RowLayout,
+    row: &[u8],
+) -> bool
+    requires { ⌜ Recorded (now schema) at × Reachable layout packed before (typeIn (recordAt (now schema) at)) (now row) ⌝ }
+    ensures { λ r. ⌜ r ≡ soundColumn layout packed before (typeIn (recordAt (now (schema .entry)) at)) (now (row .entry)) ⌝ }
 {
-    (precision as usize + 2) / 2
-}
-
-// What the layout sees of a column whose kind is followed by a body.
-fn body_shape(kind: u8, schema: &[u8], at: usize) -> Shape
-    requires { ⌜ (kind ≡ getD (now schema) at 0) × ((plainSize (kindOf kind) ≡ 0) × Recorded (now schema) at) ⌝ }
-    ensures { λ r. ⌜ (r ≡ shapeOf (typeIn (recordAt (now (schema .entry)) at))) × Small r ⌝ }
-{
-    let size = digits_size(schema[at + 1]);
-    let n = endian::read_u16(schema, at + 1) as usize;
-    match kind {
-        6 => Shape::Fixed(size, 1),
-        7 => Shape::Fixed(size, 1),
-        11 => Shape::Varlen,
-        14 => Shape::Fixed((n + 7) / 8, 1),
-        _ => Shape::Fixed(n, 1),
+    let kind = schema[at];
+    let size = datatype::plain_size(kind);
+    if size != 0 {
+        return plain_sound(kind, size, layout, packed, before, row);
     }
+    body_sound(kind, schema, at, layout, packed, before, row)
 }
 
 // All columns. The schema was checked, so that no record of it is refused here.
@@ -215,21 +211,12 @@ fn columns_sound(schema: &[u8], layout: RowLayout, packed: bool, row: &[u8]) -> 
     let mut before = RowLayout::new();
     let mut at = 0;
     while at < schema.len() {
-        let kind = schema[at];
-        let size = datatype::plain_size(kind);
-        if size != 0 {
-            if !plain_sound(kind, size, layout, packed, before, row) {
-                return false;
-            }
-            before = before.with_column(Shape::Fixed(size, size));
-            at += 1;
-        } else {
-            if !body_sound(kind, schema, at, layout, packed, before, row) {
-                return false;
-            }
-            before = before.with_column(body_shape(kind, schema, at));
-            at += 3;
+        if !kind_sound(schema, at, layout, packed, before, row) {
+            return false;
         }
+        let step = datatype::next_column(schema, at, before);
+        before = step.before;
+        at = step.at;
     }
     true
 }
