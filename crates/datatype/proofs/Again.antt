@@ -16,7 +16,7 @@ use Rattle.row_format.specs.declared.Shape.the-variants.{Fixed, Varlen}
 use Rattle.row_format.specs.Places.{through, rankAfter, varlens}
 use Rattle.row_format.proofs.Places.{Aligned, All, none, more, through-split, size-take}
 use Rattle.row_layout.specs.declared.RowLayout.{RowLayout}
-use Rattle.row_layout.specs.Layout.{Bounded, layoutOf, noColumns, withColumn, sizeIn}
+use Rattle.row_layout.specs.Layout.{Bounded, noColumns, withColumn, sizeIn}
 use Rattle.row_layout.proofs.Columns.{layout-next}
 use Rattle.datatype.specs.declared.DataType.{DataType}
 use Rattle.datatype.specs.declared.DataType.the-variants as T

@@ -2,7 +2,7 @@
 use Prim.Native.Nat.{ℕ, _+_, _≤_, _<_}
 use mathlib.Core.Path.{_≡_, refl, sym, ap, _∙_, subst}
 use mathlib.Core.Bool.{Bool, true, false}
-use mathlib.Core.List.{List, map}
+use mathlib.Core.List.{List}
 use native.Mathlib.Omega.{arith}
 use lib.ListN.{length, take, length-map}
 use lib.Seq.{length-take-le}
@@ -15,7 +15,7 @@ use Rattle.datatype.specs.declared.Record.the-variants as Record
 use Rattle.datatype.specs.Types.{shapeOf, precisionOf}
 use Rattle.datatype.specs.Schema.{recordAt}
 use Rattle.datatype.specs.Steps.{typeIn}
-use Rattle.datatype.specs.Check.{typeAt, layoutFor, layoutBefore, typesIn, Accepted}
+use Rattle.datatype.specs.Check.{typeAt, layoutBefore, typesIn, Accepted}
 use Rattle.datatype.proofs.Records.{few-digits}
 use Rattle.datatype.proofs.Again.{before-next, Grown, grown, size-grown, Ahead, ahead-inside, ahead-type, ahead-column, ahead-typed}
 use Rattle.row_column.specs.declared.Column.{Column}

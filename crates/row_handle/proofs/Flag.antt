@@ -1,51 +1,27 @@
 -- How a plain call ends, whatever it is called with; and that an accepted one keeps the row's flag.
 use Prim.Native.Nat.{ℕ, _≤_, _<_}
-use mathlib.Core.Bool.{Bool, cond}
+use mathlib.Core.Bool.{Bool}
 use mathlib.Core.List.{List, [], _∷_, _++_}
 use mathlib.Core.Option.{none, some}
 use mathlib.Core.Path.{_≡_, refl, sym, ap, _∙_, subst}
 use native.Mathlib.Omega.{arith}
-use borrow.Author.Tests.{ltb-false}
-use lib.Dec.{leb, ltb}
 use lib.ListN.{length, take, drop, take-append-drop}
 use lib.Seq.{sets, length-take-le}
 use Rattle.laws.proofs.Bytes.{AllBytes, all-below, below-take}
 use Rattle.laws.proofs.Stores.{sets-start}
-use Rattle.laws.proofs.Truths.{by-cond}
-use Rattle.error.specs.declared.Refusal.the-variants.{NoSuchColumn, NoRoom, NotSound}
-use Rattle.error.specs.Answer.{Outcome, unchanged}
 use Rattle.row_format.specs.Places.{offsetWidth, rowLimit}
 use Rattle.row_format.specs.Table.{Cell}
 use Rattle.datatype.specs.declared.DataType.{DataType}
-use Rattle.datatype.specs.Schema.{Parsed, types, refused, schemaOf}
-use Rattle.datatype.specs.Check.{typeAt, onSchema}
+use Rattle.datatype.specs.Check.{typeAt}
 use Rattle.value_list.specs.Lists.{valuesOf}
 use Rattle.row_column.specs.Frame.{isPacked}
-use Rattle.row_sound.specs.declared.Soundness.{Soundness}
-use Rattle.row_sound.specs.declared.Soundness.the-variants as Row
-use Rattle.row_sound.specs.Sound.{soundness, SoundRow}
+use Rattle.row_sound.specs.Sound.{SoundRow}
 use Rattle.row_sound.specs.Written.{Writes, null, form}
 use Rattle.row_sound.proofs.Columns.{sound-long}
-use Rattle.row_sound.proofs.Rows.{told-row, row-short, row-flag, null-short, edit-sound}
-use Rattle.row_edit.specs.Edit.{onSound, onRow, opened, edited, given, setCall, setNullCall}
+use Rattle.row_sound.proofs.Rows.{row-short, row-flag, null-short, edit-sound}
+use Rattle.row_edit.specs.Edit.{edited, given, setCall, setNullCall}
 use Rattle.history.specs.History.{oneValue}
-use Rattle.history.proofs.Calls.{Ends, refusal, written, column-ends, tested-ends, placed-ends, given-taken}
-
--- ---- the tests before a call's own
-
-module _ {buf : List ℕ} {P : List ℕ → Type 0} (w limit : ℕ) (schema : List ℕ) (n i : ℕ) where
-  pub opened-ends : (k : List DataType → Bool → Outcome) → ((ts : List DataType) (p : Bool) → n ≤ length buf → SoundRow limit ts p (take n buf) → i < length ts → Ends buf P (k ts p)) → Ends buf P (opened w limit schema buf n i k)
-  opened-ends k f = on-schema (schemaOf w limit schema)
-    where
-      on-sound : (ts : List DataType) → n ≤ length buf → (x : Soundness) → soundness limit ts (take n buf) ≡ x
-          → Ends buf P (onSound x (unchanged buf NotSound) (λ p. cond (leb (length ts) i) (unchanged buf NoSuchColumn) (k ts p)))
-      on-sound ts room Row.NotSound e = refusal NotSound refl
-      on-sound ts room (Row.Sound p) e = column-ends (length ts) i (k ts p) (λ h. f ts p room (told-row limit ts (take n buf) e) h)
-
-      on-schema : (q : Parsed) → Ends buf P (onSchema q (unchanged buf) (λ ts. cond (ltb (length buf) n) (unchanged buf NoRoom) (onRow limit ts (take n buf) i (unchanged buf) (k ts))))
-      on-schema (refused e) = refusal e refl
-      on-schema (types ts) =
-          by-cond (Ends buf P) (ltb (length buf) n) (unchanged buf NoRoom) _ (λ h. refusal NoRoom refl) (λ h. on-sound ts (ltb-false (length buf) n h) (soundness limit ts (take n buf)) refl)
+use Rattle.history.proofs.Calls.{Ends, written, opened-ends, tested-ends, placed-ends, given-taken}
 
 -- ---- the flag of the row at the front of a buffer
 
@@ -80,7 +56,7 @@ module _ (schema buf : List ℕ) (n i : ℕ) (bytes : AllBytes buf) where
   pub set-keeps-flag : (list area : List ℕ) → AllBytes list → Ends buf (λ r. isPacked (sets buf 0 r) ≡ isPacked buf) (setCall offsetWidth rowLimit schema buf n i list area)
   set-keeps-flag list area octets =
       opened-ends offsetWidth rowLimit schema n i _
-      λ ts p room s h. tested-ends (given rowLimit (typeAt ts i) i list area) _
+      λ ts p e room s h. tested-ends (given rowLimit (typeAt ts i) i list area) _
       λ b g. placed-ends rowLimit (edited offsetWidth ts p buf n i (some b))
       λ short fits. let t = given-taken rowLimit (typeAt ts i) i list area b octets g in
       let v = oneValue (valuesOf list) in
@@ -89,7 +65,7 @@ module _ (schema buf : List ℕ) (n i : ℕ) (bytes : AllBytes buf) where
   pub null-keeps-flag : Ends buf (λ r. isPacked (sets buf 0 r) ≡ isPacked buf) (setNullCall offsetWidth rowLimit schema buf n i)
   null-keeps-flag =
       opened-ends offsetWidth rowLimit schema n i _
-      λ ts p room s h. let r = edited offsetWidth ts p buf n i none in
+      λ ts p e room s h. let r = edited offsetWidth ts p buf n i none in
       let l : length r ≤ length (take n buf) = null-short s i h in
       let k = row-short s in
       let m : length (take n buf) ≤ length buf = rw (length-take-le n buf room) room in

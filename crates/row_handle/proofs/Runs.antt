@@ -22,14 +22,14 @@ use Rattle.row_build.specs.Build.{freshCall}
 use Rattle.row_edit.specs.Edit.{given, edited}
 use Rattle.history.specs.History.{Call, setValue, setNull, State, rowOf, called, handedBack, next, Entry, noted, run, sheetAfter}
 use Rattle.history.specs.Demand.{left, sheet, zeroed}
-use Rattle.history.proofs.Calls.{Ends, refusal, written, tested-ends, placed-ends}
+use Rattle.history.proofs.Calls.{opened-ends, Ends, refusal, written, tested-ends, placed-ends}
 use Rattle.history.proofs.Histories.{history, histories}
 use Rattle.history.proofs.Accepts.{accepts}
 use Rattle.row_handle.specs.declared.HandleLayout.{HandleLayout}
 use Rattle.row_handle.specs.declared.RowHandle.{RowHandle}
 use Rattle.row_handle.specs.Handle.{layoutOf, handleAfter, Handled, handled, handleAt}
 use Rattle.row_handle.specs.Runs.{HandleState, stateOf, handleCalled, handleNext, handleRun, handleAnswers, answers, sheetBy, Laid, HandleHistory, plain, handleLeft, handleZeroed, handleSheet, Carries, HandlesTold}
-use Rattle.row_handle.proofs.Flag.{opened-ends, flag-row}
+use Rattle.row_handle.proofs.Flag.{flag-row}
 
 abbrev IsRefused : Answer → Type 0
 IsRefused (Done m) = ⊥
@@ -81,8 +81,8 @@ module _ (w limit : ℕ) (schema : List ℕ) where
   -- how each call ends, whatever it is called with
   ends : (c : Call) (s : State) → Ends (s .buf) (λ r. Unit {0}) (called w limit schema c s)
   ends (setValue i list area) s =
-      opened-ends w limit schema (s .row-length) i _ λ ts p room sound h. tested-ends (given limit (typeAt ts i) i list area) _ λ b g. placed-ends limit (edited w ts p (s .buf) (s .row-length) i (some b)) λ short fits. tt
-  ends (setNull i) s = opened-ends w limit schema (s .row-length) i _ λ ts p room sound h. written (edited w ts p (s .buf) (s .row-length) i none) refl tt
+      opened-ends w limit schema (s .row-length) i _ λ ts p e room sound h. tested-ends (given limit (typeAt ts i) i list area) _ λ b g. placed-ends limit (edited w ts p (s .buf) (s .row-length) i (some b)) λ short fits. tt
+  ends (setNull i) s = opened-ends w limit schema (s .row-length) i _ λ ts p e room sound h. written (edited w ts p (s .buf) (s .row-length) i none) refl tt
 
   laid-of : (s : HandleState) (o : Outcome) → Ends (s .buf) (λ r. Unit {0}) o → Laid schema s → Laid schema (handleNext (handled schema (s .handle) o))
   laid-of s o (refusal e q) l = subst (λ (x : Outcome). Laid schema (handleNext (handled schema (s .handle) x))) (sym q) l

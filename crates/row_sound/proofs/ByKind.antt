@@ -12,12 +12,11 @@ use Rattle.error.specs.declared.Refusal.the-variants.{BadRecord, BadSchema}
 use Rattle.laws.specs.Bytes.{fromLe}
 use Rattle.laws.proofs.Truths.{by-cond}
 use Rattle.row_layout.specs.declared.RowLayout.{RowLayout}
-use Rattle.row_format.specs.declared.Shape.the-variants.{Fixed}
 use Rattle.datatype.specs.declared.DataType.{DataType}
 use Rattle.datatype.specs.declared.DataType.the-variants as T
 use Rattle.datatype.specs.declared.Record.{Record}
 use Rattle.datatype.specs.declared.Record.the-variants.{Column, Refused}
-use Rattle.datatype.specs.Types.{sizeOf, alignmentOf, isVarlen, shapeOf}
+use Rattle.datatype.specs.Types.{sizeOf, alignmentOf, isVarlen}
 use Rattle.datatype.specs.Schema.{Kind, unknown, plain, sized, digits, bodyKind, kindOf, goodDigits, recordOf, recordAt}
 use Rattle.datatype.specs.Steps.{plainSize, plainType, typeIn}
 use Rattle.datatype.proofs.Records.{Bodied, no, word, pair, bodied}

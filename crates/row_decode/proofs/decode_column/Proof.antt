@@ -1,7 +1,6 @@
 use borrow.Author.Needs.{needs}
 use Rattle.row_decode.proofs.decode_column.Statement.{statement}
 use denote.Ref.{now}
-use native.Mathlib.Omega.{arith}
 use mathlib.Core.Path.{sym, _∙_}
 use borrow.Author.Tests.{eq-eqb, ne-eqb}
 use Rattle.laws.proofs.Parts.{part-all}

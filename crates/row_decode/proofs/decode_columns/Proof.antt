@@ -1,5 +1,4 @@
 use Rattle.row_decode.proofs.decode_columns.Statement.{statement}
-use denote.Ref.{now}
 use native.Mathlib.Omega.{arith}
 use mathlib.Core.Path.{_∙_}
 use Prim.Native.Nat.{_-_}

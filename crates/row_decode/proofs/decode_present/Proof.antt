@@ -1,8 +1,7 @@
 use borrow.Author.Needs.{needs}
 use Rattle.row_decode.proofs.decode_present.Statement.{statement}
 use denote.Ref.{now}
-use native.Mathlib.Omega.{arith}
-use mathlib.Core.Path.{refl, ap, _∙_, ap₂}
+use mathlib.Core.Path.{ap, _∙_, ap₂}
 use Rattle.row_decode.specs.Marks.{stepped}
 use Rattle.row_decode.proofs.Present.{slot-stepped, is-some, plain-inside, plain-length, plain-column}
 use Prim.Native.Nat.{_+_, _-_}

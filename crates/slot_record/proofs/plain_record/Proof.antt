@@ -2,7 +2,7 @@ use borrow.Author.Needs.{needs}
 use Rattle.slot_record.proofs.plain_record.Statement.{statement}
 use denote.Ref.{now}
 use native.Mathlib.Omega.{arith}
-use mathlib.Core.Path.{sym, _∙_}
+use mathlib.Core.Path.{_∙_}
 use mir.Syntax.{w16, w32, w64}
 use borrow.Author.Tests.{ne-eqb}
 use Rattle.datatype.proofs.Plain.{last-plain}

@@ -3,9 +3,7 @@ use borrow.Author.Needs.{needs}
 use Rattle.slot_record.proofs.varchar_record.Statement.{statement}
 use denote.Ref.{now}
 use Rattle.slot_record.proofs.Numbers.{part-length}
-use Rattle.laws.proofs.Tests.{by-tests}
 use borrow.Author.Tests.{lt-ltb, le-ltb}
-use native.Mathlib.Omega.{arith}
 use Rattle.slot_record.proofs.varchar_record.Tie as tie
 use Rattle.text.proofs.is_valid.Reads as is-valid-reads
 use Rattle.value_list.proofs.write_range.Reads as write-range-reads

@@ -1,10 +1,7 @@
 use borrow.Author.Needs.{needs}
 use Rattle.value_list.proofs.record_size.Statement.{statement}
 use Rattle.laws.proofs.Tests.{by-tests}
-use Prim.Native.Nat.{_-_, _<_}
-use native.Mathlib.Omega.{arith}
-use lib.ListN.{length}
-use denote.Ref.{now}
+use Prim.Native.Nat.{_-_}
 use Rattle.value_list.proofs.record_size.Tie as tie
 use Rattle.value_list.proofs.body_length.Reads as body-length-reads
 
