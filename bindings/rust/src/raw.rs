@@ -70,9 +70,13 @@ struct TextAnswer {
 #[repr(C)]
 #[derive(Debug, Clone, Copy, PartialEq, Eq, Hash, Default)]
 pub struct Layout {
+    /// How many columns the row has.
     pub num_columns: usize,
+    /// How many of them are Varchars.
     pub num_varlen_cols: usize,
+    /// The bytes of the fixed columns, packed or padded as the row is.
     pub fixed_size: usize,
+    /// Whether the fixed columns stand end to end.
     pub packed: bool,
 }
 
@@ -80,7 +84,9 @@ pub struct Layout {
 #[repr(C)]
 #[derive(Debug, Clone, Copy, PartialEq, Eq, Hash, Default)]
 pub struct Handle {
+    /// The row's length.
     pub length: usize,
+    /// Its layout.
     pub layout: Layout,
 }
 

@@ -29,6 +29,22 @@ pub struct Text {
     pub length: usize,
 }
 
+#[repr(C)]
+#[derive(Debug, Clone, Copy, PartialEq, Eq, Default)]
+pub struct Layout {
+    pub num_columns: usize,
+    pub num_varlen_cols: usize,
+    pub fixed_size: usize,
+    pub packed: bool,
+}
+
+#[repr(C)]
+#[derive(Debug, Clone, Copy, PartialEq, Eq)]
+pub struct Handle {
+    pub length: usize,
+    pub layout: Layout,
+}
+
 unsafe extern "C" {
     pub fn rook_row_fresh(
         schema: *const u8,
@@ -78,6 +94,28 @@ unsafe extern "C" {
         buffer: *mut u8,
         buffer_length: usize,
         row_length: usize,
+        column: usize,
+    ) -> Row;
+
+    pub fn rook_row_handle_set(
+        handle: &mut Handle,
+        schema: *const u8,
+        schema_length: usize,
+        buffer: *mut u8,
+        buffer_length: usize,
+        column: usize,
+        values: *const u8,
+        values_length: usize,
+        text: *const u8,
+        text_length: usize,
+    ) -> Row;
+
+    pub fn rook_row_handle_set_null(
+        handle: &mut Handle,
+        schema: *const u8,
+        schema_length: usize,
+        buffer: *mut u8,
+        buffer_length: usize,
         column: usize,
     ) -> Row;
 

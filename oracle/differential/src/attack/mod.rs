@@ -3,9 +3,11 @@
 //! and the marks beside it. `rounds` makes the inputs.
 
 pub mod judge;
+mod handle;
 mod rounds;
 
 use crate::memory::{Lending, Part, Side, Slot};
+use crate::port::Handle;
 use crate::{hex, port};
 use judge::{Judge, Told, told};
 use std::fmt::Write;
@@ -17,6 +19,8 @@ pub enum Call {
     Read,
     Set,
     SetNull,
+    HandleSet,
+    HandleSetNull,
     Text,
     SameContent,
     IsNull,
@@ -24,12 +28,14 @@ pub enum Call {
 }
 
 impl Call {
-    pub const ALL: [Call; 9] = [
+    pub const ALL: [Call; 11] = [
         Call::Fresh,
         Call::Build,
         Call::Read,
         Call::Set,
         Call::SetNull,
+        Call::HandleSet,
+        Call::HandleSetNull,
         Call::Text,
         Call::SameContent,
         Call::IsNull,
@@ -43,6 +49,8 @@ impl Call {
             Call::Read => "rook_row_read",
             Call::Set => "rook_row_set",
             Call::SetNull => "rook_row_set_null",
+            Call::HandleSet => "rook_row_handle_set",
+            Call::HandleSetNull => "rook_row_handle_set_null",
             Call::Text => "rook_row_text",
             Call::SameContent => "rook_row_same_content",
             Call::IsNull => "rook_row_is_null",
@@ -245,6 +253,55 @@ impl Attack {
         let numbers = [length, column];
         self.run(Call::SetNull, [schema], buffer, numbers, port, |buffer| {
             judge(schema, buffer, length, column)
+        })
+    }
+
+    fn handle_set(
+        &mut self,
+        schema: &[u8],
+        buffer: &[u8],
+        handle: Handle,
+        column: usize,
+        values: &[u8],
+        text: &[u8],
+    ) -> Told {
+        let judge = self.judge.set;
+        let inputs = [schema, values, text];
+        let port = |[s, v, t]: [Part; 3], b: Part| unsafe {
+            let mut after = handle;
+            let answer = port::rook_row_handle_set(
+                &mut after, s.pointer, s.length, b.pointer, b.length, column, v.pointer, v.length,
+                t.pointer, t.length,
+            );
+            let row = std::slice::from_raw_parts(b.pointer, b.length);
+            handle::told(&answer, schema, row, handle, after)
+        };
+        let numbers = [handle.length, column];
+        self.run(Call::HandleSet, inputs, buffer, numbers, port, |buffer| {
+            handle::right(judge(schema, buffer, handle.length, column, values, text))
+        })
+    }
+
+    fn handle_set_null(
+        &mut self,
+        schema: &[u8],
+        buffer: &[u8],
+        handle: Handle,
+        column: usize,
+    ) -> Told {
+        let judge = self.judge.set_null;
+        let port = |[s]: [Part; 1], b: Part| unsafe {
+            let mut after = handle;
+            let answer = port::rook_row_handle_set_null(
+                &mut after, s.pointer, s.length, b.pointer, b.length, column,
+            );
+            let row = std::slice::from_raw_parts(b.pointer, b.length);
+            handle::told(&answer, schema, row, handle, after)
+        };
+        let numbers = [handle.length, column];
+        let inputs = [schema];
+        self.run(Call::HandleSetNull, inputs, buffer, numbers, port, |buffer| {
+            handle::right(judge(schema, buffer, handle.length, column))
         })
     }
 

@@ -5,6 +5,7 @@
 use super::judge::Told;
 use super::{Attack, Call};
 use crate::compare::{build, rows, text};
+use crate::port::{Handle, Layout};
 use cases::LIMIT;
 use cases::generate::history::history;
 use cases::generate::list::any_list;
@@ -34,7 +35,7 @@ fn noise(rng: &mut Rng, length: usize) -> &'static [u8] {
 }
 
 /// Each call as often as it is to be tried.
-const TRIED: [Call; 16] = [
+const TRIED: [Call; 18] = [
     Call::Fresh,
     Call::Build,
     Call::Build,
@@ -45,6 +46,8 @@ const TRIED: [Call; 16] = [
     Call::Set,
     Call::Set,
     Call::SetNull,
+    Call::HandleSet,
+    Call::HandleSetNull,
     Call::Text,
     Call::Text,
     Call::SameContent,
@@ -216,8 +219,8 @@ impl Attack {
             }
             Call::Build => self.build_step(rng, given, last),
             Call::Read => self.read_step(rng, given, last),
-            Call::Set => self.set_step(rng, given),
-            Call::SetNull => self.set_null_step(rng, given),
+            Call::Set | Call::HandleSet => self.set_step(rng, given, call),
+            Call::SetNull | Call::HandleSetNull => self.set_null_step(rng, given, call),
             Call::Text => {
                 let schema = self.varied(rng, &given.schema, 24);
                 let row = &given.rows[rng.below(4)];
@@ -299,7 +302,7 @@ impl Attack {
         }
     }
 
-    fn set_step(&mut self, rng: &mut Rng, given: &mut Given) -> Told {
+    fn set_step(&mut self, rng: &mut Rng, given: &mut Given, call: Call) -> Told {
         let (buffer, own, length) = self.edited(rng, given);
         let (column, list) = &given.sets[rng.below(given.sets.len())];
         let column = match rng.one_in(16) {
@@ -309,22 +312,47 @@ impl Attack {
         let schema = self.varied(rng, &given.schema, 32);
         let values = self.varied(rng, &list.bytes, 6);
         let text = self.varied(rng, &list.text, 10);
-        let told = self.set(&schema, &buffer, [length, column], &values, &text);
+        let told = match call {
+            Call::HandleSet => {
+                let handle = any_handle(rng, length);
+                self.handle_set(&schema, &buffer, handle, column, &values, &text)
+            }
+            _ => self.set(&schema, &buffer, [length, column], &values, &text),
+        };
         if own && schema == given.schema {
             self.accept(given, told);
         }
         told
     }
 
-    fn set_null_step(&mut self, rng: &mut Rng, given: &mut Given) -> Told {
+    fn set_null_step(&mut self, rng: &mut Rng, given: &mut Given, call: Call) -> Told {
         let (buffer, own, length) = self.edited(rng, given);
         let schema = self.varied(rng, &given.schema, 32);
         let column = any_column(rng, given.types.len());
-        let told = self.set_null(&schema, &buffer, [length, column]);
+        let told = match call {
+            Call::HandleSetNull => {
+                let handle = any_handle(rng, length);
+                self.handle_set_null(&schema, &buffer, handle, column)
+            }
+            _ => self.set_null(&schema, &buffer, [length, column]),
+        };
         if own && schema == given.schema {
             self.accept(given, told);
         }
         told
+    }
+}
+
+/// A handle of this length, with any layout.
+fn any_handle(rng: &mut Rng, length: usize) -> Handle {
+    Handle {
+        length,
+        layout: Layout {
+            num_columns: rng.below(300),
+            num_varlen_cols: rng.below(300),
+            fixed_size: rng.below(70_000),
+            packed: rng.one_in(2),
+        },
     }
 }
 
