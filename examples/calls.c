@@ -81,7 +81,7 @@ int main(void) {
     length = show("set column 1 to null", rook_row_set_null(schema, n, row, sizeof row, length, 1), row);
     length = show("set column 3 to null", rook_row_set_null(schema, n, row, sizeof row, length, 3), row);
 
-    rook_row_handle handle = {length, {0, 0, 0, false}};
+    rook_row_handle handle = {length, {0, 0, 0, 0}};
     show("handle, column 3 to null", rook_row_handle_set_null(&handle, schema, n, row, sizeof row, 3), row);
     show_handle(handle);
     show("handle, set column 1",

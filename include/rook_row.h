@@ -49,7 +49,6 @@
 #ifndef ROOK_ROW_H
 #define ROOK_ROW_H
 
-#include <stdbool.h>
 #include <stddef.h>
 #include <stdint.h>
 
@@ -77,13 +76,13 @@ typedef struct {
 } rook_text_answer;
 
 /* A handle: a row's length, and its layout: how many columns, how many Varchars, the bytes of the fixed columns, and
- * whether the row is packed. No call uses the layout that it gets, so a handle is made of the length that fresh, build
- * or an edit handed back, and zeros. */
+ * whether the row is packed, 0 or 1. No call uses the layout that it gets, so a handle is made of the length that fresh,
+ * build or an edit handed back, and zeros. It has no padding: an accepted call stores every byte of it. */
 typedef struct {
     size_t num_columns;
     size_t num_varlen_cols;
     size_t fixed_size;
-    bool packed;
+    size_t packed; /* 0 or 1 */
 } rook_row_layout;
 
 typedef struct {

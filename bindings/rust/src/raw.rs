@@ -76,8 +76,8 @@ pub struct Layout {
     pub num_varlen_cols: usize,
     /// The bytes of the fixed columns, packed or padded as the row is.
     pub fixed_size: usize,
-    /// Whether the fixed columns stand end to end.
-    pub packed: bool,
+    /// Whether the fixed columns stand end to end: 1 if they do, else 0.
+    pub packed: usize,
 }
 
 /// A row's length and layout. No call uses the layout that it gets; an accepted one stores the row's.

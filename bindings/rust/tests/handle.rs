@@ -6,7 +6,7 @@ const PACKED: Layout = Layout {
     num_columns: 3,
     num_varlen_cols: 1,
     fixed_size: 6,
-    packed: true,
+    packed: 1,
 };
 
 #[test]
@@ -15,7 +15,7 @@ fn as_the_plain_calls() {
         num_columns: 99,
         num_varlen_cols: 7,
         fixed_size: 1,
-        packed: false,
+        packed: 0,
     };
     let mut plain = [0xEE; 20];
     let mut length = raw::fresh(&SCHEMA, &mut plain).unwrap();
@@ -112,7 +112,7 @@ fn a_padded_row() {
         num_columns: 2,
         num_varlen_cols: 0,
         fixed_size: 8,
-        packed: false,
+        packed: 0,
     };
     assert_eq!((handle.length, handle.layout), (13, padded));
 }

@@ -1,8 +1,9 @@
 -- 01, "What must change shape": "a small row handle of length and layout is lent and changed by the set calls". What such a call answers, what it leaves in
 -- the buffer, and what in the handle.
 use Prim.Native.Nat.{ℕ}
-use mathlib.Core.Bool.{Bool, false}
+use mathlib.Core.Bool.{Bool}
 use mathlib.Core.List.{List}
+use Rattle.laws.specs.Bits.{bitValue}
 use Rattle.error.specs.declared.Answer.{Answer}
 use Rattle.error.specs.declared.Answer.the-variants.{Done, Refused}
 use Rattle.error.specs.Answer.{Outcome}
@@ -15,9 +16,15 @@ use Rattle.row_edit.specs.Edit.{setCall, setNullCall}
 use Rattle.row_handle.specs.declared.HandleLayout.{HandleLayout}
 use Rattle.row_handle.specs.declared.RowHandle.{RowHandle}
 
--- of a layout, the geometry of packed rows or of padded ones
+-- of a layout, the geometry of packed rows or of padded ones; the flag is 1 or 0
 abbrev pub geometry : RowLayout → Bool → HandleLayout
-geometry l p = record { «num_columns» = l .«num_columns»; «num_varlen_cols» = l .«num_varlen_cols»; «fixed_size» = sizeIn l p; packed = p }
+geometry l p =
+    record {
+      «num_columns» = l .«num_columns»;
+      «num_varlen_cols» = l .«num_varlen_cols»;
+      «fixed_size» = sizeIn l p;
+      packed = bitValue p;
+    }
 
 -- the layout that a schema and the flag of the row give; the row is the buffer's first bytes
 abbrev pub layoutOf : List ℕ → List ℕ → HandleLayout
@@ -46,7 +53,11 @@ handleSetNull w limit schema buf h i = handled schema h (setNullCall w limit sch
 
 -- of a row of n bytes whose layout nobody has stored yet
 abbrev pub handleAt : ℕ → RowHandle
-handleAt n = record { length = n; layout = record { «num_columns» = 0; «num_varlen_cols» = 0; «fixed_size» = 0; packed = false } }
+handleAt n =
+    record {
+      length = n;
+      layout = record { «num_columns» = 0; «num_varlen_cols» = 0; «fixed_size» = 0; packed = 0 };
+    }
 
 -- from fresh; after a refusal of a row of no bytes
 abbrev pub handleFresh : ℕ → ℕ → List ℕ → List ℕ → Handled

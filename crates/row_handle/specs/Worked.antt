@@ -1,5 +1,4 @@
 -- 01's example of a history, on S, through a handle: from fresh, and from a handle of the same length whose layout is that of no row of S.
-use mathlib.Core.Bool.{true, false}
 use mathlib.Core.List.{[], _∷_}
 use mathlib.Core.Path.{_≡_}
 use Rattle.error.specs.declared.Answer.the-variants.{Done}
@@ -11,10 +10,10 @@ use Rattle.row_handle.specs.Handle.{handleFresh}
 use Rattle.row_handle.specs.Runs.{HandleState, handleRun}
 
 abbrev pub packedS : HandleLayout
-packedS = record { «num_columns» = 3; «num_varlen_cols» = 1; «fixed_size» = 6; packed = true }
+packedS = record { «num_columns» = 3; «num_varlen_cols» = 1; «fixed_size» = 6; packed = 1 }
 
 abbrev pub odd : HandleState
-odd = record { buf = start .buf; handle = record { length = 13; layout = record { «num_columns» = 99; «num_varlen_cols» = 7; «fixed_size» = 1; packed = false } } }
+odd = record { buf = start .buf; handle = record { length = 13; layout = record { «num_columns» = 99; «num_varlen_cols» = 7; «fixed_size» = 1; packed = 0 } } }
 
 pub record Worked : Type 0 where
   pub fresh : handleFresh offsetWidth rowLimit S lent ≡ (Done 13, (start .buf, record { length = 13; layout = packedS }))

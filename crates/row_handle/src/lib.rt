@@ -9,13 +9,15 @@ ghost use Rattle.row_layout.specs.Layout.{sizeIn};
 ghost use Rattle.row_column.specs.Frame.{isPacked};
 ghost use Rattle.row_handle.specs.Handle.{geometry, handleAfter, handleAt, handleFresh, handleSet, handleSetNull};
 
-// The geometry of a row of a schema: how many columns, how many Varchars, and the bytes of the fixed columns, packed or padded as the row's flag says.
+// The geometry of a row of a schema: how many columns, how many Varchars, the bytes of the fixed columns, packed or
+// padded as the row's flag says, and that flag, 1 for packed and 0 for padded. It is a `usize`, since a lent struct has no
+// padding: no contract would say what a call leaves there.
 #[repr(C)]
 pub struct HandleLayout {
     pub num_columns: usize,
     pub num_varlen_cols: usize,
     pub fixed_size: usize,
-    pub packed: bool,
+    pub packed: usize,
 }
 
 #[repr(C)]
@@ -31,7 +33,7 @@ impl RowHandle {
         num_columns: usize,
         num_varlen_cols: usize,
         fixed_size: usize,
-        packed: bool,
+        packed: usize,
     ) -> Self
         ensures { λ r. ⌜ r ≡ record { length = length; layout = record { «num_columns» = «num_columns»; «num_varlen_cols» = «num_varlen_cols»; «fixed_size» = «fixed_size»; packed = packed } } ⌝ }
     {
@@ -80,7 +82,7 @@ fn geometry_of(layout: RowLayout, packed: bool) -> HandleLayout
         num_columns: layout.num_columns,
         num_varlen_cols: layout.num_varlen_cols,
         fixed_size: fixed_size(layout, packed),
-        packed,
+        packed: packed as usize,
     }
 }
 
@@ -101,7 +103,7 @@ fn handle_after(answer: Answer, layout: RowLayout, buf: &[u8], handle: RowHandle
 pub fn fresh(schema: &[u8], out: &mut [u8]) -> Edited
     ensures { λ r. ⌜ (r .answer, (now (out .exit), r .handle)) ≡ handleFresh offsetWidth rowLimit (now (schema .entry)) (now (out .entry)) ⌝ }
 {
-    let handle = RowHandle::new(0, 0, 0, 0, false);
+    let handle = RowHandle::new(0, 0, 0, 0, 0);
     match datatype::check_schema(schema) {
         SchemaCheck::Refused(e) => Edited {
             answer: Answer::Refused(e),
@@ -169,14 +171,14 @@ pub fn set_value_at(
 ) -> Edited
     ensures { λ r. ⌜ (r .answer, (now (buf .exit), r .handle)) ≡ handleSet offsetWidth rowLimit (now (schema .entry)) (now (buf .entry)) (handleAt length) column (now (values .entry)) (now (text .entry)) ⌝ }
 {
-    let handle = RowHandle::new(length, 0, 0, 0, false);
+    let handle = RowHandle::new(length, 0, 0, 0, 0);
     with_value(schema, buf, handle, column, values, text)
 }
 
 pub fn set_null_at(schema: &[u8], buf: &mut [u8], length: usize, column: usize) -> Edited
     ensures { λ r. ⌜ (r .answer, (now (buf .exit), r .handle)) ≡ handleSetNull offsetWidth rowLimit (now (schema .entry)) (now (buf .entry)) (handleAt length) column ⌝ }
 {
-    let handle = RowHandle::new(length, 0, 0, 0, false);
+    let handle = RowHandle::new(length, 0, 0, 0, 0);
     with_null(schema, buf, handle, column)
 }
 

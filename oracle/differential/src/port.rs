@@ -29,22 +29,6 @@ pub struct Text {
     pub length: usize,
 }
 
-#[repr(C)]
-#[derive(Debug, Clone, Copy, PartialEq, Eq, Default)]
-pub struct Layout {
-    pub num_columns: usize,
-    pub num_varlen_cols: usize,
-    pub fixed_size: usize,
-    pub packed: bool,
-}
-
-#[repr(C)]
-#[derive(Debug, Clone, Copy, PartialEq, Eq)]
-pub struct Handle {
-    pub length: usize,
-    pub layout: Layout,
-}
-
 unsafe extern "C" {
     pub fn rook_row_fresh(
         schema: *const u8,
@@ -98,7 +82,7 @@ unsafe extern "C" {
     ) -> Row;
 
     pub fn rook_row_handle_set(
-        handle: &mut Handle,
+        handle: *mut u8,
         schema: *const u8,
         schema_length: usize,
         buffer: *mut u8,
@@ -111,7 +95,7 @@ unsafe extern "C" {
     ) -> Row;
 
     pub fn rook_row_handle_set_null(
-        handle: &mut Handle,
+        handle: *mut u8,
         schema: *const u8,
         schema_length: usize,
         buffer: *mut u8,

@@ -1,15 +1,20 @@
 //! The calls over a handle answer as those on its length; what the handle holds
-//! afterwards is worked out here, from the schema and the row's flag.
+//! afterwards, byte by byte, is worked out here, from the schema and the row's flag.
 
 use super::judge::Told;
-use crate::port::{Handle, Layout, Row};
 
-/// The layout of an accepted schema's rows.
-fn layout(mut schema: &[u8], packed: bool) -> Layout {
-    let mut layout = Layout {
-        packed,
-        ..Layout::default()
-    };
+/// Five numbers of eight bytes, low byte first: the row's length, and of its layout
+/// the columns, the Varchars, the bytes of the fixed columns and the flag, 1 or 0.
+pub type Handle = [u8; 40];
+
+pub fn length(handle: &Handle) -> usize {
+    let (first, _) = handle.split_first_chunk().expect("eight bytes");
+    usize::from_le_bytes(*first)
+}
+
+/// The handle of a row of this length of an accepted schema.
+fn laid_out(length: usize, mut schema: &[u8], packed: bool) -> Handle {
+    let (mut columns, mut varchars, mut fixed) = (0, 0, 0_usize);
     while let [kind, rest @ ..] = schema {
         let n = || usize::from(rest[0]) + 256 * usize::from(rest[1]);
         let (size, alignment, body) = match kind {
@@ -23,34 +28,25 @@ fn layout(mut schema: &[u8], packed: bool) -> Layout {
             _ => (0, 1, 2),
         };
         if !packed {
-            layout.fixed_size = layout.fixed_size.next_multiple_of(alignment);
+            fixed = fixed.next_multiple_of(alignment);
         }
-        layout.fixed_size += size;
-        layout.num_columns += 1;
-        layout.num_varlen_cols += usize::from(*kind == 11);
+        fixed += size;
+        columns += 1;
+        varchars += usize::from(*kind == 11);
         schema = &rest[body..];
     }
-    layout
-}
-
-/// An answer whose second number tells whether the handle is the right one.
-pub fn told(answer: &Row, schema: &[u8], row: &[u8], before: Handle, after: Handle) -> Told {
-    let wanted = match answer.number {
-        0 => Handle {
-            length: answer.length,
-            layout: layout(schema, row[3] >= 0x80),
-        },
-        _ => before,
-    };
-    Told {
-        number: answer.number,
-        place: answer.place,
-        handed: [answer.length, usize::from(after == wanted)],
+    let numbers = [length, columns, varchars, fixed, usize::from(packed)];
+    let mut handle = [0; 40];
+    for (bytes, number) in handle.chunks_exact_mut(8).zip(numbers) {
+        bytes.copy_from_slice(&number.to_le_bytes());
     }
+    handle
 }
 
-/// The answer that is wanted, with the right handle.
-pub fn right(told: Told) -> Told {
-    let handed = [told.handed[0], 1];
-    Told { handed, ..told }
+/// What a call that answers so, and leaves this row, leaves of the handle.
+pub fn after(told: Told, schema: &[u8], row: &[u8], before: &Handle) -> Handle {
+    match told.number {
+        0 => laid_out(told.handed[0], schema, row[3] >= 0x80),
+        _ => *before,
+    }
 }

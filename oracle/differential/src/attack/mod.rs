@@ -1,14 +1,14 @@
 //! The exported calls, on slices that end at unreadable pages, compared with the
 //! model alone: number, place, what is handed out, every byte of every lent slice
-//! and the marks beside it. `rounds` makes the inputs.
+//! and handle and the marks beside it. `rounds` makes the inputs.
 
-pub mod judge;
 mod handle;
+pub mod judge;
 mod rounds;
 
 use crate::memory::{Lending, Part, Side, Slot};
-use crate::port::Handle;
 use crate::{hex, port};
+use handle::Handle;
 use judge::{Judge, Told, told};
 use std::fmt::Write;
 
@@ -77,6 +77,7 @@ pub struct Attack {
     judge: &'static Judge,
     inputs: [Slot; 3],
     output: Slot,
+    handle: Slot,
     /// What the judge leaves of the output.
     wanted: Vec<u8>,
     /// The bytes that were lent, and some for each call.
@@ -96,6 +97,7 @@ impl Attack {
             judge,
             inputs: [(); 3].map(|()| Slot::new(lending(Lending::ToRead), side)),
             output: Slot::new(lending(Lending::ToWrite), side),
+            handle: Slot::new(lending(Lending::ToWrite), side),
             wanted: Vec::new(),
             spent: 0,
             counts: Counts::default(),
@@ -260,49 +262,86 @@ impl Attack {
         &mut self,
         schema: &[u8],
         buffer: &[u8],
-        handle: Handle,
+        handle: &Handle,
         column: usize,
         values: &[u8],
         text: &[u8],
     ) -> Told {
         let judge = self.judge.set;
+        let lent = self.handle.put(handle);
         let inputs = [schema, values, text];
         let port = |[s, v, t]: [Part; 3], b: Part| unsafe {
-            let mut after = handle;
             let answer = port::rook_row_handle_set(
-                &mut after, s.pointer, s.length, b.pointer, b.length, column, v.pointer, v.length,
-                t.pointer, t.length,
+                lent.pointer,
+                s.pointer,
+                s.length,
+                b.pointer,
+                b.length,
+                column,
+                v.pointer,
+                v.length,
+                t.pointer,
+                t.length,
             );
-            let row = std::slice::from_raw_parts(b.pointer, b.length);
-            handle::told(&answer, schema, row, handle, after)
+            told!(answer, length)
         };
-        let numbers = [handle.length, column];
-        self.run(Call::HandleSet, inputs, buffer, numbers, port, |buffer| {
-            handle::right(judge(schema, buffer, handle.length, column, values, text))
-        })
+        let length = handle::length(handle);
+        let numbers = [length, column];
+        let told = self.run(Call::HandleSet, inputs, buffer, numbers, port, |buffer| {
+            judge(schema, buffer, length, column, values, text)
+        });
+        self.handle_left(Call::HandleSet, schema, handle, told)
     }
 
     fn handle_set_null(
         &mut self,
         schema: &[u8],
         buffer: &[u8],
-        handle: Handle,
+        handle: &Handle,
         column: usize,
     ) -> Told {
         let judge = self.judge.set_null;
+        let lent = self.handle.put(handle);
         let port = |[s]: [Part; 1], b: Part| unsafe {
-            let mut after = handle;
             let answer = port::rook_row_handle_set_null(
-                &mut after, s.pointer, s.length, b.pointer, b.length, column,
+                lent.pointer,
+                s.pointer,
+                s.length,
+                b.pointer,
+                b.length,
+                column,
             );
-            let row = std::slice::from_raw_parts(b.pointer, b.length);
-            handle::told(&answer, schema, row, handle, after)
+            told!(answer, length)
         };
-        let numbers = [handle.length, column];
-        let inputs = [schema];
-        self.run(Call::HandleSetNull, inputs, buffer, numbers, port, |buffer| {
-            handle::right(judge(schema, buffer, handle.length, column))
-        })
+        let length = handle::length(handle);
+        let (inputs, numbers) = ([schema], [length, column]);
+        let told = self.run(
+            Call::HandleSetNull,
+            inputs,
+            buffer,
+            numbers,
+            port,
+            |buffer| judge(schema, buffer, length, column),
+        );
+        self.handle_left(Call::HandleSetNull, schema, handle, told)
+    }
+
+    /// Every byte of the handle after a call that answered so.
+    fn handle_left(&mut self, call: Call, schema: &[u8], before: &Handle, told: Told) -> Told {
+        let wanted = handle::after(told, schema, &self.wanted, before);
+        if !self.handle.holds(&wanted) {
+            let difference = format!(
+                "{}, {told:?}, schema {}\n  lent   {}\n  handle {}, its marks kept: {}\n  wanted {}",
+                call.name(),
+                self.bytes(schema),
+                hex(before),
+                hex(self.handle.bytes()),
+                self.handle.marked(),
+                hex(&wanted),
+            );
+            self.difference.get_or_insert(difference);
+        }
+        told
     }
 
     fn text(&mut self, schema: &[u8], row: &[u8], column: usize) -> Told {

@@ -2,10 +2,10 @@
 //! make for one schema, good, bad and at the limits, and calls on it many times,
 //! as it is, damaged, and with outputs of every room.
 
+use super::handle::Handle;
 use super::judge::Told;
 use super::{Attack, Call};
 use crate::compare::{build, rows, text};
-use crate::port::{Handle, Layout};
 use cases::LIMIT;
 use cases::generate::history::history;
 use cases::generate::list::any_list;
@@ -315,7 +315,7 @@ impl Attack {
         let told = match call {
             Call::HandleSet => {
                 let handle = any_handle(rng, length);
-                self.handle_set(&schema, &buffer, handle, column, &values, &text)
+                self.handle_set(&schema, &buffer, &handle, column, &values, &text)
             }
             _ => self.set(&schema, &buffer, [length, column], &values, &text),
         };
@@ -332,7 +332,7 @@ impl Attack {
         let told = match call {
             Call::HandleSetNull => {
                 let handle = any_handle(rng, length);
-                self.handle_set_null(&schema, &buffer, handle, column)
+                self.handle_set_null(&schema, &buffer, &handle, column)
             }
             _ => self.set_null(&schema, &buffer, [length, column]),
         };
@@ -343,17 +343,12 @@ impl Attack {
     }
 }
 
-/// A handle of this length, with any layout.
+/// A handle of this length, with anything in the place of the layout.
 fn any_handle(rng: &mut Rng, length: usize) -> Handle {
-    Handle {
-        length,
-        layout: Layout {
-            num_columns: rng.below(300),
-            num_varlen_cols: rng.below(300),
-            fixed_size: rng.below(70_000),
-            packed: rng.one_in(2),
-        },
-    }
+    let mut handle = [0; 40];
+    handle[..8].copy_from_slice(&length.to_le_bytes());
+    handle[8..].copy_from_slice(noise(rng, 32));
+    handle
 }
 
 /// A column, one with text more often than not.
