@@ -15,7 +15,7 @@ use Rattle.laws.proofs.Bytes.{Below, below-take, below-at}
 use Rattle.laws.proofs.Truths.{same, and-true}
 use Rattle.laws.proofs.Same.{same-self, same-eq, same-append}
 use Rattle.bit_utils.specs.Bits.{bytesFor, lowBits, byteBits, allBits, packByte, unpackBits}
-use Rattle.bit_utils.proofs.Packing.{high-packed, byte-packed, take-cons}
+use Rattle.bit_utils.proofs.Packing.{high-packed, byte-packed, length-all, take-cons}
 
 -- the first k of k + m bits are the bits of the quotient
 first-low : (k m b : ℕ) → take k (lowBits (k + m) b) ≡ lowBits k (b / 2 ^ m)
@@ -50,10 +50,6 @@ same-all (x ∷ xs) (y ∷ ys) a b e =
     same-append (byteBits x) (byteBits y) (allBits xs) (allBits ys) refl ∙ rw (same-byte x y (a .0) (b .0), same-all xs ys (a .1) (b .1) (omega arith))
 
 -- n bits are those of whole bytes, and some of one more
-length-all : (xs : List ℕ) → length (allBits xs) ≡ length xs * 8
-length-all [] = refl
-length-all (x ∷ xs) = rw (length-all xs) (omega arith)
-
 split : (q r : ℕ) (bs : List ℕ) → q ≤ length bs → take (q * 8 + r) (allBits bs) ≡ allBits (take q bs) ++ take r (allBits (drop q bs))
 split zero r bs h = rw zero-add
 split (suc q) r [] h = absurd (omega arith)

@@ -45,6 +45,10 @@ pub length-packed : (k : ℕ) (xs : List ℕ) → length (packBytes k xs) ≡ k
 length-packed zero xs = refl
 length-packed (suc k) xs = ap suc (length-packed k (drop 8 xs))
 
+pub length-all : (xs : List ℕ) → length (allBits xs) ≡ length xs * 8
+length-all [] = refl
+length-all (x ∷ xs) = rw (length-all xs) (omega arith)
+
 pub take-cons : (n m b : ℕ) (bs : List ℕ) → n ≡ 8 + m → take n (allBits (b ∷ bs)) ≡ byteBits b ++ take m (allBits bs)
 take-cons n m b bs e = rw e (take-append-add (byteBits b) (allBits bs) m)
 

@@ -10,26 +10,33 @@ use lib.Dec.{ltb}
 use lib.ListN.{length, getD, take, drop, length-drop, length-map}
 use lib.Seq.{drop-cons, length-take-le}
 use Rattle.error.specs.declared.Refusal.{Refusal}
+use Rattle.error.specs.Result.{ok}
 use Rattle.laws.proofs.Maps.{take-map, at-map}
 use Rattle.row_format.specs.declared.Shape.{Shape}
 use Rattle.row_format.specs.declared.Shape.the-variants.{Fixed, Varlen}
 use Rattle.row_format.specs.Places.{through, rankAfter, varlens}
-use Rattle.row_format.proofs.Places.{Aligned, All, none, more, through-split, size-take}
+use Rattle.row_format.specs.InnerAligned.{Aligned, All, none, more}
+use Rattle.row_format.proofs.Places.{through-split, size-take}
 use Rattle.row_layout.specs.declared.RowLayout.{RowLayout}
-use Rattle.row_layout.specs.Layout.{Bounded, noColumns, withColumn, sizeIn}
+use Rattle.row_layout.specs.Layout.{sizeIn}
 use Rattle.row_layout.proofs.Columns.{layout-next}
+use Rattle.row_layout.specs.InnerLayout.{Bounded, noColumns, withColumn}
 use Rattle.datatype.specs.declared.DataType.{DataType}
 use Rattle.datatype.specs.declared.DataType.the-variants as T
 use Rattle.datatype.specs.declared.Record.{Record}
 use Rattle.datatype.specs.declared.Record.the-variants.{Column, Refused}
 use Rattle.datatype.specs.declared.Step.{Step}
 use Rattle.datatype.specs.Types.{shapeOf}
-use Rattle.datatype.specs.Schema.{types, records, recordAt}
-use Rattle.datatype.specs.Check.{typeAt, layoutFor, layoutBefore, typesIn}
-use Rattle.datatype.specs.Steps.{Passable, passed, typeIn}
+use Rattle.datatype.specs.Schema.{columnRecords, columnRecordAt}
+use Rattle.datatype.specs.Check.{typeAt, layoutFor, typesIn}
+use Rattle.datatype.specs.InnerSteps.{Passable, passed, typeIn}
 use Rattle.datatype.proofs.Walk.{First, none-left, some-left, not-refused, first-left}
+use Rattle.datatype.specs.InnerCheck.{Accepted, layoutBefore}
 
--- ---- the layout of the columns before one
+-- ---- the layout of all columns, and of the columns before one
+
+pub columns-all : {s : List ℕ} {l : RowLayout} → Accepted s l → l .«num_columns» ≡ length (typesIn s)
+columns-all {s} a = ap (λ (k : RowLayout). k .«num_columns») (sym (a .layout)) ∙ length-map (typesIn s) shapeOf
 
 pub before-next : (ts : List DataType) (i : ℕ) → i < length ts → layoutBefore ts (i + 1) ≡ withColumn (layoutBefore ts i) (shapeOf (typeAt ts i))
 before-next ts i h =
@@ -92,9 +99,9 @@ pub record Ahead (s : List ℕ) (b : RowLayout) (at : ℕ) : Type 0 where
   pub bounded : Bounded b
   pub within : b .«num_columns» ≤ length (typesIn s)
   pub so-far : b ≡ layoutBefore (typesIn s) (b .«num_columns»)
-  pub ahead : records (256 - b .«num_columns») s at ≡ types (drop (b .«num_columns») (typesIn s))
+  pub ahead : columnRecords (256 - b .«num_columns») s at ≡ ok (drop (b .«num_columns») (typesIn s))
 
-pub ahead-start : {s : List ℕ} → records 256 s 0 ≡ types (typesIn s) → Ahead s noColumns 0
+pub ahead-start : {s : List ℕ} → columnRecords 256 s 0 ≡ ok (typesIn s) → Ahead s noColumns 0
 ahead-start e = record { bounded = record { few = omega arith; ranked = omega arith; tight = omega arith; wide = omega arith }; within = omega arith; so-far = refl; ahead = e }
 
 module _ {s : List ℕ} {b : RowLayout} {at : ℕ} (w : Ahead s b at) where
@@ -108,10 +115,10 @@ module _ {s : List ℕ} {b : RowLayout} {at : ℕ} (w : Ahead s b at) where
     pub ahead-few : b .«num_columns» < 256
     ahead-few = omega (arith, some-left s at (256 - b .«num_columns») (w .ahead) h)
 
-    pub ahead-good : {r : Refusal} → recordAt s at ≡ Refused r → ⊥
+    pub ahead-good : {r : Refusal} → columnRecordAt s at ≡ Refused r → ⊥
     ahead-good f = not-refused s at (256 - b .«num_columns») (w .ahead) h f
 
-    module _ {t : DataType} {next : ℕ} (e : recordAt s at ≡ Column t next) where
+    module _ {t : DataType} {next : ℕ} (e : columnRecordAt s at ≡ Column t next) where
       first : First (256 - (b .«num_columns» + 1)) s next t (drop (b .«num_columns») (typesIn s))
       first = first-left s at (256 - b .«num_columns») (w .ahead) h (256 - (b .«num_columns» + 1)) (omega (arith, ahead-few)) e
 
@@ -137,14 +144,14 @@ module _ {s : List ℕ} {b : RowLayout} {at : ℕ} (w : Ahead s b at) where
       ahead-next = ap (λ (u : DataType). withColumn b (shapeOf u)) ahead-type ∙ ap (λ (k : RowLayout). withColumn k (shapeOf (typeAt (typesIn s) (b .«num_columns»)))) (w .so-far) ∙ sym (before-next (typesIn s) (b .«num_columns») ahead-inside)
 
       pub ahead-more : Bounded (withColumn b (shapeOf t)) → Ahead s (withColumn b (shapeOf t)) next
-      ahead-more small = record { bounded = small; within = omega (arith, ahead-inside); so-far = ahead-next; ahead = first .ahead ∙ ap types tail-is }
+      ahead-more small = record { bounded = small; within = omega (arith, ahead-inside); so-far = ahead-next; ahead = first .ahead ∙ ap ok tail-is }
 
 -- ---- a step of the walk
 
 pub record Next (s : List ℕ) (at : ℕ) : Type 0 where
   pub ty : DataType
   pub next : ℕ
-  pub is : recordAt s at ≡ Column ty next
+  pub is : columnRecordAt s at ≡ Column ty next
 
 module _ {s : List ℕ} {b : RowLayout} {at : ℕ} (w : Ahead s b at) where
   -- a column that is there has a record
@@ -160,16 +167,16 @@ module _ {s : List ℕ} {b : RowLayout} {at : ℕ} (w : Ahead s b at) where
     ahead-passable = record { here = h; good = λ e f. ahead-good w h f }
 
     pub ahead-column : Next s at
-    ahead-column = of (recordAt s at) refl
+    ahead-column = of (columnRecordAt s at) refl
       where
-        of : (x : Record) → recordAt s at ≡ x → Next s at
+        of : (x : Record) → columnRecordAt s at ≡ x → Next s at
         of (Column t n) e = record { ty = t; next = n; is = e }
         of (Refused r) e = absurd (ahead-good w h e)
 
-    pub ahead-typed : typeIn (recordAt s at) ≡ typeAt (typesIn s) (b .«num_columns»)
+    pub ahead-typed : typeIn (columnRecordAt s at) ≡ typeAt (typesIn s) (b .«num_columns»)
     ahead-typed = ap typeIn (ahead-column .is) ∙ ahead-type w h (ahead-column .is)
 
-    module _ {r : Step} (e : r ≡ passed at b (recordAt s at)) where
+    module _ {r : Step} (e : r ≡ passed at b (columnRecordAt s at)) where
       pub step-is : r ≡ record { at = ahead-column .next; before = withColumn b (shapeOf (ahead-column .ty)) }
       step-is = e ∙ ap (passed at b) (ahead-column .is)
 

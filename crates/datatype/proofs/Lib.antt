@@ -1,3 +1,4 @@
+pub mod KindTable
 pub mod Records
 pub mod Walk
 pub mod Accept

@@ -14,30 +14,15 @@ use Rattle.datatype.specs.Types.{precisionOf}
 use Rattle.datatype.specs.declared.DataType.{DataType}
 use Rattle.datatype.specs.declared.Record.{Record}
 use Rattle.datatype.specs.declared.Record.the-variants.{Column, Refused}
-use Rattle.datatype.specs.Schema.{Kind, unknown, plain, sized, digits, bodyKind, kindOf, goodDigits, recordOf, recordAt, unlessCut}
-
--- a kind that is followed by a body, or none
-pub data Bodied : Kind → Type 0 where
-  no : Bodied unknown
-  word : {t : ℕ → DataType} → Bodied (sized t)
-  pair : {t : ℕ → ℕ → DataType} → Bodied (digits t)
-
-either : (t : Bool) (x y : Kind) → Bodied x → Bodied y → Bodied (cond t x y)
-either true x y p q = p
-either false x y p q = q
-
-pub bodied : (k : ℕ) → Bodied (bodyKind k)
-bodied k = search (either, no, word, pair) depth 8
+use Rattle.datatype.proofs.KindTable.{Bodied, no, word, pair}
+use Rattle.datatype.specs.Schema.{Kind, unknown, plain, sized, digits, columnKind, goodDigits, columnRecordOf, columnRecordAt, unlessCut}
 
 module _ (s : List ℕ) (at : ℕ) where
-  cut-of : {q : Kind} → Bodied q → length s < at + 3 → Refused (BadRecord at) ≡ recordOf q s at
-  cut-of no h = refl
-  cut-of word h = rw (lt-ltb (length s) (at + 3) h)
-  cut-of pair h = rw (lt-ltb (length s) (at + 3) h)
-
   -- a body that is cut off, whatever the kind
-  pub cut : (k : ℕ) → length s < at + 3 → Refused (BadRecord at) ≡ recordOf (bodyKind k) s at
-  cut k h = cut-of (bodied k) h
+  pub cut : {q : Kind} → Bodied q → length s < at + 3 → Refused (BadRecord at) ≡ columnRecordOf q s at
+  cut no h = refl
+  cut word h = rw (lt-ltb (length s) (at + 3) h)
+  cut pair h = rw (lt-ltb (length s) (at + 3) h)
 
   -- a body that is there
   pub there : (r q : Record) → at + 3 ≤ length s → r ≡ q → r ≡ unlessCut s at q
@@ -61,14 +46,14 @@ same-digits p s = refl
 no-digits : (n : ℕ) → _≡_ {A = ℕ} 0 0
 no-digits n = refl
 
-digits-of : (k : ℕ) → Digits (kindOf k)
+digits-of : (k : ℕ) → Digits (columnKind k)
 digits-of k = search (chosen, none, plainly, sizedly, given, same-digits, no-digits) depth 18
 
 abbrev FewDigits : Record → Type 0
 FewDigits (Column t next) = precisionOf t ≤ 38
 FewDigits (Refused r) = Unit {0}
 
-few-of : {q : Kind} → Digits q → (s : List ℕ) (at : ℕ) → FewDigits (recordOf q s at)
+few-of : {q : Kind} → Digits q → (s : List ℕ) (at : ℕ) → FewDigits (columnRecordOf q s at)
 few-of none s at = tt
 few-of (plainly e) s at = rw e (omega arith)
 few-of (sizedly {t} e) s at =
@@ -79,5 +64,5 @@ few-of (given {t} e) s at =
     by-cond FewDigits (ltb (length s) (at + 3)) (Refused (BadRecord at)) _ (λ f. tt)
     (λ f. by-cond FewDigits (goodDigits p z) (Column (t p z) (at + 3)) (Refused (BadSchema at)) (λ g. rw (e p z) (leb-true p 38 (and-right (leb 1 p) (leb p 38) (and-left (leb 1 p && leb p 38) (leb z p) g)))) (λ g. tt))
 
-pub few-digits : (s : List ℕ) (at : ℕ) {t : DataType} {next : ℕ} → recordAt s at ≡ Column t next → precisionOf t ≤ 38
+pub few-digits : (s : List ℕ) (at : ℕ) {t : DataType} {next : ℕ} → columnRecordAt s at ≡ Column t next → precisionOf t ≤ 38
 few-digits s at e = rw e at (few-of (digits-of (getD s at 0)) s at)

@@ -10,16 +10,19 @@ use lib.Dec.{ltb}
 use lib.ListN.{length, length-map}
 use Rattle.error.specs.declared.Refusal.{Refusal}
 use Rattle.error.specs.declared.Refusal.the-variants.{BadSchema}
+use Rattle.error.specs.Result.{ok, refused, before}
 use Rattle.row_format.specs.Places.{through, rankAfter, endAfter, minimum, offsetWidth, rowLimit}
 use Rattle.row_layout.specs.declared.RowLayout.{RowLayout}
-use Rattle.row_layout.specs.Layout.{Bounded, layoutOf, noColumns, withColumn}
+use Rattle.row_layout.specs.Layout.{layoutOf}
+use Rattle.row_layout.specs.InnerLayout.{Bounded, noColumns, withColumn}
 use Rattle.datatype.specs.declared.DataType.{DataType}
 use Rattle.datatype.specs.declared.Record.the-variants.{Column, Refused}
 use Rattle.datatype.specs.declared.SchemaCheck.{SchemaCheck}
 use Rattle.datatype.specs.declared.SchemaCheck.the-variants as Check
 use Rattle.datatype.specs.Types.{shapeOf}
-use Rattle.datatype.specs.Schema.{Parsed, types, refused, before, records, recordAt, limited, schemaOf}
-use Rattle.datatype.specs.Check.{checked, finished, columnsOf}
+use Rattle.datatype.specs.Schema.{Parsed, columnRecords, columnRecordAt, limited, schemaOf}
+use Rattle.datatype.specs.Check.{columnsOf}
+use Rattle.datatype.specs.InnerCheck.{checkedSchema, finished}
 
 -- the columns ts after those of l
 abbrev pub extended : RowLayout → List DataType → RowLayout
@@ -27,7 +30,7 @@ extended l [] = l
 extended l (t ∷ ts) = extended (withColumn l (shapeOf t)) ts
 
 abbrev pub rest : ℕ → RowLayout → Parsed → SchemaCheck
-rest len l (types ts) = finished len (extended l ts)
+rest len l (ok ts) = finished len (extended l ts)
 rest len l (refused r) = Check.Refused r
 
 -- ---- where the walk begins
@@ -47,39 +50,39 @@ extended-is l (t ∷ ts) =
 pub extended-all : (ts : List DataType) → extended noColumns ts ≡ layoutOf (map shapeOf ts)
 extended-all ts = extended-is noColumns ts ∙ rw (add-zero, length-map ts shapeOf)
 
-checked-cond : (t : Bool) (r : Refusal) (ts : List DataType) → checked (cond t (refused r) (types ts)) ≡ cond t (Check.Refused r) (Check.Good (layoutOf (map shapeOf ts)))
+checked-cond : (t : Bool) (r : Refusal) (ts : List DataType) → checkedSchema (cond t (refused r) (ok ts)) ≡ cond t (Check.Refused r) (Check.Good (layoutOf (map shapeOf ts)))
 checked-cond true r ts = refl
 checked-cond false r ts = refl
 
-rest-parsed : (len : ℕ) (p : Parsed) → rest len noColumns p ≡ checked (limited offsetWidth rowLimit len p)
-rest-parsed len (types ts) = ap (finished len) (extended-all ts) ∙ sym (checked-cond (ltb rowLimit (minimum offsetWidth false (map shapeOf ts))) (BadSchema len) ts)
+rest-parsed : (len : ℕ) (p : Parsed) → rest len noColumns p ≡ checkedSchema (limited offsetWidth rowLimit len p)
+rest-parsed len (ok ts) = ap (finished len) (extended-all ts) ∙ sym (checked-cond (ltb rowLimit (minimum offsetWidth false (map shapeOf ts))) (BadSchema len) ts)
 rest-parsed len (refused r) = refl
 
 rest-before : (len : ℕ) (l : RowLayout) (t : DataType) (p : Parsed) → rest len l (before t p) ≡ rest len (withColumn l (shapeOf t)) p
-rest-before len l t (types ts) = refl
+rest-before len l t (ok ts) = refl
 rest-before len l t (refused r) = refl
 
 -- ---- the walk at a place of the schema
 
 pub record Walking (s : List ℕ) (l : RowLayout) (at : ℕ) : Type 0 where
   pub bounded : Bounded l
-  pub whole : rest (length s) l (records (256 - l .«num_columns») s at) ≡ checked (schemaOf offsetWidth rowLimit s)
+  pub whole : rest (length s) l (columnRecords (256 - l .«num_columns») s at) ≡ checkedSchema (schemaOf offsetWidth rowLimit s)
 
 pub walk-start : (s : List ℕ) → Walking s noColumns 0
 unfolding schemaOf
-walk-start s = record { bounded = record { few = omega arith; ranked = omega arith; tight = omega arith; wide = omega arith }; whole = rest-parsed (length s) (records 256 s 0) }
+walk-start s = record { bounded = record { few = omega arith; ranked = omega arith; tight = omega arith; wide = omega arith }; whole = rest-parsed (length s) (columnRecords 256 s 0) }
 
 module _ {s : List ℕ} {l : RowLayout} {at : ℕ} (w : Walking s l at) where
   -- no record more
-  rest-none : (n : ℕ) → length s ≤ at → rest (length s) l (records n s at) ≡ finished (length s) l
+  rest-none : (n : ℕ) → length s ≤ at → rest (length s) l (columnRecords n s at) ≡ finished (length s) l
   rest-none zero h = rw (le-ltb _ _ h)
   rest-none (suc n) h = rw (le-ltb _ _ h)
 
-  pub walk-end : length s ≤ at → finished (length s) l ≡ checked (schemaOf offsetWidth rowLimit s)
+  pub walk-end : length s ≤ at → finished (length s) l ≡ checkedSchema (schemaOf offsetWidth rowLimit s)
   walk-end h = sym (rest-none (256 - l .«num_columns») h) ∙ w .whole
 
   -- a 257th
-  pub walk-over : at < length s → l .«num_columns» ≡ 256 → Check.Refused (BadSchema at) ≡ checked (schemaOf offsetWidth rowLimit s)
+  pub walk-over : at < length s → l .«num_columns» ≡ 256 → Check.Refused (BadSchema at) ≡ checkedSchema (schemaOf offsetWidth rowLimit s)
   walk-over h e =
       let z : 256 - l .«num_columns» ≡ 0 = omega arith in
       sym (rw (lt-ltb at (length s) h)) ∙ rw z at (w .whole)
@@ -89,38 +92,38 @@ module _ {s : List ℕ} {l : RowLayout} {at : ℕ} (w : Walking s l at) where
     left = omega (arith, w .bounded)
 
     -- one that is bad
-    pub walk-bad : {r : Refusal} → recordAt s at ≡ Refused r → Check.Refused r ≡ checked (schemaOf offsetWidth rowLimit s)
+    pub walk-bad : {r : Refusal} → columnRecordAt s at ≡ Refused r → Check.Refused r ≡ checkedSchema (schemaOf offsetWidth rowLimit s)
     walk-bad e = sym (rw (lt-ltb at (length s) h, e)) ∙ rw left at (w .whole)
 
     -- a column
-    pub walk-more : {t : DataType} {next : ℕ} → recordAt s at ≡ Column t next → Bounded (withColumn l (shapeOf t)) → Walking s (withColumn l (shapeOf t)) next
+    pub walk-more : {t : DataType} {next : ℕ} → columnRecordAt s at ≡ Column t next → Bounded (withColumn l (shapeOf t)) → Walking s (withColumn l (shapeOf t)) next
     walk-more {t} {next} e b =
-        record { bounded = b; whole = sym (rw (lt-ltb at (length s) h, e) (rest-before (length s) l t (records (256 - (l .«num_columns» + 1)) s next))) ∙ rw left at (w .whole) }
+        record { bounded = b; whole = sym (rw (lt-ltb at (length s) h, e) (rest-before (length s) l t (columnRecords (256 - (l .«num_columns» + 1)) s next))) ∙ rw left at (w .whole) }
 
 -- ---- a schema that was accepted, walked again
 
-no-types : {ts : List DataType} {r : Refusal} → refused r ≡ types ts → ⊥
+no-types : {ts : List DataType} {r : Refusal} → refused r ≡ ok ts → ⊥
 no-types {ts} e = subst (λ (p : Parsed). IsRefused p) e tt
   where
     IsRefused : Parsed → Type 0
-    IsRefused (types us) = ⊥
+    IsRefused (ok us) = ⊥
     IsRefused (refused q) = Unit {0}
 
 -- the first of the records that are left
 pub record First (n : ℕ) (s : List ℕ) (next : ℕ) (t : DataType) (ts : List DataType) : Type 0 where
   pub tail : List DataType
   pub split : ts ≡ t ∷ tail
-  pub ahead : records n s next ≡ types tail
+  pub ahead : columnRecords n s next ≡ ok tail
 
-first-of : (n : ℕ) (s : List ℕ) (next : ℕ) (t : DataType) {ts : List DataType} (p : Parsed) → records n s next ≡ p → before t p ≡ types ts → First n s next t ts
-first-of n s next t (types us) e f = record { tail = us; split = ap columnsOf (sym f); ahead = e }
+first-of : (n : ℕ) (s : List ℕ) (next : ℕ) (t : DataType) {ts : List DataType} (p : Parsed) → columnRecords n s next ≡ p → before t p ≡ ok ts → First n s next t ts
+first-of n s next t (ok us) e f = record { tail = us; split = ap columnsOf (sym f); ahead = e }
 first-of n s next t (refused r) e f = absurd (no-types f)
 
-module _ (s : List ℕ) (at n : ℕ) {ts : List DataType} (e : records n s at ≡ types ts) where
+module _ (s : List ℕ) (at n : ℕ) {ts : List DataType} (e : columnRecords n s at ≡ ok ts) where
   pub none-left : length s ≤ at → ts ≡ []
   none-left h = ap columnsOf (sym e ∙ empty n)
     where
-      empty : (k : ℕ) → records k s at ≡ types []
+      empty : (k : ℕ) → columnRecords k s at ≡ ok []
       empty zero = rw (le-ltb at (length s) h)
       empty (suc k) = rw (le-ltb at (length s) h)
 
@@ -128,16 +131,16 @@ module _ (s : List ℕ) (at n : ℕ) {ts : List DataType} (e : records n s at �
     pub some-left : 0 < n
     some-left = by-fuel n e
       where
-        by-fuel : (k : ℕ) → records k s at ≡ types ts → 0 < k
+        by-fuel : (k : ℕ) → columnRecords k s at ≡ ok ts → 0 < k
         by-fuel zero f = absurd (no-types (rw (lt-ltb at (length s) h) at f))
         by-fuel (suc k) f = omega arith
 
-    pub not-refused : {r : Refusal} → recordAt s at ≡ Refused r → ⊥
+    pub not-refused : {r : Refusal} → columnRecordAt s at ≡ Refused r → ⊥
     not-refused f = by-fuel n e
       where
-        by-fuel : (k : ℕ) → records k s at ≡ types ts → ⊥
+        by-fuel : (k : ℕ) → columnRecords k s at ≡ ok ts → ⊥
         by-fuel zero g = no-types (rw (lt-ltb at (length s) h) at g)
         by-fuel (suc k) g = no-types (rw (lt-ltb at (length s) h, f) at g)
 
-    pub first-left : {t : DataType} {next : ℕ} (k : ℕ) → n ≡ suc k → recordAt s at ≡ Column t next → First k s next t ts
-    first-left {t} {next} k f g = first-of k s next t (records k s next) refl (sym (rw (f, lt-ltb at (length s) h, g)) ∙ e)
+    pub first-left : {t : DataType} {next : ℕ} (k : ℕ) → n ≡ suc k → columnRecordAt s at ≡ Column t next → First k s next t ts
+    first-left {t} {next} k f g = first-of k s next t (columnRecords k s next) refl (sym (rw (f, lt-ltb at (length s) h, g)) ∙ e)

@@ -1,4 +1,5 @@
 pub mod Types
 pub mod Schema
 pub mod Check
-pub mod Steps
+pub mod InnerSteps
+pub mod InnerCheck

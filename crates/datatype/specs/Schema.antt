@@ -6,6 +6,7 @@ use lib.Dec.{eqb, leb, ltb}
 use lib.ListN.{length, getD, take, drop}
 use Rattle.error.specs.declared.Refusal.{Refusal}
 use Rattle.error.specs.declared.Refusal.the-variants.{BadRecord, BadSchema}
+use Rattle.error.specs.Result.{Result, ok, refused, before}
 use Rattle.laws.specs.Bytes.{fromLe}
 use Rattle.row_format.specs.Places.{minimum}
 use Rattle.datatype.specs.declared.DataType.{DataType}
@@ -23,28 +24,27 @@ pub data Kind : Type 0 where
   sized : (ℕ → DataType) → Kind
   digits : (ℕ → ℕ → DataType) → Kind
 
-abbrev pub bodyKind : ℕ → Kind
-bodyKind k =
-    cond (eqb k 6) (digits Numeric)
-    (cond (eqb k 7) (digits Decimal)
-    (cond (eqb k 9) (sized Char)
-    (cond (eqb k 10) (sized Character)
-    (cond (eqb k 11) (sized Varchar)
-    (cond (eqb k 14) (sized Bit)
-    unknown)))))
-
-abbrev pub kindOf : ℕ → Kind
-kindOf k =
+-- "Schema kinds: 1 SmallInt, 2 Int, 3 BigInt, 4 Real, 5 DoublePrecision, 6 Numeric and 7 Decimal (precision, scale, a
+-- byte each), 8 Bool, 9 Char, 10 Character, 11 Varchar (n, two bytes), 12 Date, 13 Time, 14 Bit (n, two bytes), 15
+-- Timestamp"
+abbrev pub columnKind : ℕ → Kind
+columnKind k =
     cond (eqb k 1) (plain SmallInt)
     (cond (eqb k 2) (plain Int)
     (cond (eqb k 3) (plain BigInt)
     (cond (eqb k 4) (plain Real)
     (cond (eqb k 5) (plain DoublePrecision)
+    (cond (eqb k 6) (digits Numeric)
+    (cond (eqb k 7) (digits Decimal)
     (cond (eqb k 8) (plain Boolean)
+    (cond (eqb k 9) (sized Char)
+    (cond (eqb k 10) (sized Character)
+    (cond (eqb k 11) (sized Varchar)
     (cond (eqb k 12) (plain Date)
     (cond (eqb k 13) (plain Time)
+    (cond (eqb k 14) (sized Bit)
     (cond (eqb k 15) (plain Timestamp)
-    (bodyKind k)))))))))
+    unknown))))))))))))))
 
 -- 2: "precision outside 1 to 38; scale above precision"
 abbrev pub goodDigits : ℕ → ℕ → Bool
@@ -55,39 +55,34 @@ abbrev pub unlessCut : List ℕ → ℕ → Record → Record
 unlessCut s at r = cond (ltb (length s) (at + 3)) (Refused (BadRecord at)) r
 
 -- a record's type and the place after it
-abbrev pub recordOf : Kind → List ℕ → ℕ → Record
-recordOf unknown s at = Refused (BadRecord at)
-recordOf (plain t) s at = Column t (at + 1)
-recordOf (sized t) s at = unlessCut s at (Column (t (fromLe (take 2 (drop (at + 1) s)))) (at + 3))
-recordOf (digits t) s at =
+abbrev pub columnRecordOf : Kind → List ℕ → ℕ → Record
+columnRecordOf unknown s at = Refused (BadRecord at)
+columnRecordOf (plain t) s at = Column t (at + 1)
+columnRecordOf (sized t) s at = unlessCut s at (Column (t (fromLe (take 2 (drop (at + 1) s)))) (at + 3))
+columnRecordOf (digits t) s at =
     unlessCut s at (cond (goodDigits (getD s (at + 1) 0) (getD s (at + 2) 0)) (Column (t (getD s (at + 1) 0) (getD s (at + 2) 0)) (at + 3)) (Refused (BadSchema at)))
 
-abbrev pub recordAt : List ℕ → ℕ → Record
-recordAt s at = recordOf (kindOf (getD s at 0)) s at
+abbrev pub columnRecordAt : List ℕ → ℕ → Record
+columnRecordAt s at = columnRecordOf (columnKind (getD s at 0)) s at
 
 -- ---- the whole schema
 
-pub data Parsed : Type 0 where
-  types : List DataType → Parsed
-  refused : Refusal → Parsed
+abbrev pub Parsed : Type 0
+Parsed = Result (List DataType)
 
-abbrev pub before : DataType → Parsed → Parsed
-before t (types ts) = types (t ∷ ts)
-before t (refused r) = refused r
-
-abbrev pub onRecord : Record → (ℕ → Parsed) → Parsed
-onRecord (Column t next) rest = before t (rest next)
-onRecord (Refused r) rest = refused r
+abbrev pub onColumnRecord : Record → (ℕ → Parsed) → Parsed
+onColumnRecord (Column t next) rest = before t (rest next)
+onColumnRecord (Refused r) rest = refused r
 
 -- at most n records from a place on. "The first bad schema record decides"; 2: "a 257th record begins", "whatever its kind"
-abbrev pub records : ℕ → List ℕ → ℕ → Parsed
-records zero s at = cond (ltb at (length s)) (refused (BadSchema at)) (types [])
-records (suc n) s at = cond (ltb at (length s)) (onRecord (recordAt s at) (records n s)) (types [])
+abbrev pub columnRecords : ℕ → List ℕ → ℕ → Parsed
+columnRecords zero s at = cond (ltb at (length s)) (refused (BadSchema at)) (ok [])
+columnRecords (suc n) s at = cond (ltb at (length s)) (onColumnRecord (columnRecordAt s at) (columnRecords n s)) (ok [])
 
 -- 2: "after the last record, padded minimum above 65,535 (place: schema length)", for offsets of w bytes and rows of at most `limit`
 abbrev pub limited : ℕ → ℕ → ℕ → Parsed → Parsed
-limited w limit len (types ts) = cond (ltb limit (minimum w false (map shapeOf ts))) (refused (BadSchema len)) (types ts)
+limited w limit len (ok ts) = cond (ltb limit (minimum w false (map shapeOf ts))) (refused (BadSchema len)) (ok ts)
 limited w limit len (refused r) = refused r
 
 unfoldable pub schemaOf : ℕ → ℕ → List ℕ → Parsed
-schemaOf w limit s = limited w limit (length s) (records 256 s 0)
+schemaOf w limit s = limited w limit (length s) (columnRecords 256 s 0)

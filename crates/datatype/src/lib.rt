@@ -1,4 +1,6 @@
 // datatype.rs: the column types, and the bytes of a schema.
+pub mod schema_kinds;
+
 use error::Refusal;
 use row_format::Shape;
 use row_layout::RowLayout;
@@ -6,12 +8,12 @@ ghost use mathlib.Core.Path.{_≡_};
 ghost use mathlib.Core.Bool.{false};
 ghost use Prim.Native.Nat.{_<_, _≤_};
 ghost use lib.ListN.{length};
+ghost use Rattle.row_layout.specs.InnerLayout.{Bounded, Small};
 ghost use Rattle.row_format.specs.Places.{offsetWidth, rowLimit};
-ghost use Rattle.row_layout.specs.Layout.{Small, Bounded};
 ghost use Rattle.datatype.specs.Types.{sizeOf, alignmentOf, isVarlen, shapeOf, precisionOf, scaleOf, lengthOf};
-ghost use Rattle.datatype.specs.Schema.{unknown, goodDigits, bodyKind, kindOf, recordOf, recordAt, schemaOf};
-ghost use Rattle.datatype.specs.Check.{checked, finished, BoundedIn};
-ghost use Rattle.datatype.specs.Steps.{plainSize, bodyShape, Passable, passed};
+ghost use Rattle.datatype.specs.Schema.{unknown, goodDigits, columnKind, columnRecordOf, columnRecordAt, schemaOf};
+ghost use Rattle.datatype.specs.InnerSteps.{plainSize, bodyShape, Passable, passed};
+ghost use Rattle.datatype.specs.InnerCheck.{BoundedIn, checkedSchema, finished};
 
 pub enum DataType {
     SmallInt,
@@ -231,8 +233,8 @@ fn good_digits(precision: u8, scale: u8) -> bool
 
 // A record of a kind that is followed by two bytes, or of no kind.
 fn body_at(schema: &[u8], at: usize, kind: u8) -> Record
-    requires { ⌜ at < length (now schema) ⌝ }
-    ensures { λ r. ⌜ r ≡ recordOf (bodyKind kind) (now (schema .entry)) at ⌝ }
+    requires { ⌜ (at < length (now schema)) × (plainSize (columnKind kind) ≡ 0) ⌝ }
+    ensures { λ r. ⌜ r ≡ columnRecordOf (columnKind kind) (now (schema .entry)) at ⌝ }
 {
     if schema.len() - at < 3 {
         return Record::Refused(Refusal::BadRecord(at));
@@ -242,60 +244,60 @@ fn body_at(schema: &[u8], at: usize, kind: u8) -> Record
     let n = endian::read_u16(schema, at + 1);
     let next = at + 3;
     match kind {
-        6 => {
+        schema_kinds::NUMERIC => {
             if good_digits(precision, scale) {
                 return Record::Column(DataType::Numeric { precision, scale }, next);
             }
             Record::Refused(Refusal::BadSchema(at))
         }
-        7 => {
+        schema_kinds::DECIMAL => {
             if good_digits(precision, scale) {
                 return Record::Column(DataType::Decimal { precision, scale }, next);
             }
             Record::Refused(Refusal::BadSchema(at))
         }
-        9 => Record::Column(DataType::Char(n), next),
-        10 => Record::Column(DataType::Character(n), next),
-        11 => Record::Column(DataType::Varchar(n), next),
-        14 => Record::Column(DataType::Bit(n), next),
+        schema_kinds::CHAR => Record::Column(DataType::Char(n), next),
+        schema_kinds::CHARACTER => Record::Column(DataType::Character(n), next),
+        schema_kinds::VARCHAR => Record::Column(DataType::Varchar(n), next),
+        schema_kinds::BIT => Record::Column(DataType::Bit(n), next),
         _ => Record::Refused(Refusal::BadRecord(at)),
     }
 }
 
 // The bytes of a column whose kind is followed by no body, which are its alignment too; 0 for other kinds.
 pub fn plain_size(kind: u8) -> usize
-    ensures { λ r. ⌜ (r ≡ plainSize (kindOf kind)) × (r ≤ 8) ⌝ }
+    ensures { λ r. ⌜ (r ≡ plainSize (columnKind kind)) × (r ≤ 8) ⌝ }
 {
     match kind {
-        1 => 2,
-        2 => 4,
-        3 => 8,
-        4 => 4,
-        5 => 8,
-        8 => 1,
-        12 => 4,
-        13 => 8,
-        15 => 8,
+        schema_kinds::SMALL_INT => 2,
+        schema_kinds::INT => 4,
+        schema_kinds::BIG_INT => 8,
+        schema_kinds::REAL => 4,
+        schema_kinds::DOUBLE_PRECISION => 8,
+        schema_kinds::BOOL => 1,
+        schema_kinds::DATE => 4,
+        schema_kinds::TIME => 8,
+        schema_kinds::TIMESTAMP => 8,
         _ => 0,
     }
 }
 
 pub fn record_at(schema: &[u8], at: usize) -> Record
     requires { ⌜ at < length (now schema) ⌝ }
-    ensures { λ r. ⌜ r ≡ recordAt (now (schema .entry)) at ⌝ }
+    ensures { λ r. ⌜ r ≡ columnRecordAt (now (schema .entry)) at ⌝ }
 {
     let kind = schema[at];
     let next = at + 1;
     match kind {
-        1 => Record::Column(DataType::SmallInt, next),
-        2 => Record::Column(DataType::Int, next),
-        3 => Record::Column(DataType::BigInt, next),
-        4 => Record::Column(DataType::Real, next),
-        5 => Record::Column(DataType::DoublePrecision, next),
-        8 => Record::Column(DataType::Bool, next),
-        12 => Record::Column(DataType::Date, next),
-        13 => Record::Column(DataType::Time, next),
-        15 => Record::Column(DataType::Timestamp, next),
+        schema_kinds::SMALL_INT => Record::Column(DataType::SmallInt, next),
+        schema_kinds::INT => Record::Column(DataType::Int, next),
+        schema_kinds::BIG_INT => Record::Column(DataType::BigInt, next),
+        schema_kinds::REAL => Record::Column(DataType::Real, next),
+        schema_kinds::DOUBLE_PRECISION => Record::Column(DataType::DoublePrecision, next),
+        schema_kinds::BOOL => Record::Column(DataType::Bool, next),
+        schema_kinds::DATE => Record::Column(DataType::Date, next),
+        schema_kinds::TIME => Record::Column(DataType::Time, next),
+        schema_kinds::TIMESTAMP => Record::Column(DataType::Timestamp, next),
         _ => body_at(schema, at, kind),
     }
 }
@@ -306,18 +308,19 @@ pub struct Step {
     pub before: RowLayout,
 }
 
-// What the layout sees of a kind that is followed by a body: `first` is the body's first byte, n both. The kind is known.
+// What the layout sees of a kind that is followed by a body: `first` is the body's first byte, n both. Of these kinds
+// Numeric and Decimal come first.
 fn body_shape(kind: u8, first: u8, n: u16) -> Shape
-    requires { ⌜ (bodyKind kind ≡ unknown → ⊥) ⌝ }
-    ensures { λ r. ⌜ (r ≡ bodyShape (bodyKind kind) first n) × Small r ⌝ }
+    requires { ⌜ (plainSize (columnKind kind) ≡ 0) × (columnKind kind ≡ unknown → ⊥) ⌝ }
+    ensures { λ r. ⌜ (r ≡ bodyShape (columnKind kind) first n) × Small r ⌝ }
 {
-    if kind == 11 {
+    if kind == schema_kinds::VARCHAR {
         return Shape::Varlen;
     }
-    if kind < 8 {
+    if kind <= schema_kinds::DECIMAL {
         return Shape::Fixed((first as usize + 2) / 2, 1);
     }
-    if kind == 14 {
+    if kind == schema_kinds::BIT {
         return Shape::Fixed((n as usize + 7) / 8, 1);
     }
     Shape::Fixed(n as usize, 1)
@@ -327,7 +330,7 @@ fn body_shape(kind: u8, first: u8, n: u16) -> Shape
 // layout does, and is short, so that the compiler puts it into each loop that walks.
 pub fn next_column(schema: &[u8], at: usize, before: RowLayout) -> Step
     requires { ⌜ Passable (now schema) at × ((before .«num_columns» < 256) × Bounded before) ⌝ }
-    ensures { λ r. ⌜ (r ≡ passed at before (recordAt (now (schema .entry)) at)) × Bounded (r .before) ⌝ }
+    ensures { λ r. ⌜ (r ≡ passed at before (columnRecordAt (now (schema .entry)) at)) × Bounded (r .before) ⌝ }
 {
     let kind = schema[at];
     let size = plain_size(kind);
@@ -352,23 +355,23 @@ pub enum SchemaCheck {
 }
 
 // The test that comes after the last record.
-fn finish(layout: RowLayout, length: usize) -> SchemaCheck
+fn finish(layout: RowLayout, at: usize) -> SchemaCheck
     requires { ⌜ Bounded layout ⌝ }
-    ensures { λ r. ⌜ (r ≡ finished length layout) × BoundedIn r ⌝ }
+    ensures { λ r. ⌜ (r ≡ finished at layout) × BoundedIn r ⌝ }
 {
-    if 65535 < layout.min_row_size(false) {
-        return SchemaCheck::Refused(Refusal::BadSchema(length));
+    if RowLayout::ROW_LIMIT < layout.min_row_size(false) {
+        return SchemaCheck::Refused(Refusal::BadSchema(at));
     }
     SchemaCheck::Good(layout)
 }
 
 pub fn check_schema(schema: &[u8]) -> SchemaCheck
-    ensures { λ r. ⌜ (r ≡ checked (schemaOf offsetWidth rowLimit (now (schema .entry)))) × BoundedIn r ⌝ }
+    ensures { λ r. ⌜ (r ≡ checkedSchema (schemaOf offsetWidth rowLimit (now (schema .entry)))) × BoundedIn r ⌝ }
 {
     let mut layout = RowLayout::new();
     let mut at = 0;
     while at < schema.len() {
-        if layout.num_columns == 256 {
+        if layout.num_columns == RowLayout::COLUMN_LIMIT {
             return SchemaCheck::Refused(Refusal::BadSchema(at));
         }
         let kind = schema[at];

@@ -12,15 +12,11 @@ use lib.Ieee.Nearest.{div-same}
 use lib.Ieee.Bits.{toBits-ofBits}
 use borrow.Author.Tests.{eqb-true, eq-eqb}
 use Rattle.laws.proofs.Truths.{and-left, and-right, same}
-use Rattle.float.specs.Same.{sameFloat, sameValue, magnitude, zeroPattern, nanPattern, sameBits}
+use Rattle.float.specs.Same.{sameFloat, sameValue}
+use Rattle.float.specs.Patterns.{magnitude, zeroPattern, nanPattern, sameBits, Alike, nans, zeros, equal}
 use Rattle.float.proofs.Nan.{nan-pattern}
 
 -- ---- the three cases of `sameBits`
-
-pub data Alike (f : Format) (a b : ℕ) : Type 0 where
-  nans : nanPattern f a ≡ true → nanPattern f b ≡ true → Alike f a b
-  zeros : magnitude f a ≡ 0 → magnitude f b ≡ 0 → Alike f a b
-  equal : a ≡ b → Alike f a b
 
 either : {A : Type 0} (x y : Bool) → (x || y) ≡ true → (x ≡ true → A) → (y ≡ true → A) → A
 either true y e f g = f refl

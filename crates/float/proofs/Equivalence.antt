@@ -4,8 +4,9 @@ use mathlib.Core.Path.{_≡_, refl, sym}
 use mathlib.Core.Bool.{true, false≢true}
 use lib.Ieee.{Format, binary32, binary64, top}
 use Rattle.laws.proofs.Truths.{same}
-use Rattle.float.specs.Same.{sameValue, magnitude, nanPattern}
-use Rattle.float.proofs.ByBits.{Alike, nans, zeros, equal, alike-value, value-alike}
+use Rattle.float.specs.Same.{sameValue}
+use Rattle.float.specs.Patterns.{magnitude, nanPattern, Alike, nans, zeros, equal}
+use Rattle.float.proofs.ByBits.{alike-value, value-alike}
 
 pub same-self : (f : Format) (a : ℕ) → sameValue f a a ≡ true
 same-self f a = alike-value f a a (equal refl)

@@ -5,7 +5,7 @@ use mathlib.Core.Bool.{Bool, false, not}
 use lib.Dec.{T}
 use lib.Ieee.{Format, isNan, ofBits, nanBits}
 use lib.Ieee.Bits.{nanBits-is, nanBits-above}
-use Rattle.float.specs.Same.{nanPattern}
+use Rattle.float.specs.Patterns.{nanPattern}
 
 pub nan-pattern : (f : Format) (a : ℕ) → nanPattern f a ≡ isNan (ofBits f a)
 nan-pattern f a = sym (nanBits-above f a) ∙ nanBits-is f a

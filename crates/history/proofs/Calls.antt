@@ -11,33 +11,35 @@ use Rattle.laws.proofs.Truths.{by-cond}
 use Rattle.error.specs.declared.Refusal.{Refusal}
 use Rattle.error.specs.declared.Refusal.the-variants as No
 use Rattle.error.specs.Answer.{Outcome, unchanged, placed}
+use Rattle.error.specs.Result.{Result, ok, refused, onResult}
 use Rattle.datatype.specs.declared.DataType.{DataType}
-use Rattle.datatype.specs.Schema as Schema
-use Rattle.datatype.specs.Schema.{Parsed, types, schemaOf}
-use Rattle.datatype.specs.Check.{onSchema}
+use Rattle.datatype.specs.Schema.{Parsed, schemaOf}
 use Rattle.value.specs.declared.DataValue.{DataValue}
 use Rattle.value.specs.declared.DataValue.the-variants.{Null}
 use Rattle.value.specs.Kinds.{matches}
 use Rattle.value.specs.Ranges.{textOf}
 use Rattle.value_list.specs.Records.{Sized}
-use Rattle.value_list.specs.Lists.{Values, values, refused, valuesOf, checked, AllSized}
+use Rattle.value_list.specs.Lists.{Values, valuesOf, checked}
 use Rattle.value_list.proofs.Lists.{checked-taken, values-sized}
+use Rattle.value_list.specs.InnerLists.{AllSized}
 use Rattle.stored_form.specs.Write.{accepted, storedForm}
-use Rattle.row_build.specs.Stored as Stored
-use Rattle.row_build.specs.Stored.{Tested, good, onTested, storedIn}
-use Rattle.row_build.specs.Build.{onValues, rowPlaced}
+use Rattle.row_build.specs.Stored.{storedIn}
+use Rattle.row_build.specs.Build.{rowPlaced}
+use Rattle.row_column.specs.declared.Frame.{Frame}
+use Rattle.row_column.specs.declared.Frame.the-variants as Frame
+use Rattle.row_column.specs.Frame.{onFrame}
 use Rattle.row_sound.specs.declared.Soundness.{Soundness}
 use Rattle.row_sound.specs.declared.Soundness.the-variants as Row
 use Rattle.row_sound.specs.Sound.{soundness, SoundRow}
 use Rattle.row_sound.proofs.Rows.{told-row}
-use Rattle.row_edit.specs.Edit.{onSound, onRow, opened, held, given}
+use Rattle.row_edit.specs.Edit.{onSound, opening, opened, rowStored, given}
 use Rattle.history.specs.History.{oneValue}
 
 -- ---- the outcome o of a call on a buffer; P is what is known of a row that it wrote
 
 pub data Ends (buf : List ℕ) (P : List ℕ → Type 0) (o : Outcome) : Type 0 where
   refusal : (e : Refusal) → o ≡ unchanged buf e → Ends buf P o
-  written : (r : List ℕ) → o ≡ held buf r → P r → Ends buf P o
+  written : (r : List ℕ) → o ≡ rowStored buf r → P r → Ends buf P o
 
 module _ {buf : List ℕ} {P : List ℕ → Type 0} where
   -- 9
@@ -46,29 +48,35 @@ module _ {buf : List ℕ} {P : List ℕ → Type 0} where
 
   -- 1, 2, 14, 15, then 9
   pub opened-ends : (w limit : ℕ) (schema : List ℕ) (n i : ℕ) (k : List DataType → Bool → Outcome)
-      → ((ts : List DataType) (p : Bool) → schemaOf w limit schema ≡ types ts → n ≤ length buf → SoundRow limit ts p (take n buf) → i < length ts → Ends buf P (k ts p)) → Ends buf P (opened w limit schema buf n i k)
+      → ((ts : List DataType) (p : Bool) → schemaOf w limit schema ≡ ok ts → n ≤ length buf → SoundRow w limit ts p (take n buf) → i < length ts → Ends buf P (k ts p)) → Ends buf P (opened w limit schema buf n i k)
   opened-ends w limit schema n i k f = by-schema (schemaOf w limit schema) refl
     where
-      by-sound : (ts : List DataType) → schemaOf w limit schema ≡ types ts → n ≤ length buf → (x : Soundness) → soundness limit ts (take n buf) ≡ x
-          → Ends buf P (onSound x (unchanged buf No.NotSound) (λ p. cond (leb (length ts) i) (unchanged buf No.NoSuchColumn) (k ts p)))
-      by-sound ts g room (Row.Sound p) e = column-ends (length ts) i (k ts p) (λ h. f ts p g room (told-row limit ts (take n buf) e) h)
+      Then : List DataType → Frame → Type 0
+      Then ts x = Ends buf P (onFrame x (unchanged buf) (k ts))
+
+      by-sound : (ts : List DataType) → schemaOf w limit schema ≡ ok ts → n ≤ length buf → (x : Soundness) → soundness w limit ts (take n buf) ≡ x
+          → Then ts (onSound x (Frame.Refused No.NotSound) (λ p. cond (leb (length ts) i) (Frame.Refused No.NoSuchColumn) (Frame.Good p)))
+      by-sound ts g room (Row.Sound p) e =
+          by-cond (Then ts) (leb (length ts) i) (Frame.Refused No.NoSuchColumn) (Frame.Good p) (λ h. refusal No.NoSuchColumn refl)
+          (λ h. f ts p g room (told-row w limit ts (take n buf) e) (leb-false (length ts) i h))
       by-sound ts g room Row.NotSound e = refusal No.NotSound refl
 
-      by-schema : (x : Parsed) → schemaOf w limit schema ≡ x → Ends buf P (onSchema x (unchanged buf) (λ ts. cond (ltb (length buf) n) (unchanged buf No.NoRoom) (onRow limit ts (take n buf) i (unchanged buf) (k ts))))
-      by-schema (types ts) g =
-          by-cond (Ends buf P) (ltb (length buf) n) (unchanged buf No.NoRoom) (onRow limit ts (take n buf) i (unchanged buf) (k ts)) (λ h. refusal No.NoRoom refl)
-          (λ h. by-sound ts g (ltb-false (length buf) n h) (soundness limit ts (take n buf)) refl)
-      by-schema (Schema.refused e) g = refusal e refl
+      by-schema : (x : Parsed) → schemaOf w limit schema ≡ x
+          → Ends buf P (onResult x (unchanged buf) (λ ts. onFrame (opening w limit ts buf n i) (unchanged buf) (k ts)))
+      by-schema (ok ts) g =
+          by-cond (Then ts) (ltb (length buf) n) (Frame.Refused No.NoRoom) _ (λ h. refusal No.NoRoom refl)
+          (λ h. by-sound ts g (ltb-false (length buf) n h) (soundness w limit ts (take n buf)) refl)
+      by-schema (refused e) g = refusal e refl
 
-  pub tested-ends : {A : Type 0} (q : Tested A) (k : A → Outcome) → ((x : A) → q ≡ good x → Ends buf P (k x)) → Ends buf P (onTested q (unchanged buf) k)
-  tested-ends (good x) k f = f x refl
-  tested-ends (Stored.refused e) k f = refusal e refl
+  pub tested-ends : {A : Type 0} (q : Result A) (k : A → Outcome) → ((x : A) → q ≡ ok x → Ends buf P (k x)) → Ends buf P (onResult q (unchanged buf) k)
+  tested-ends (ok x) k f = f x refl
+  tested-ends (refused e) k f = refusal e refl
 
   -- 13, then 14
   pub placed-ends : (limit : ℕ) (r : List ℕ) → (length r ≤ limit → length r ≤ length buf → P r) → Ends buf P (rowPlaced limit buf r)
   placed-ends limit r f =
       by-cond (Ends buf P) (ltb limit (length r)) (unchanged buf No.RowLimit) (placed buf r) (λ h. refusal No.RowLimit refl)
-      (λ h. by-cond (Ends buf P) (ltb (length buf) (length r)) (unchanged buf No.NoRoom) (held buf r) (λ g. refusal No.NoRoom refl)
+      (λ h. by-cond (Ends buf P) (ltb (length buf) (length r)) (unchanged buf No.NoRoom) (rowStored buf r) (λ g. refusal No.NoRoom refl)
       (λ g. written r refl (f (ltb-false limit (length r) h) (ltb-false (length buf) (length r) g))))
 
 -- ---- a value that was accepted
@@ -78,15 +86,15 @@ pub record Chosen (t : DataType) (v : DataValue) (area b : List ℕ) : Type 0 wh
   pub accept : accepted t v area ≡ true
   pub form : b ≡ storedForm t v (textOf area v)
 
-abbrev IsGood : {A : Type 0} → Tested A → Type 0
-IsGood (good x) = Unit {0}
-IsGood (Stored.refused e) = ⊥
+abbrev IsGood : {A : Type 0} → Result A → Type 0
+IsGood (ok x) = Unit {0}
+IsGood (refused e) = ⊥
 
-pub stored-chosen : (i : ℕ) (t : DataType) (v : DataValue) (area b : List ℕ) → storedIn i t v area ≡ good b → Chosen t v area b
+pub stored-chosen : (i : ℕ) (t : DataType) (v : DataValue) (area b : List ℕ) → storedIn i t v area ≡ ok b → Chosen t v area b
 stored-chosen i t v area b e = of-tests (matches t v) (accepted t v area) refl refl e
   where
     of-tests : (x y : Bool) → matches t v ≡ x → accepted t v area ≡ y
-        → cond x (cond y (good (storedForm t v (textOf area v))) (Stored.refused (No.Unsuitable i))) (Stored.refused (No.WrongKind i)) ≡ good b → Chosen t v area b
+        → cond x (cond y (ok (storedForm t v (textOf area v))) (refused (No.Unsuitable i))) (refused (No.WrongKind i)) ≡ ok b → Chosen t v area b
     of-tests true true m a q = record { match = m; accept = a; form = cc }
     of-tests true false m a q = absurd (subst IsGood (sym q) tt)
     of-tests false y m a q = absurd (subst IsGood (sym q) tt)
@@ -100,12 +108,12 @@ pub record Taken (t : DataType) (list area b : List ℕ) : Type 0 where
   pub chosen : Chosen t (oneValue (valuesOf list)) area b
   pub sized : Sized (oneValue (valuesOf list))
 
-pub given-taken : (limit : ℕ) (t : DataType) (i : ℕ) (list area b : List ℕ) → AllBytes list → given limit t i list area ≡ good b → Taken t list area b
+pub given-taken : (limit : ℕ) (t : DataType) (i : ℕ) (list area b : List ℕ) → AllBytes list → given limit t i list area ≡ ok b → Taken t list area b
 given-taken limit t i list area b a e = of-values (checked limit 1 (length area) list) refl e
   where
-    of-values : (q : Values) → checked limit 1 (length area) list ≡ q → onValues q Stored.refused (λ vs. storedIn i t (getD vs 0 Null) area) ≡ good b → Taken t list area b
+    of-values : (q : Values) → checked limit 1 (length area) list ≡ q → onResult q refused (λ vs. storedIn i t (getD vs 0 Null) area) ≡ ok b → Taken t list area b
     of-values (refused r) c q = absurd (subst IsGood (sym q) tt)
-    of-values (values vs) c q =
+    of-values (ok vs) c q =
         let all = checked-taken limit 1 (length area) list c .all in
         let one : getD vs 0 Null ≡ oneValue (valuesOf list) = sym (ap oneValue all) in
         record {

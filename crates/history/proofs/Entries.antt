@@ -9,17 +9,19 @@ use native.Mathlib.Omega.{arith}
 use borrow.Author.Tests.{le-leb, eqb-true}
 use lib.Dec.{leb}
 use lib.ListN.{length, set, take, drop, replicate, length-append}
-use Rattle.laws.specs.Forall.{Forall₂, nil, cons}
+use Rattle.error.specs.Result.{ok}
+use Rattle.laws.specs.InnerForall.{Forall₂, nil, cons}
 use Rattle.laws.proofs.Parts.{part-at}
 use Rattle.bit_utils.specs.Bits.{bytesFor, unpackBits}
 use Rattle.bit_utils.proofs.Packing.{length-packed}
 use Rattle.row_format.specs.declared.Shape.the-variants.{Fixed, Varlen}
 use Rattle.row_format.specs.Places.{fixedSize}
 use Rattle.row_format.specs.Table.{Cell, bytes, payloads}
-use Rattle.row_format.specs.Row.{varlenCells, FitsCell}
+use Rattle.row_format.specs.Row.{varlenCells}
 use Rattle.row_format.proofs.Places.{packed-cons}
 use Rattle.row_format.proofs.Fresh.{null-fits}
 use Rattle.row_format.proofs.Sizes.{cell-counted}
+use Rattle.row_format.specs.InnerRow.{FitsCell}
 use Rattle.datatype.specs.declared.DataType.{DataType}
 use Rattle.datatype.specs.Types.{isVarlen, sizeOf, alignmentOf, shapeOf, lengthOf}
 use Rattle.datatype.specs.Check.{typeAt}
@@ -28,11 +30,11 @@ use Rattle.value.specs.declared.DataValue.the-variants as D
 use Rattle.value.specs.Kinds.{kindOf, matches}
 use Rattle.value.specs.Ranges.{rangeOf, inArea, textOf, moved}
 use Rattle.value_list.specs.Records.{Sized}
-use Rattle.value_list.specs.Lists.{AllSized}
+use Rattle.value_list.specs.InnerLists.{AllSized}
 use Rattle.stored_form.specs.Write.{suits, accepted, storedForm}
 use Rattle.row_sound.specs.Written.{Writes, null, form}
 use Rattle.stored_form.proofs.Lengths.{accepted-suits, length-stored}
-use Rattle.row_build.specs.Stored.{good, storedIn, isNull, cellIn, cellsFrom}
+use Rattle.row_build.specs.Stored.{storedIn, isNull, cellIn, cellsFrom}
 use Rattle.history.specs.History.{Entry, texts, lastValues, entryCell, sheetCells}
 
 -- ---- a value with its text
@@ -260,28 +262,28 @@ values-sized (cons {b = some (v, x)} {ys = es} q f) at h =
 -- ---- and they are stored as the sheet's cells
 
 stored-in : (i : ℕ) (t : DataType) (v : DataValue) (area b : List ℕ) → matches t v ≡ true → inArea (length area) (rangeOf v) ≡ true → suits t v (textOf area v) ≡ true → storedForm t v (textOf area v) ≡ b
-    → storedIn i t v area ≡ good b
+    → storedIn i t v area ≡ ok b
 stored-in i t v area b m h s e = rw (m, h, s, e)
 
-cell-in : (i : ℕ) (t : DataType) (v : DataValue) (area b : List ℕ) → isNull v ≡ false → storedIn i t v area ≡ good b → cellIn i t v area ≡ good (some b)
+cell-in : (i : ℕ) (t : DataType) (v : DataValue) (area b : List ℕ) → isNull v ≡ false → storedIn i t v area ≡ ok b → cellIn i t v area ≡ ok (some b)
 cell-in i t v area b n e = rw (n, e)
 
-entry-in : (i : ℕ) (t : DataType) (v : DataValue) (us x vs : List ℕ) (at : ℕ) → length us ≡ at → Suitable t v x → cellIn i t (moved at (length x) v) (us ++ (x ++ vs)) ≡ good (some (storedForm t v x))
+entry-in : (i : ℕ) (t : DataType) (v : DataValue) (us x vs : List ℕ) (at : ℕ) → length us ≡ at → Suitable t v x → cellIn i t (moved at (length x) v) (us ++ (x ++ vs)) ≡ ok (some (storedForm t v x))
 entry-in i t v us x vs at e q =
     let m = moving v at (length x) in
     let p = placing us x vs at e v (spelt-of q) in
     cell-in i t (moved at (length x) v) (us ++ (x ++ vs)) (storedForm t v x) (m .seen t x (suit-of q))
     (stored-in i t (moved at (length x) v) (us ++ (x ++ vs)) (storedForm t v x) (rw (m .kind) (q .match)) (p .inside) (rw (p .text, m .suit t x) (suit-of q)) (rw (p .text, m .form t x)))
 
-cells-in : {ts : List DataType} {es : List Entry} → Forall₂ SuitsEntry ts es → (i : ℕ) (us : List ℕ) (at : ℕ) → length us ≡ at → cellsFrom i ts (lastValues at es) (us ++ texts es) ≡ good (sheetCells ts es)
+cells-in : {ts : List DataType} {es : List Entry} → Forall₂ SuitsEntry ts es → (i : ℕ) (us : List ℕ) (at : ℕ) → length us ≡ at → cellsFrom i ts (lastValues at es) (us ++ texts es) ≡ ok (sheetCells ts es)
 cells-in nil i us at e = refl
 cells-in (cons {b = none} q f) i us at e = rw (cells-in f (i + 1) us at e)
 cells-in (cons {a = t} {b = some (v, x)} {xs = ts} {ys = es} q f) i us at e =
     let here = entry-in i t v us x (texts es) at e q in
     let next : length (us ++ x) ≡ at + length x = length-append us x ∙ ap (λ (m : ℕ). m + length x) e in
-    let rest : cellsFrom (i + 1) ts (lastValues (at + length x) es) (us ++ (x ++ texts es)) ≡ good (sheetCells ts es)
+    let rest : cellsFrom (i + 1) ts (lastValues (at + length x) es) (us ++ (x ++ texts es)) ≡ ok (sheetCells ts es)
     = ap (λ (l : List ℕ). cellsFrom (i + 1) ts (lastValues (at + length x) es) l) (sym (append-assoc us x (texts es))) ∙ cells-in f (i + 1) (us ++ x) (at + length x) next in
     rw (here, rest)
 
-pub cells-read : {ts : List DataType} {es : List Entry} → Forall₂ SuitsEntry ts es → cellsFrom 0 ts (lastValues 0 es) (texts es) ≡ good (sheetCells ts es)
+pub cells-read : {ts : List DataType} {es : List Entry} → Forall₂ SuitsEntry ts es → cellsFrom 0 ts (lastValues 0 es) (texts es) ≡ ok (sheetCells ts es)
 cells-read f = cells-in f 0 [] 0 refl

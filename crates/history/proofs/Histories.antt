@@ -29,6 +29,9 @@ module _ {schema : List ℕ} {ts : List DataType} (h : History schema ts) where
         built = λ o. keeps-built rowLimit schema ts (h .columns) wide (omega arith) kept o ∙ ap (placed o) (sym zeroed-cells);
         handed = sym (kept-length offsetWidth rowLimit ts kept);
         long = kept-length offsetWidth rowLimit ts kept ∙ kept-long offsetWidth rowLimit ts kept;
+        same-length =
+            ap length zeroed-cells ∙ built-length offsetWidth rowLimit ts kept
+            ∙ sym (kept-length offsetWidth rowLimit ts kept);
       }
 
 pub histories : {schema : List ℕ} {ts : List DataType} (g h : History schema ts) → Told g h

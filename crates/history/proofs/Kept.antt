@@ -9,29 +9,32 @@ use borrow.Author.Tests.{le-ltb, ltb-false}
 use lib.Dec.{leb, ltb}
 use lib.ListN.{length, getD, take, drop, set, replicate, length-map}
 use lib.Seq.{sets, length-sets, length-take-le, take-append-seam}
-use Rattle.laws.specs.Forall.{Forall₂}
+use Rattle.laws.specs.InnerForall.{Forall₂}
 use Rattle.laws.proofs.Maps.{at-map}
 use Rattle.laws.proofs.Stores.{sets-start}
 use Rattle.error.specs.declared.Refusal.the-variants.{NoSuchColumn, NoRoom}
 use Rattle.error.specs.declared.Answer.{Answer}
 use Rattle.error.specs.declared.Answer.the-variants.{Done, Refused}
 use Rattle.error.specs.Answer.{Outcome, unchanged, placed}
+use Rattle.error.specs.Result.{ok}
 use Rattle.row_format.specs.declared.Shape.{Shape}
 use Rattle.row_format.specs.declared.Shape.the-variants.{Varlen}
 use Rattle.row_format.specs.Places.{minimum, offsetWidth}
 use Rattle.row_format.specs.Table.{Cell, payloads}
-use Rattle.row_format.specs.Row.{packedFlag, header, varlenCells, rowWith, slotsOf, builtRow, FitsSlot, FitsCell}
-use Rattle.row_format.specs.Edit.{editedRow, slotsKept}
+use Rattle.row_format.specs.Row.{packedFlag, header, varlenCells, rowWith, slotsOf, builtRow}
+use Rattle.row_format.specs.Edit.{editedRow}
 use Rattle.row_format.specs.Zeroed.{zeroedRow}
 use Rattle.row_format.proofs.Row.{length-header, length-row, slots-fit}
 use Rattle.row_format.proofs.SetRow.{cells-fit, kept-fit, set-row}
 use Rattle.row_format.proofs.Zeroed.{Agree, zeroed-built, agree-written, agree-kept}
 use Rattle.row_format.proofs.Fresh.{length-fresh}
 use Rattle.row_format.proofs.Sizes.{nulled-le}
+use Rattle.row_format.specs.InnerRow.{FitsCell, FitsSlot}
+use Rattle.row_format.specs.InnerEdit.{slotsKept}
 use Rattle.datatype.specs.declared.DataType.{DataType}
 use Rattle.datatype.specs.declared.DataType.the-variants as T
 use Rattle.datatype.specs.Types.{shapeOf}
-use Rattle.datatype.specs.Schema.{types, schemaOf}
+use Rattle.datatype.specs.Schema.{schemaOf}
 use Rattle.datatype.specs.Check.{typeAt}
 use Rattle.value.specs.Ranges.{textOf}
 use Rattle.value_list.specs.Lists.{valuesOf, listOf}
@@ -41,8 +44,11 @@ use Rattle.row_sound.specs.Sound.{soundness}
 use Rattle.row_sound.proofs.Rows.{row-told, cells-row}
 use Rattle.row_build.specs.Build.{buildCall, freshRow, freshCall}
 use Rattle.row_build.proofs.Schemas.{schema-minimum, schema-few}
-use Rattle.row_edit.specs.Edit.{opened, edited, held, given}
-use Rattle.history.specs.History.{Call, setValue, setNull, State, called, handedBack, next, Entry, oneValue, noted, run, sheetAfter, texts, lastValues, entryCell, sheetCells}
+use Rattle.row_column.specs.declared.Frame.the-variants as Frame
+use Rattle.row_column.specs.Frame.{onFrame}
+use Rattle.row_edit.specs.Edit.{opened, edited, rowStored, given}
+use Rattle.history.specs.History.{Call, setValue, setNull, State, called, handedBack, next, run, answers}
+use Rattle.history.specs.History.{Entry, oneValue, noted, sheetBy, texts, lastValues, entryCell, sheetCells}
 use Rattle.history.specs.Demand.{OfBytes, AllOfBytes}
 use Rattle.history.proofs.Entries.{SuitsEntry, blank-suits, set-suits, blank-cells, set-cells, entry-fits, cells-suit, cells-written, texts-le, length-values, values-sized, cells-read}
 use Rattle.history.proofs.Calls.{Ends, refusal, written, column-ends, tested-ends, placed-ends, given-taken}
@@ -125,7 +131,7 @@ module _ (w limit : ℕ) (ts : List DataType) where
 
 -- ---- the calls
 
-module _ (limit : ℕ) (schema : List ℕ) (ts : List DataType) (columns : schemaOf offsetWidth limit schema ≡ types ts) (wide : limit < 256 ^ offsetWidth) where
+module _ (limit : ℕ) (schema : List ℕ) (ts : List DataType) (columns : schemaOf offsetWidth limit schema ≡ ok ts) (wide : limit < 256 ^ offsetWidth) where
   abbrev pub Keeps : State → List Entry → Type 0
   Keeps s es = Kept offsetWidth limit ts (s .buf) (s .row-length) es
 
@@ -137,14 +143,18 @@ module _ (limit : ℕ) (schema : List ℕ) (ts : List DataType) (columns : schem
     n = s .row-length
 
     -- the row is sound and packed, so nothing but 9 comes before a call's own conditions
-    pub kept-sound : soundness limit ts (take n buf) ≡ Sound true
+    pub kept-sound : soundness offsetWidth limit ts (take n buf) ≡ Sound true
     kept-sound =
         let short = k .short in
         let long = kept-length offsetWidth limit ts k in
-        rw (k .row) (row-told limit ts _ (cells-row limit wide (cells-written (k .suit)) (k .fit) (k .agree) (schema-few offsetWidth limit schema columns) (rw (← k .row) (omega arith))))
+        rw (k .row) (row-told offsetWidth limit ts _ (cells-row limit wide (cells-written (k .suit)) (k .fit) (k .agree) (schema-few offsetWidth limit schema columns) (rw (← k .row) (omega arith))))
 
     pub open-kept : (i : ℕ) (f : List DataType → Bool → Outcome) → opened offsetWidth limit schema buf n i f ≡ cond (leb (length ts) i) (unchanged buf NoSuchColumn) (f ts true)
-    open-kept i f = rw (columns, le-ltb (length buf) n (k .room), kept-sound)
+    open-kept i f = rw (columns, le-ltb (length buf) n (k .room), kept-sound) (by-column (leb (length ts) i))
+      where
+        by-column : (t : Bool) → onFrame (cond t (Frame.Refused NoSuchColumn) (Frame.Good true)) (unchanged buf) (f ts) ≡ cond t (unchanged buf NoSuchColumn) (f ts true)
+        by-column true = refl
+        by-column false = refl
 
     -- an entry put down for column i, with the row that a call wrote
     abbrev Puts : ℕ → Entry → List ℕ → Type 0
@@ -171,7 +181,7 @@ module _ (limit : ℕ) (schema : List ℕ) (ts : List DataType) (columns : schem
         rw (open-kept i _) (column-ends (length ts) i _ λ h. let le = null-le offsetWidth limit ts k wide i h in written r refl (set-kept offsetWidth limit ts k wide i h none tt r refl (omega arith) (omega arith)))
 
     -- a refused call changes nothing, and an accepted one puts its entry down
-    of-ends : (c : Call) (P : List ℕ → Type 0) (o : Outcome) → ((r : List ℕ) → P r → Keeps (next (held buf r) s) (noted (Done (length r)) c es)) → Ends buf P o → Keeps (next o s) (noted (o .0) c es)
+    of-ends : (c : Call) (P : List ℕ → Type 0) (o : Outcome) → ((r : List ℕ) → P r → Keeps (next (rowStored buf r) s) (noted (Done (length r)) c es)) → Ends buf P o → Keeps (next o s) (noted (o .0) c es)
     of-ends c P o f (refusal e q) = subst (λ x. Keeps (next x s) (noted (x .0) c es)) (sym q) k
     of-ends c P o f (written r q p) = subst (λ x. Keeps (next x s) (noted (x .0) c es)) (sym q) (f r p)
 
@@ -179,7 +189,8 @@ module _ (limit : ℕ) (schema : List ℕ) (ts : List DataType) (columns : schem
     keeps (setValue i list area) bytes = of-ends (setValue i list area) _ _ (λ r p. p) (set-ends i list area bytes)
     keeps (setNull i) bytes = of-ends (setNull i) _ _ (λ r p. p) (null-ends i)
 
-  pub keeps-all : (cs : List Call) → AllOfBytes cs → {s : State} {es : List Entry} → Keeps s es → Keeps (run offsetWidth limit schema cs s) (sheetAfter offsetWidth limit schema cs s es)
+  pub keeps-all : (cs : List Call) → AllOfBytes cs → {s : State} {es : List Entry} → Keeps s es
+      → Keeps (run offsetWidth limit schema cs s) (sheetBy cs (answers offsetWidth limit schema cs s) es)
   keeps-all [] b k = k
   keeps-all (c ∷ cs) b k = keeps-all cs (b .1) (keeps k c (b .0))
 
@@ -217,7 +228,7 @@ module _ (limit : ℕ) (schema : List ℕ) (ts : List DataType) (columns : schem
       on-columns : freshCall offsetWidth limit schema out ≡ placed out (freshRow offsetWidth ts)
       on-columns = rw columns
 
-      of-test : (t : Bool) → ltb (length out) (length (freshRow offsetWidth ts)) ≡ t → cond t (unchanged out NoRoom) (held out (freshRow offsetWidth ts)) ≡ (Done (s .row-length), s .buf) → Keeps s blank
+      of-test : (t : Bool) → ltb (length out) (length (freshRow offsetWidth ts)) ≡ t → cond t (unchanged out NoRoom) (rowStored out (freshRow offsetWidth ts)) ≡ (Done (s .row-length), s .buf) → Keeps s blank
       of-test true h q = absurd (subst (λ (o : Outcome). IsDone (o .0)) (sym q) tt)
       of-test false h q =
           subst (λ (o : Outcome). Kept offsetWidth limit ts (o .1) (handedBack (o .0) 0) blank) q (fresh-kept out (ltb-false (length out) (length (freshRow offsetWidth ts)) h))

@@ -4,24 +4,18 @@ use mathlib.Core.Path.{_≡_, refl, sym, ap, ap₂, _∙_}
 use mathlib.Core.Bool.{Bool, true, false≢true}
 use mathlib.Core.List.{List, [], _∷_}
 use native.Mathlib.Nat.{add-zero, zero-add}
-use native.Mathlib.Numerals.{add-one}
 use native.Mathlib.Omega.{arith}
-use lib.ListN.{length, getD, take, drop, length-map, drop-of-length-le}
-use lib.Seq.{drop-cons, length-take-le}
+use lib.ListN.{length, getD, length-map}
 use Rattle.laws.proofs.Maps.{at-map}
 use Rattle.laws.proofs.Truths.{both}
 use Rattle.error.specs.Answer.{unchanged}
+use Rattle.error.specs.Result.{ok, onResult}
 use Rattle.row_format.specs.Places.{offsetWidth, rowLimit}
 use Rattle.datatype.specs.declared.DataType.{DataType}
-use Rattle.datatype.specs.declared.DataType.the-variants.{Varchar}
-use Rattle.datatype.specs.Types.{shapeOf}
-use Rattle.datatype.specs.Schema.{Parsed, types, schemaOf}
-use Rattle.datatype.specs.Check.{onSchema, typeAt, layoutFor, layoutBefore}
-use Rattle.datatype.proofs.Again.{before-next}
+use Rattle.datatype.specs.Schema.{Parsed, schemaOf}
 use Rattle.value.specs.declared.DataValue.{DataValue}
 use Rattle.value.specs.declared.DataValue.the-variants as D
-use Rattle.value_list.specs.Lists.{Values, values}
-use Rattle.row_layout.specs.Layout.{noColumns}
+use Rattle.value_list.specs.Lists.{Values}
 use Rattle.row_column.specs.declared.Frame.{Frame}
 use Rattle.row_column.specs.declared.ColumnRead.{ColumnRead}
 use Rattle.row_column.specs.declared.ColumnRead.the-variants.{Value, Refused}
@@ -55,9 +49,9 @@ at-listed f i zero j d h = absurd (omega arith)
 at-listed f i (suc n) zero d h = ap f (sym (add-zero i))
 at-listed f i (suc n) (suc j) d h = let e : suc i + j ≡ i + suc j = omega arith in at-listed f (suc i) n j d (omega arith) ∙ ap f e
 
-module _ {ts : List DataType} {p : Bool} {r : List ℕ} (s : SoundRow rowLimit ts p r) where
+module _ {ts : List DataType} {p : Bool} {r : List ℕ} (s : SoundRow offsetWidth rowLimit ts p r) where
   abbrev column : ℕ → ColumnRead
-  column j = columnValue (layoutFor ts) p (layoutBefore ts j) (typeAt ts j) r
+  column j = columnValue offsetWidth p ts j r
 
   abbrev value : ℕ → DataValue
   value j = valueIn (column j)
@@ -72,28 +66,22 @@ module _ {ts : List DataType} {p : Bool} {r : List ℕ} (s : SoundRow rowLimit t
   -- ---- the call
 
   module _ (wanted : ℕ → Bool) (all : (i : ℕ) → i < length ts → wanted i ≡ true) where
-    number : (i : ℕ) → i < length ts → (layoutBefore ts i) .«num_columns» ≡ i
-    number i h = length-map (take i ts) shapeOf ∙ length-take-le i ts (omega arith)
-
-    read-next : (i : ℕ) → i < length ts → readFrom (layoutFor ts) p wanted r (layoutBefore ts i) (drop i ts)
-        ≡ onColumn (wantedValue (wanted ((layoutBefore ts i) .«num_columns»)) (column i)) (readFrom (layoutFor ts) p wanted r (layoutBefore ts (suc i)) (drop (suc i) ts))
-    read-next i h = rw (drop-cons ts i (Varchar 0) h, rw (add-one i) at (before-next ts i h))
-
-    read-from : (n i : ℕ) → i + n ≡ length ts → readFrom (layoutFor ts) p wanted r (layoutBefore ts i) (drop i ts) ≡ values (listed value i n)
-    read-from zero i e = rw (drop-of-length-le ts {i = i} (omega arith))
+    read-from : (n i : ℕ) → i + n ≡ length ts → readFrom offsetWidth p ts wanted r i n ≡ ok (listed value i n)
+    read-from zero i e = refl
     read-from (suc n) i e =
         let h : i < length ts = omega arith in
-        read-next i h
-        ∙ ap₂ (λ (x : Bool) (y : Values). onColumn (wantedValue x (column i)) y) (ap wanted (number i h) ∙ all i h) (read-from n (suc i) (omega arith))
-        ∙ ap (λ (c : ColumnRead). onColumn c (values (listed value (suc i) n))) (column-is i h)
+        ap₂ (λ (x : Bool) (y : Values). onColumn (wantedValue x (column i)) y) (all i h)
+        (read-from n (suc i) (omega arith))
+        ∙ ap (λ (c : ColumnRead). onColumn c (ok (listed value (suc i) n))) (column-is i h)
 
-  pub reads-all : {schema : List ℕ} → schemaOf offsetWidth rowLimit schema ≡ types ts → ReadsAll schema (length ts) r rowValues
+  pub reads-all : {schema : List ℕ} → schemaOf offsetWidth rowLimit schema ≡ ok ts → ReadsAll schema (length ts) r rowValues
   reads-all {schema} e =
       record {
         count = length-listed value 0 (length ts);
         read = λ ws o all.
-            ap (λ (x : Parsed). onSchema x (unchanged o) (λ cs. readRow rowLimit cs r ws o)) e
-            ∙ ap (λ (x : Frame). onFrame x (unchanged o) (λ q. handOut o (readFrom (layoutFor ts) q (isWanted ws) r noColumns ts))) (s .frame)
+            ap (λ (x : Parsed). onResult x (unchanged o) (λ cs. readRow offsetWidth rowLimit cs r ws o)) e
+            ∙ ap (λ (x : Frame). onFrame x (unchanged o)
+            (λ q. handOut o (readFrom offsetWidth q ts (isWanted ws) r 0 (length ts)))) (s .frame)
             ∙ ap (handOut o) (read-from (isWanted ws) all (length ts) 0 (zero-add (length ts)));
       }
 
@@ -102,7 +90,7 @@ module _ {ts : List DataType} {p : Bool} {r : List ℕ} (s : SoundRow rowLimit t
   pub length-contents : length (contents r rowValues) ≡ length ts
   length-contents = length-map rowValues (λ (v : DataValue). content r (Value v)) ∙ length-listed value 0 (length ts)
 
-  pub content-at : (j : ℕ) → j < length ts → getD (contents r rowValues) j nullContent ≡ columnContent ts p j r
+  pub content-at : (j : ℕ) → j < length ts → getD (contents r rowValues) j nullContent ≡ columnContent offsetWidth p ts j r
   content-at j h =
       at-map (λ (v : DataValue). content r (Value v)) j rowValues D.Null
       ∙ ap (λ (v : DataValue). content r (Value v)) (at-listed value 0 (length ts) j D.Null h ∙ ap value (zero-add j))

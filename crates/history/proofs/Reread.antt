@@ -13,19 +13,20 @@ use Rattle.laws.proofs.Truths.{same-or}
 use Rattle.error.specs.declared.Answer.{Answer}
 use Rattle.error.specs.declared.Answer.the-variants.{Done, Refused}
 use Rattle.error.specs.Answer.{Outcome}
+use Rattle.error.specs.Result.{ok}
 use Rattle.row_format.specs.Places.{offsetWidth, rowLimit}
 use Rattle.row_format.specs.Table.{Cell}
 use Rattle.row_format.specs.Edit.{editedRow}
 use Rattle.datatype.specs.declared.DataType.{DataType}
 use Rattle.datatype.specs.Types.{shapeOf}
-use Rattle.datatype.specs.Schema.{types, schemaOf}
+use Rattle.datatype.specs.Schema.{schemaOf}
 use Rattle.datatype.specs.Check.{typeAt}
 use Rattle.value_list.specs.Lists.{valuesOf}
 use Rattle.row_sound.specs.Sound.{SoundRow}
 use Rattle.row_sound.specs.Written.{Writes, null, form}
 use Rattle.row_sound.specs.Reread.{Content, columnContent, nullContent, writtenContent, payloadOf, lengthIn, Reread}
 use Rattle.row_sound.proofs.Rows.{row-short, null-short, edit-sound, edit-reread}
-use Rattle.row_edit.specs.Edit.{edited, held, given}
+use Rattle.row_edit.specs.Edit.{edited, rowStored, given}
 use Rattle.history.specs.History.{Call, setValue, setNull, State, rowOf, called, handedBack, oneValue}
 use Rattle.history.specs.Demand.{OfBytes}
 use Rattle.history.specs.Reread.{columnOf, givenContent, ReadsAll, contents, Edits}
@@ -37,9 +38,9 @@ use Rattle.history.proofs.Reading.{rowValues, reads-all, length-content
 
 record Went (schema : List ℕ) (c : Call) (s : State) (r : List ℕ) : Type 0 where
   columns : List DataType
-  schema-good : schemaOf offsetWidth rowLimit schema ≡ types columns
+  schema-good : schemaOf offsetWidth rowLimit schema ≡ ok columns
   packed : Bool
-  sound : SoundRow rowLimit columns packed (rowOf s)
+  sound : SoundRow offsetWidth rowLimit columns packed (rowOf s)
   inside : columnOf c < length columns
   cell : Cell
   writes : Writes (typeAt columns (columnOf c)) cell
@@ -123,16 +124,16 @@ module _ {schema : List ℕ} {c : Call} {s : State} {r : List ℕ} (w : Went sch
   edit-short : length edit ≤ rowLimit
   edit-short = rw (w .row-is) (w .short)
 
-  after-sound : SoundRow rowLimit ts p r
-  after-sound = subst (SoundRow rowLimit ts p) (w .row-is) (edit-sound (w .sound) wide octets i (w .inside) (w .cell) (w .writes) edit-short)
+  after-sound : SoundRow offsetWidth rowLimit ts p r
+  after-sound = subst (SoundRow offsetWidth rowLimit ts p) (w .row-is) (edit-sound (w .sound) wide octets i (w .inside) (w .cell) (w .writes) edit-short)
 
   abbrev put : Content
   put = givenContent (typeAt ts i) c
 
-  read-again : Reread ts p i put old r
+  read-again : Reread offsetWidth p ts i put old r
   read-again =
-      subst (λ (x : List ℕ). Reread ts p i put old x) (w .row-is)
-      (subst (λ (x : Content). Reread ts p i x old edit) (w .is-given) (edit-reread (w .sound) wide octets i (w .inside) (w .cell) (w .writes) edit-short))
+      subst (λ (x : List ℕ). Reread offsetWidth p ts i put old x) (w .row-is)
+      (subst (λ (x : Content). Reread offsetWidth p ts i x old edit) (w .is-given) (edit-reread (w .sound) wide octets i (w .inside) (w .cell) (w .writes) edit-short))
 
   abbrev before : List Content
   before = contents old (rowValues (w .sound))
@@ -141,7 +142,7 @@ module _ {schema : List ℕ} {c : Call} {s : State} {r : List ℕ} (w : Went sch
   column-changed j l =
       content-at after-sound j l
       ∙ same-or i j
-      (λ e. subst (λ (k : ℕ). columnContent ts p k r ≡ getD (set before i put) k nullContent) e (read-again .own ∙ sym (getD-set-same before i put nullContent (rw (length-contents (w .sound)) (w .inside)))))
+      (λ e. subst (λ (k : ℕ). columnContent offsetWidth p ts k r ≡ getD (set before i put) k nullContent) e (read-again .own ∙ sym (getD-set-same before i put nullContent (rw (length-contents (w .sound)) (w .inside)))))
       (λ ne. read-again .others j l ne ∙ sym (content-at (w .sound) j l) ∙ sym (getD-set-other before i j put nullContent (λ e. ne (sym e))))
 
   row-changed : contents r (rowValues after-sound) ≡ set before i put
@@ -161,7 +162,7 @@ edits {schema} c of {old} {new} bytes done = by-end (went schema old c of)
     by-end : Ends (old .buf) (Went schema c old) (called offsetWidth rowLimit schema c old) → Edits schema c old new
     by-end (refusal e q) = absurd (subst (λ (o : Outcome). IsDone (o .0)) (sym done ∙ q) tt)
     by-end (written r q w) =
-        let same : held (old .buf) r ≡ (Done (new .row-length), new .buf) = sym q ∙ done in
+        let same : rowStored (old .buf) r ≡ (Done (new .row-length), new .buf) = sym q ∙ done in
         let size : length r ≡ new .row-length = ap (λ (o : Outcome). handedBack (o .0) 0) same in
         let whole : r ++ drop (length r) (old .buf) ≡ new .buf = sym (sets-start (old .buf) r (w .room)) ∙ ap (λ (o : Outcome). o .1) same in
         let row : r ≡ rowOf new = rw (← size, ← whole) (sym (take-append-seam r (drop (length r) (old .buf)))) in
@@ -176,10 +177,10 @@ edits {schema} c of {old} {new} bytes done = by-end (went schema old c of)
           changed = subst (λ (x : List ℕ). contents x (rowValues (after-sound w bytes)) ≡ set (before w bytes) (columnOf c) (givenContent (typeAt (w .columns) (columnOf c)) c)) row (row-changed w bytes);
           packed = w .packed;
           old-sound = w .sound;
-          new-sound = subst (SoundRow rowLimit (w .columns) (w .packed)) row (after-sound w bytes);
+          new-sound = subst (SoundRow offsetWidth rowLimit (w .columns) (w .packed)) row (after-sound w bytes);
           handed = sym size ∙ ap length row;
-          long = subst (λ (x : List ℕ). length x ≡ lengthIn (w .columns) (w .packed) x) row (read-again w bytes .long);
+          long = subst (λ (x : List ℕ). length x ≡ lengthIn offsetWidth (w .packed) (w .columns) x) row (read-again w bytes .long);
           change =
-              subst (λ (x : List ℕ). length x + length (payloadOf (w .columns) (w .packed) (columnOf c) (rowOf old)) ≡ length (rowOf old) + length (payloadOf (w .columns) (w .packed) (columnOf c) x)) row (read-again w bytes .change);
+              subst (λ (x : List ℕ). length x + length (payloadOf offsetWidth (w .packed) (w .columns) (columnOf c) (rowOf old)) ≡ length (rowOf old) + length (payloadOf offsetWidth (w .packed) (w .columns) (columnOf c) x)) row (read-again w bytes .change);
           behind = rw (← size, ← whole) (drop-append-seam r (drop (length r) (old .buf)));
         }

@@ -10,8 +10,10 @@ use mir.Syntax.{w8}
 use mir.Val.{Fits}
 use Rattle.error.specs.declared.Refusal.{Refusal}
 use Rattle.error.specs.declared.Refusal.the-variants.{NoSuchColumn}
+use Rattle.error.specs.declared.Answer.{Answer}
 use Rattle.error.specs.declared.Answer.the-variants.{Done}
 use Rattle.error.specs.Answer.{placed, unchanged}
+use Rattle.error.specs.Result.{ok, refused}
 use Rattle.row_format.specs.Places.{offsetWidth, rowLimit, minimum}
 use Rattle.row_format.specs.Table.{Cell, payloads}
 use Rattle.row_format.specs.Row.{varlenCells}
@@ -19,15 +21,15 @@ use Rattle.row_format.specs.Edit.{editedRow}
 use Rattle.row_format.specs.Zeroed.{zeroedRow}
 use Rattle.datatype.specs.declared.DataType.{DataType}
 use Rattle.datatype.specs.Types.{shapeOf}
-use Rattle.datatype.specs.Schema.{types, schemaOf}
+use Rattle.datatype.specs.Schema.{schemaOf}
 use Rattle.datatype.specs.Check.{typeAt}
 use Rattle.value_list.specs.Lists.{listOf}
 use Rattle.row_sound.specs.declared.Soundness.the-variants.{Sound}
 use Rattle.row_sound.specs.Sound.{soundness}
-use Rattle.row_build.specs.Stored.{good, refused}
 use Rattle.row_build.specs.Build.{rowPlaced, buildCall, freshCall}
-use Rattle.row_edit.specs.Edit.{held, given}
-use Rattle.history.specs.History.{Call, setValue, setNull, State, rowOf, called, Entry, run, sheetAfter, texts, lastValues, sheetCells}
+use Rattle.row_edit.specs.Edit.{rowStored, given}
+use Rattle.history.specs.History.{Call, setValue, setNull, State, rowOf, called, run, answers}
+use Rattle.history.specs.History.{Entry, sheetBy, texts, lastValues, sheetCells}
 
 -- ---- a history on a schema with columns ts
 
@@ -40,10 +42,10 @@ abbrev pub AllOfBytes : List Call → Type 0
 AllOfBytes [] = Unit {0}
 AllOfBytes (c ∷ cs) = OfBytes c × AllOfBytes cs
 
--- "A history starts where fresh answers 0": `out` is what fresh was lent, `start` what it left and handed back. "a list of set and set null calls, refused
--- ones included": any calls
+-- "A history starts where fresh answers 0": `out` is what fresh was lent, `start` what it left and handed back. "a
+-- list of set and set null calls, refused ones included": any calls
 pub record History (schema : List ℕ) (ts : List DataType) : Type 0 where
-  pub columns : schemaOf offsetWidth rowLimit schema ≡ types ts
+  pub columns : schemaOf offsetWidth rowLimit schema ≡ ok ts
   pub out : List ℕ
   pub start : State
   pub fresh : freshCall offsetWidth rowLimit schema out ≡ (Done (start .row-length), start .buf)
@@ -51,7 +53,8 @@ pub record History (schema : List ℕ) (ts : List DataType) : Type 0 where
   pub bytes : AllOfBytes calls
 
 module _ {schema : List ℕ} {ts : List DataType} (h : History schema ts) where
-  -- what it leaves: the buffer and the length; the row, as it is and "with the slots of null fixed columns set to zero"
+  -- what it leaves: the buffer and the length; the row, as it is and "with the slots of null fixed columns set to
+  -- zero"
   abbrev pub left : State
   left = run offsetWidth rowLimit schema (h .calls) (h .start)
 
@@ -61,34 +64,51 @@ module _ {schema : List ℕ} {ts : List DataType} (h : History schema ts) where
   abbrev pub zeroed : List ℕ
   zeroed = zeroedRow offsetWidth (map shapeOf ts) row
 
-  -- the sheet, "all null at first", and "the same stored form, or null, in every column"
+  -- what its calls answer
+  abbrev pub replies : List Answer
+  replies = answers offsetWidth rowLimit schema (h .calls) (h .start)
+
+  -- the sheet, by the calls and those answers: "one entry a column, all null at first"; and "the same stored form, or
+  -- null, in every column"
   abbrev pub sheet : List Entry
-  sheet = sheetAfter offsetWidth rowLimit schema (h .calls) (h .start) (replicate (length ts) none)
+  sheet = sheetBy (h .calls) replies (replicate (length ts) none)
 
   abbrev pub cells : List Cell
   cells = sheetCells ts sheet
 
-  -- ---- "For every history": the row zeroed "is the very row that the builder makes of the last accepted values". `placed` is 14 where there is no room
-  -- for it; so "the builder refuses with nothing but 14, for want of room; otherwise it writes the history's row". The length that was handed back is
-  -- the row's, "the layout's minimum plus the payload lengths of its non-null Varchar columns".
+  -- ---- "For every history": the row zeroed "is the very row that the builder makes of the last accepted values".
+  -- `placed` is 14 where there is no room for it; so "the builder refuses with nothing but 14, for want of room;
+  -- otherwise it writes the history's row". The length that was handed back is the row's, "the layout's minimum plus
+  -- the payload lengths of its non-null Varchar columns", and zeroing keeps it.
   pub record Leaves : Type 0 where
-    pub built : (o : List ℕ) → buildCall offsetWidth rowLimit schema (listOf (lastValues 0 sheet)) (texts sheet) o ≡ placed o zeroed
+    pub built : (o : List ℕ)
+        → buildCall offsetWidth rowLimit schema (listOf (lastValues 0 sheet)) (texts sheet) o ≡ placed o zeroed
     pub handed : left .row-length ≡ length row
-    pub long : length row ≡ minimum offsetWidth true (map shapeOf ts) + length (payloads (varlenCells (map shapeOf ts) cells))
+    pub long : length row
+        ≡ minimum offsetWidth true (map shapeOf ts) + length (payloads (varlenCells (map shapeOf ts) cells))
+    pub same-length : length zeroed ≡ length row
 
-  -- ---- No history ends in a row that refuses every edit: the row left is sound, so a set of a column that is there, with a value that passes 10, 11 and 12,
-  -- is refused by nothing but 13 and 14 for the row it makes, and a set null of such a column by nothing. The other calls are refused by 9, or by what is
-  -- wrong with the value. So no call of a history answers 1, 2, 15, or 14 for the row length.
+  -- ---- No history ends in a row that refuses every edit: the row left is sound, so a set of a column that is there,
+  -- with a value that passes 10, 11 and 12, is refused by nothing but 13 and 14 for the row it makes, and a set null
+  -- of such a column by nothing. The other calls are refused by 9, or by what is wrong with the value. So no call of a
+  -- history answers 1, 2, 15, or 14 for the row length.
   pub record Accepts : Type 0 where
-    pub sound : soundness rowLimit ts row ≡ Sound true
-    pub set : (i : ℕ) (list area b : List ℕ) → i < length ts → given rowLimit (typeAt ts i) i list area ≡ good b
-        → called offsetWidth rowLimit schema (setValue i list area) left ≡ rowPlaced rowLimit (left .buf) (editedRow offsetWidth true (map shapeOf ts) i (some b) row)
-    pub bad-value : (i : ℕ) (list area : List ℕ) {e : Refusal} → i < length ts → given rowLimit (typeAt ts i) i list area ≡ refused e → called offsetWidth rowLimit schema (setValue i list area) left ≡ unchanged (left .buf) e
-    pub no-column : (i : ℕ) (list area : List ℕ) → length ts ≤ i → called offsetWidth rowLimit schema (setValue i list area) left ≡ unchanged (left .buf) NoSuchColumn
-    pub no-null : (i : ℕ) → length ts ≤ i → called offsetWidth rowLimit schema (setNull i) left ≡ unchanged (left .buf) NoSuchColumn
-    pub set-null : (i : ℕ) → i < length ts → called offsetWidth rowLimit schema (setNull i) left ≡ held (left .buf) (editedRow offsetWidth true (map shapeOf ts) i none row)
+    pub sound : soundness offsetWidth rowLimit ts row ≡ Sound true
+    pub set : (i : ℕ) (list area b : List ℕ) → i < length ts → given rowLimit (typeAt ts i) i list area ≡ ok b
+        → called offsetWidth rowLimit schema (setValue i list area) left
+        ≡ rowPlaced rowLimit (left .buf) (editedRow offsetWidth true (map shapeOf ts) i (some b) row)
+    pub bad-value : (i : ℕ) (list area : List ℕ) {e : Refusal} → i < length ts
+        → given rowLimit (typeAt ts i) i list area ≡ refused e
+        → called offsetWidth rowLimit schema (setValue i list area) left ≡ unchanged (left .buf) e
+    pub no-column : (i : ℕ) (list area : List ℕ) → length ts ≤ i
+        → called offsetWidth rowLimit schema (setValue i list area) left ≡ unchanged (left .buf) NoSuchColumn
+    pub no-null : (i : ℕ) → length ts ≤ i
+        → called offsetWidth rowLimit schema (setNull i) left ≡ unchanged (left .buf) NoSuchColumn
+    pub set-null : (i : ℕ) → i < length ts
+        → called offsetWidth rowLimit schema (setNull i) left
+        ≡ rowStored (left .buf) (editedRow offsetWidth true (map shapeOf ts) i none row)
 
--- ---- "For every two histories on one schema, the rows so zeroed are equal in length and in every byte exactly when both leave the same stored form, or null,
--- in every column."
+-- ---- "For every two histories on one schema, the rows so zeroed are equal in length and in every byte exactly when
+-- both leave the same stored form, or null, in every column."
 abbrev pub Told : {schema : List ℕ} {ts : List DataType} (g h : History schema ts) → Type 0
 Told g h = (zeroed g ≡ zeroed h) ↔ (cells g ≡ cells h)

@@ -1,4 +1,5 @@
--- Demand 3, and 01, "Histories of edits": lists of set and set null calls, refused ones included, from a fresh row of a schema.
+-- Demand 3, and 01, "Histories of edits": lists of set and set null calls, refused ones included, from a fresh row of
+-- a schema.
 use Prim.Native.Nat.{ℕ, _+_}
 use mathlib.Core.List.{List, [], _∷_, _++_}
 use mathlib.Core.Option.{Option, none, some}
@@ -6,12 +7,13 @@ use lib.ListN.{length, getD, set, take}
 use Rattle.error.specs.declared.Answer.{Answer}
 use Rattle.error.specs.declared.Answer.the-variants.{Done, Refused}
 use Rattle.error.specs.Answer.{Outcome}
+use Rattle.error.specs.Result.{ok, refused}
 use Rattle.row_format.specs.Table.{Cell}
 use Rattle.datatype.specs.declared.DataType.{DataType}
 use Rattle.value.specs.declared.DataValue.{DataValue}
 use Rattle.value.specs.declared.DataValue.the-variants as D
 use Rattle.value.specs.Ranges.{textOf, moved}
-use Rattle.value_list.specs.Lists.{Values, values, refused, valuesOf}
+use Rattle.value_list.specs.Lists.{Values, valuesOf}
 use Rattle.stored_form.specs.Write.{storedForm}
 use Rattle.row_edit.specs.Edit.{setCall, setNullCall}
 
@@ -50,26 +52,37 @@ abbrev pub Entry : Type 0
 Entry = Option (DataValue × List ℕ)
 
 abbrev pub oneValue : Values → DataValue
-oneValue (values vs) = getD vs 0 D.Null
+oneValue (ok vs) = getD vs 0 D.Null
 oneValue (refused e) = D.Null
 
--- "fed .. each call's column, value list, text area and answer, never the row"
+-- "An accepted set puts its value, with the bytes of its text range, in its column's entry. An accepted set null puts
+-- null there. A refused call changes no entry."
 abbrev pub noted : Answer → Call → List Entry → List Entry
 noted (Refused e) c sheet = sheet
-noted (Done m) (setValue i list area) sheet = set sheet i (some (oneValue (valuesOf list), textOf area (oneValue (valuesOf list))))
+noted (Done m) (setValue i list area) sheet =
+    set sheet i (some (oneValue (valuesOf list), textOf area (oneValue (valuesOf list))))
 noted (Done m) (setNull i) sheet = set sheet i none
 
--- ---- a whole history: what it leaves of buffer and length, and on the sheet
+-- "fed the schema and each call's column, value list, text area and answer, never the row": the calls, with their
+-- answers, put down on a sheet
+abbrev pub sheetBy : List Call → List Answer → List Entry → List Entry
+sheetBy [] as′ sheet = sheet
+sheetBy (c ∷ cs) [] sheet = sheet
+sheetBy (c ∷ cs) (a ∷ as′) sheet = sheetBy cs as′ (noted a c sheet)
+
+-- ---- a whole history: what it leaves of buffer and length, and what its calls answer
 
 abbrev pub run : ℕ → ℕ → List ℕ → List Call → State → State
 run w limit schema [] s = s
 run w limit schema (c ∷ cs) s = run w limit schema cs (next (called w limit schema c s) s)
 
-abbrev pub sheetAfter : ℕ → ℕ → List ℕ → List Call → State → List Entry → List Entry
-sheetAfter w limit schema [] s sheet = sheet
-sheetAfter w limit schema (c ∷ cs) s sheet = sheetAfter w limit schema cs (next (called w limit schema c s) s) (noted (called w limit schema c s .0) c sheet)
+abbrev pub answers : ℕ → ℕ → List ℕ → List Call → State → List Answer
+answers w limit schema [] s = []
+answers w limit schema (c ∷ cs) s =
+    called w limit schema c s .0 ∷ answers w limit schema cs (next (called w limit schema c s) s)
 
--- ---- "the last accepted values": "the entries by rising column as one value list, the texts end to end in that order in one text area, each range rewritten to match"
+-- ---- "The last accepted values are the entries by rising column as one value list, the texts end to end in that
+-- order in one text area, each range rewritten to match."
 
 abbrev pub texts : List Entry → List ℕ
 texts [] = []

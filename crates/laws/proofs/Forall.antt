@@ -4,7 +4,7 @@ use mathlib.Core.Path.{_≡_, refl, ap}
 use mathlib.Core.List.{List, [], _∷_, _++_}
 use native.Mathlib.Omega.{arith}
 use lib.ListN.{length, getD}
-use Rattle.laws.specs.Forall.{Forall₂, nil, cons}
+use Rattle.laws.specs.InnerForall.{Forall₂, nil, cons}
 
 -- what holds of a list cut at an index holds of the list at that index
 pub by-cut : {A : Type 0} (P : List A → ℕ → Type 0) → ((us : List A) (x : A) (vs : List A) → P (us ++ x ∷ vs) (length us)) → (xs : List A) (k : ℕ) → k < length xs → P xs k

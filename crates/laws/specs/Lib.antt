@@ -1,3 +1,3 @@
 pub mod Bytes
 pub mod Bits
-pub mod Forall
+pub mod InnerForall

@@ -1,13 +1,15 @@
 // null_bitmap.rs: a column's bit in lent bytes, low bit first, set for null. Where the Rust asserts, the answer is 9.
 use error::Flag;
 use error::Refusal;
+use row_layout::RowLayout;
 ghost use mathlib.Core.Path.{_≡_};
 ghost use Prim.Native.Nat.{_+_, _/_, _<_};
 ghost use lib.Dec.{eqb};
-ghost use lib.ListN.{length};
+ghost use lib.ListN.{length, drop};
 ghost use Rattle.laws.specs.Bits.{bitValue, putBit, bitAt};
-ghost use Rattle.row_format.specs.Places.{rowLimit};
-ghost use Rattle.null_bitmap.specs.Bitmap.{flagIn, flagPut, nullFlag};
+ghost use Rattle.row_format.specs.Places.{bitmapStart, rowLimit};
+ghost use Rattle.null_bitmap.specs.Bitmap.{nullFlag};
+ghost use Rattle.null_bitmap.specs.InnerBitmap.{flagIn, flagPut};
 
 pub enum BitAnswer {
     Done,
@@ -31,6 +33,15 @@ pub fn bit_is_set(bits: &[u8], i: usize) -> bool
     ensures { λ r. ⌜ r ≡ eqb (bitAt i (now (bits .entry))) 1 ⌝ }
 {
     (bits[i / 8] >> (i % 8)) % 2 == 1
+}
+
+// The same of the bitmap of a row.
+pub fn column_bit_is_set(row: &[u8], i: usize) -> bool
+    requires { ⌜ bitmapStart + i / 8 < length (now row) ⌝ }
+    ensures { λ r. ⌜ r ≡ eqb (bitAt i (drop bitmapStart (now (row .entry)))) 1 ⌝ }
+{
+    let bitmap = RowLayout::bitmap_offset();
+    bit_is_set(&row[bitmap..], i)
 }
 
 // Whether column i of n is null.
@@ -76,18 +87,19 @@ pub fn clear_null(bits: &mut [u8], n: usize, i: usize) -> BitAnswer
 pub fn is_column_null_in_row(row: &[u8], column: usize) -> Flag
     ensures { λ r. ⌜ r ≡ nullFlag rowLimit (now (row .entry)) column ⌝ }
 {
-    if 65535 < row.len() {
+    if RowLayout::ROW_LIMIT < row.len() {
         return Flag::Refused(Refusal::RowTooLong);
     }
-    if row.len() < 4 {
+    let bitmap = RowLayout::bitmap_offset();
+    if row.len() < bitmap {
         return Flag::Refused(Refusal::RowTooShort);
     }
     let n = endian::read_u16(row, 0) as usize;
     if n <= column {
         return Flag::Refused(Refusal::NoSuchColumn);
     }
-    if row.len() < 4 + (n + 7) / 8 {
+    if row.len() < bitmap + (n + 7) / 8 {
         return Flag::Refused(Refusal::RowTooShort);
     }
-    Flag::Is(bit_is_set(&row[4..], column))
+    Flag::Is(column_bit_is_set(row, column))
 }

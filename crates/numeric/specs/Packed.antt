@@ -1,5 +1,5 @@
 -- 01, "Stored forms": "Numeric and Decimal: digits of the unscaled number, one a nibble, a zero nibble in front when precision is even, then C or D; D only below zero".
-use Prim.Native.Nat.{ℕ, _+_, _*_, _/_, _%_, _^_, _≤_}
+use Prim.Native.Nat.{ℕ, _+_, _*_, _/_, _%_, _^_}
 use mathlib.Core.Bool.{Bool, true, false, cond, _&&_}
 use mathlib.Core.List.{List, [], _∷_, _++_}
 use lib.Dec.{eqb, leb}
@@ -49,7 +49,3 @@ signed s M.Broken = D.Broken
 
 abbrev pub decodeBcd : ℕ → List ℕ → Decoded
 decodeBcd p bs = signed (getD (nibbles bs) (frontSize p + p) 0) (magnitudeOf (take p (drop (frontSize p) (nibbles bs))))
-
--- ---- for the proofs: what each digit of an array is at most
-abbrev pub AtMostNine : List ℕ → Type 0
-AtMostNine ds = (k : ℕ) → getD ds k 0 ≤ 9

@@ -5,7 +5,8 @@ ghost use lib.Dec.{ltb};
 ghost use lib.ListN.{length, getD, take, drop};
 ghost use lib.Seq.{sets};
 ghost use Rattle.numeric.specs.Decimal.{halves, digits};
-ghost use Rattle.numeric.specs.Packed.{pairs, nibbles, frontSize, packedNibbles, encodeBcd, magnitudeOf, decodeBcd, AtMostNine};
+ghost use Rattle.numeric.specs.Packed.{pairs, nibbles, frontSize, packedNibbles, encodeBcd, magnitudeOf, decodeBcd};
+ghost use Rattle.numeric.specs.InnerPacked.{AtMostNine};
 
 pub struct Divided {
     pub high: u64,

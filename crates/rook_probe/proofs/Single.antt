@@ -16,10 +16,12 @@ use Rattle.value.specs.Kinds.{matches}
 use Rattle.value.specs.Ranges.{rangeOf, textOf}
 use Rattle.value_list.specs.declared.ValueRecord.the-variants.{Value}
 use Rattle.value_list.specs.declared.ListCheck.the-variants as Check
-use Rattle.value_list.specs.Records.{recordAt, NarrowRange, Narrow}
-use Rattle.value_list.specs.Lists.{checked, answer}
+use Rattle.value_list.specs.Records.{recordAt, NarrowRange}
+use Rattle.value_list.specs.Lists.{checked}
 use Rattle.value_list.proofs.Records.{range-narrow}
 use Rattle.value_list.proofs.Sole.{sole-value, refused-list}
+use Rattle.value_list.specs.InnerRecords.{Narrow}
+use Rattle.value_list.specs.InnerLists.{answer}
 use Rattle.stored_form.specs.declared.SlotRead.the-variants as Slot
 use Rattle.stored_form.specs.Write.{accepted, storedForm}
 use Rattle.stored_form.specs.Read.{readSlot}

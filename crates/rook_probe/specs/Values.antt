@@ -6,17 +6,18 @@ use lib.Dec.{eqb, ltb}
 use lib.ListN.{length}
 use lib.Seq.{sets}
 use Rattle.error.specs.Refusal.{numberOf}
+use Rattle.error.specs.Result.{ok, refused}
 use Rattle.row_format.specs.Places.{rowLimit}
 use Rattle.datatype.specs.declared.DataType.{DataType}
 use Rattle.datatype.specs.declared.Record.{Record}
 use Rattle.datatype.specs.declared.Record.the-variants.{Column, Refused}
 use Rattle.datatype.specs.Types.{sizeOf, isVarlen, precisionOf}
-use Rattle.datatype.specs.Schema.{recordAt}
+use Rattle.datatype.specs.Schema.{columnRecordAt}
 use Rattle.value.specs.declared.DataValue.{DataValue}
 use Rattle.value.specs.Kinds.{matches}
 use Rattle.value.specs.Ranges.{rangeOf, textOf}
 use Rattle.value_list.specs.Records.{recordOf}
-use Rattle.value_list.specs.Lists.{Values, values, refused, checked}
+use Rattle.value_list.specs.Lists.{Values, checked}
 use Rattle.stored_form.specs.declared.SlotRead.{SlotRead}
 use Rattle.stored_form.specs.declared.SlotRead.the-variants.{Value, NoValue}
 use Rattle.stored_form.specs.Write.{accepted, storedForm}
@@ -35,15 +36,15 @@ onlyRecord n (Column t next) = cond (eqb next n) (Only t) (Bad 2)
 onlyRecord n (Refused r) = Bad (numberOf r)
 
 abbrev pub onlyType : List ℕ → OneType
-onlyType s = cond (eqb (length s) 0) (Bad 1) (onlyRecord (length s) (recordAt s 0))
+onlyType s = cond (eqb (length s) 0) (Bad 1) (onlyRecord (length s) (columnRecordAt s 0))
 
 abbrev pub Precise : OneType → Type 0
 Precise (Only t) = precisionOf t ≤ 38
 Precise (Bad n) = Unit {0}
 
 abbrev pub onlyValue : Values → OneValue
-onlyValue (values []) = One.Bad
-onlyValue (values (v ∷ vs)) = One.Only v
+onlyValue (ok []) = One.Bad
+onlyValue (ok (v ∷ vs)) = One.Only v
 onlyValue (refused r) = One.Bad
 
 -- ---- answers
@@ -58,12 +59,12 @@ hand bs out = (record { number = 0; length = length bs }, sets out 0 bs)
 -- ---- a value stored
 
 -- 14: too little room
-abbrev pub placed : List ℕ → List ℕ → ValueProbe × List ℕ
-placed bs out = cond (ltb (length out) (length bs)) (refuse 14 out) (hand bs out)
+abbrev pub placedForm : List ℕ → List ℕ → ValueProbe × List ℕ
+placedForm bs out = cond (ltb (length out) (length bs)) (refuse 14 out) (hand bs out)
 
 -- 11: another kind; 12: the value does not suit
 abbrev pub storedValue : DataType → DataValue → List ℕ → List ℕ → ValueProbe × List ℕ
-storedValue t v area out = cond (matches t v) (cond (accepted t v area) (placed (storedForm t v (textOf area v)) out) (refuse 12 out)) (refuse 11 out)
+storedValue t v area out = cond (matches t v) (cond (accepted t v area) (placedForm (storedForm t v (textOf area v)) out) (refuse 12 out)) (refuse 11 out)
 
 -- 10: no list of one value
 abbrev pub storedOne : DataType → OneValue → List ℕ → List ℕ → ValueProbe × List ℕ

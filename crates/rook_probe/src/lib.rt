@@ -2,6 +2,7 @@
 use datatype::DataType;
 use datatype::Record;
 use datatype::SchemaCheck;
+use row_layout::RowLayout;
 use stored_form::SlotRead;
 use value::DataValue;
 use value_list::ListCheck;
@@ -13,14 +14,14 @@ ghost use lib.ListN.{length};
 ghost use Rattle.row_format.specs.Places.{offsetWidth, rowLimit};
 ghost use Rattle.datatype.specs.Types.{precisionOf};
 ghost use Rattle.datatype.specs.Schema.{schemaOf};
-ghost use Rattle.datatype.specs.Check.{checked};
+ghost use Rattle.datatype.specs.InnerCheck.{checkedSchema};
 ghost use Rattle.value.specs.Kinds.{matches};
 ghost use Rattle.value.specs.Ranges.{textOf};
 ghost use Rattle.value_list.specs.Lists.{checked as checkedList};
 ghost use Rattle.stored_form.specs.Write.{accepted, storedForm};
 ghost use Rattle.stored_form.specs.Read.{readSlot};
 ghost use Rattle.rook_probe.specs.Probes.{layoutProbe};
-ghost use Rattle.rook_probe.specs.Values.{onlyType, Precise, onlyValue, formLength, placed, storedValue, storedList, storedAs, fitsSlot, placedRead, readValue, readAs};
+ghost use Rattle.rook_probe.specs.Values.{onlyType, Precise, onlyValue, formLength, placedForm, storedValue, storedList, storedAs, fitsSlot, placedRead, readValue, readAs};
 
 #[repr(C)]
 pub struct LayoutProbe {
@@ -35,7 +36,7 @@ pub struct LayoutProbe {
 // The layout of a schema's rows: the fixed columns' bytes, packed and padded.
 #[no_mangle]
 pub extern "C" fn rook_probe_layout(schema: &[u8]) -> LayoutProbe
-    ensures { λ r. ⌜ r ≡ layoutProbe (checked (schemaOf offsetWidth rowLimit (now (schema .entry)))) ⌝ }
+    ensures { λ r. ⌜ r ≡ layoutProbe (checkedSchema (schemaOf offsetWidth rowLimit (now (schema .entry)))) ⌝ }
 {
     match datatype::check_schema(schema) {
         SchemaCheck::Good(layout) => LayoutProbe {
@@ -125,7 +126,7 @@ fn form_length(ty: DataType, value: DataValue) -> usize
 // The stored form of a value that the type holds.
 fn place_value(ty: DataType, value: DataValue, area: &[u8], out: &mut [u8]) -> ValueProbe
     requires { ⌜ (precisionOf ty ≤ 38) × ((matches ty value ≡ true) × (accepted ty value (now area) ≡ true)) ⌝ }
-    ensures { λ r. ⌜ (r, now (out .exit)) ≡ placed (storedForm ty value (textOf (now (area .entry)) value)) (now (out .entry)) ⌝ }
+    ensures { λ r. ⌜ (r, now (out .exit)) ≡ placedForm (storedForm ty value (textOf (now (area .entry)) value)) (now (out .entry)) ⌝ }
 {
     let length = form_length(ty, value);
     if out.len() < length {
@@ -174,13 +175,13 @@ pub extern "C" fn rook_probe_store(
     }
 }
 
-fn fits_slot(ty: DataType, length: usize) -> bool
-    ensures { λ r. ⌜ r ≡ fitsSlot ty length ⌝ }
+fn fits_slot(ty: DataType, size: usize) -> bool
+    ensures { λ r. ⌜ r ≡ fitsSlot ty size ⌝ }
 {
     if ty.is_variable_length() {
         return true;
     }
-    length == ty.fixed_size()
+    size == ty.fixed_size()
 }
 
 // What the bytes of a slot, or of a payload, read as.
@@ -204,10 +205,10 @@ fn read_value(ty: DataType, bytes: &[u8], start: usize, out: &mut [u8]) -> Value
     requires { ⌜ precisionOf ty ≤ 38 ⌝ }
     ensures { λ r. ⌜ (r, now (out .exit)) ≡ readValue ty (now (bytes .entry)) start (now (out .entry)) ⌝ }
 {
-    if 65535 < start {
+    if RowLayout::ROW_LIMIT < start {
         return refused(4);
     }
-    if 65535 < bytes.len() {
+    if RowLayout::ROW_LIMIT < bytes.len() {
         return refused(4);
     }
     if fits_slot(ty, bytes.len()) {

@@ -1,4 +1,5 @@
--- Answers as numbers, as they cross the C interface. With number 0 the place is 0; after a refusal what the call hands out is 0.
+-- Answers as numbers, as they cross the C interface. With number 0 the place is 0. What a call hands out after a
+-- refusal is 0, but for the length of an edit.
 use Prim.Native.Nat.{ℕ}
 use mathlib.Core.List.{List}
 use Rattle.error.specs.declared.Answer.{Answer}
@@ -16,7 +17,7 @@ use Rattle.row_text.specs.declared.ColumnText.the-variants as Text
 use Rattle.rook_row.specs.declared.FlagAnswer.{FlagAnswer}
 use Rattle.rook_row.specs.declared.TextAnswer.{TextAnswer}
 
--- a refusal hands out n: 0, or for an edit the row's length, so that a caller who stores it loses nothing
+-- a refusal hands out n: 0, or for an edit the row length that it got, so that a caller who stores it loses nothing
 abbrev pub rowAnswer : ℕ → Answer → RowAnswer
 rowAnswer n (Done m) = record { number = 0; place = 0; length = m }
 rowAnswer n (Refused e) = record { number = numberOf e; place = placeOf e; length = n }

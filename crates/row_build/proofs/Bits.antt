@@ -10,11 +10,13 @@ use Rattle.laws.proofs.Parts.{part-all, part-none}
 use Rattle.row_format.specs.Places.{bitmapStart}
 use Rattle.row_format.specs.Edit.{bitEdit}
 use Rattle.null_bitmap.specs.declared.BitAnswer.{BitAnswer}
-use Rattle.null_bitmap.specs.Bitmap.{flagPut}
+use Rattle.null_bitmap.specs.InnerBitmap.{flagPut}
 
-pub bit-cleared : (out : List ℕ) (n i : ℕ) (r : BitAnswer) (x : List ℕ) → i < n → bitmapStart + i / 8 < length out → (r, x) ≡ flagPut 0 n i (take (length out - 4) (drop 4 out))
-    → take 4 out ++ (x ++ drop (length out - 4) (drop 4 out)) ≡ bitEdit i (some []) out
-bit-cleared out n i r x h k e =
+pub bit-cleared : (out : List ℕ) (n i : ℕ) (r : BitAnswer) (x : List ℕ) {b : ℕ} → b ≡ bitmapStart → i < n
+    → bitmapStart + i / 8 < length out → (r, x) ≡ flagPut 0 n i (take (length out - b) (drop b out))
+    → take b out ++ (x ++ drop (length out - b) (drop b out)) ≡ bitEdit i (some []) out
+bit-cleared out n i r x b-is h k f =
+    let e = rw b-is at f in
     let long : i / 8 < length (drop 4 out) = rw length-drop (omega arith) in
     let p = rw (part-all out 4, lt-leb n i h, lt-leb (length (drop 4 out)) (i / 8) long) at e in
-    rw (part-none out 4, append-nil, ap (λ (z : BitAnswer × List ℕ). z .1) p)
+    rw (b-is, part-none out 4, append-nil, ap (λ (z : BitAnswer × List ℕ). z .1) p)

@@ -18,26 +18,27 @@ use Rattle.datatype.specs.declared.DataType.the-variants as T
 use Rattle.datatype.specs.declared.Record.{Record}
 use Rattle.datatype.specs.declared.Record.the-variants.{Column, Refused}
 use Rattle.datatype.specs.Types.{sizeOf, isVarlen}
-use Rattle.datatype.specs.Schema.{kindOf as columnKind, recordOf, recordAt}
-use Rattle.datatype.specs.Steps.{plainSize, typeIn}
+use Rattle.datatype.specs.Schema.{columnKind, columnRecordOf, columnRecordAt}
+use Rattle.datatype.specs.InnerSteps.{plainSize, typeIn}
 use Rattle.datatype.proofs.Plain.{is-plain, plain-record}
 use Rattle.value.specs.declared.TextRange.{TextRange}
 use Rattle.value.specs.declared.DataValue.{DataValue}
 use Rattle.value.specs.Kinds.{kindOf, valueKind, matches}
 use Rattle.value.specs.Ranges.{inArea, part, rangeOf, textOf}
+use Rattle.value.specs.InnerKinds.{heldKind}
 use Rattle.value_list.specs.declared.ValueRecord.the-variants as Value
 use Rattle.value_list.specs.Records.{bodyLength, numberAt, rangeAt, valueAt, recordAt as valueRecordAt}
 use Rattle.stored_form.specs.Write.{fitsText, accepted, storedForm}
 use Rattle.stored_form.proofs.Lengths.{fits-length, accepted-inside}
 use Rattle.row_build.specs.Stored.{isNull}
-use Rattle.row_build.specs.Steps.{Readable, valueIn, declaredAt, heldKind, textSuits, formIn, bodyStored, blankFilled, varlenStored, fixedStored, columnStored, SlotReady, PayloadReady, Storable}
+use Rattle.row_build.specs.InnerSteps.{Readable, valueIn, declaredAt, textSuits, formIn, bodyStored, blankFilled, varlenStored, fixedStored, columnStored, SlotReady, PayloadReady, Storable}
 use Rattle.row_build.proofs.Tests.{length-payload}
 use Rattle.row_build.proofs.Held.{read-at, value-body, Declared, told}
 
 -- ---- the bytes of a column's slot
 
 module _ (s : List ℕ) (at : ℕ) where
-  pub plain-slot : {z : ℕ} → z ≡ plainSize (columnKind (getD s at 0)) → (z ≡ 0 → ⊥) → z ≡ sizeOf (typeIn (recordAt s at))
+  pub plain-slot : {z : ℕ} → z ≡ plainSize (columnKind (getD s at 0)) → (z ≡ 0 → ⊥) → z ≡ sizeOf (typeIn (columnRecordAt s at))
   plain-slot e n =
       let h : plainSize (columnKind (getD s at 0)) ≡ 0 → ⊥ = λ g. n (e ∙ g) in
       e ∙ ap plainSize (is-plain (columnKind (getD s at 0)) h) ∙ ap (λ (r : Record). sizeOf (typeIn r)) (sym (plain-record s at h))
@@ -51,13 +52,13 @@ module _ (s : List ℕ) (at : ℕ) where
   none-cut true n = refl
   none-cut false n = refl
 
-  kind-slot : {k : ℕ} → getD s at 0 ≡ k → sizeOf (typeIn (recordOf (columnKind k) s at)) ≡ sizeOf (typeIn (recordAt s at))
-  kind-slot e = ap (λ (m : ℕ). sizeOf (typeIn (recordOf (columnKind m) s at))) (sym e)
+  kind-slot : {k : ℕ} → getD s at 0 ≡ k → sizeOf (typeIn (columnRecordOf (columnKind k) s at)) ≡ sizeOf (typeIn (columnRecordAt s at))
+  kind-slot e = ap (λ (m : ℕ). sizeOf (typeIn (columnRecordOf (columnKind m) s at))) (sym e)
 
-  pub varchar-slot : getD s at 0 ≡ 11 → 0 ≡ sizeOf (typeIn (recordAt s at))
+  pub varchar-slot : getD s at 0 ≡ 11 → 0 ≡ sizeOf (typeIn (columnRecordAt s at))
   varchar-slot e = none-cut (ltb (length s) (at + 3)) (numberAt 2 s (at + 1)) ∙ kind-slot e
 
-  pub char-slot : getD s at 0 ≡ 9 → declaredAt s at ≡ sizeOf (typeIn (recordAt s at))
+  pub char-slot : getD s at 0 ≡ 9 → declaredAt s at ≡ sizeOf (typeIn (columnRecordAt s at))
   char-slot e = of-cut (ltb (length s) (at + 3)) (numberAt 2 s (at + 1)) (T.Char (numberAt 2 s (at + 1))) refl ∙ kind-slot e
 
 -- ---- numbers by their bits, and texts that suit
@@ -213,7 +214,7 @@ module _ (list : List ℕ) (at : ℕ) where
 
 module _ {s : List ℕ} {at : ℕ} {list : List ℕ} {from : ℕ} (r : Readable s at list from) where
   abbrev t : DataType
-  t = typeIn (recordAt s at)
+  t = typeIn (columnRecordAt s at)
 
   abbrev v : DataValue
   v = valueIn (valueRecordAt list from)

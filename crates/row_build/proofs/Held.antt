@@ -18,21 +18,22 @@ use Rattle.datatype.specs.declared.DataType.the-variants as T
 use Rattle.datatype.specs.declared.Record.{Record}
 use Rattle.datatype.specs.declared.Record.the-variants.{Column, Refused}
 use Rattle.datatype.specs.Types.{isVarlen}
-use Rattle.datatype.specs.Schema.{Kind, unknown, plain, sized, digits, kindOf as columnKind, goodDigits, recordOf, recordAt}
-use Rattle.datatype.specs.Steps.{plainSize, typeIn}
-use Rattle.datatype.proofs.Records.{Bodied, no, word, pair, bodied}
-use Rattle.datatype.proofs.Plain.{plain-record, body-record}
+use Rattle.datatype.specs.Schema.{Kind, unknown, plain, sized, digits, columnKind, goodDigits, columnRecordOf, columnRecordAt}
+use Rattle.datatype.specs.InnerSteps.{plainSize, typeIn}
+use Rattle.datatype.proofs.KindTable.{Bodied, no, word, pair, bodied}
+use Rattle.datatype.proofs.Plain.{plain-record}
 use Rattle.value.specs.declared.TextRange.{TextRange}
 use Rattle.value.specs.declared.DataValue.{DataValue}
 use Rattle.value.specs.Kinds.{valueKind, matches}
 use Rattle.value.specs.Ranges.{noText, inArea, rangeOf}
+use Rattle.value.specs.InnerKinds.{heldKind}
 use Rattle.value_list.specs.declared.ValueRecord.{ValueRecord}
 use Rattle.value_list.specs.declared.ValueRecord.the-variants as Value
 use Rattle.value_list.specs.Records.{bodyLength, numberAt, valueAt, recordAt as valueRecordAt}
 use Rattle.value_list.proofs.Records.{Given, given}
 use Rattle.stored_form.specs.Write.{accepted}
 use Rattle.row_build.specs.Stored.{isNull, cellIn}
-use Rattle.row_build.specs.Steps.{Readable, ReadAt, valueIn, afterColumn, givenAt, declaredAt, heldKind, textSuits, suitsAt, payloadLength, payloadAnswer, payloadIn}
+use Rattle.row_build.specs.InnerSteps.{Readable, ReadAt, valueIn, afterColumn, givenAt, declaredAt, textSuits, suitsAt, payloadLength, payloadAnswer, payloadIn}
 use Rattle.row_build.proofs.Tests.{size-null, size-fixed, size-varchar, payload-short}
 
 -- ---- the records at two places
@@ -42,7 +43,7 @@ module _ (s : List ℕ) (at : ℕ) where
   Long (Column t next) = next ≡ at + 3
   Long (Refused e) = Unit {0}
 
-  long-of : {q : Kind} → Bodied q → Long (recordOf q s at)
+  long-of : {q : Kind} → Bodied q → Long (columnRecordOf q s at)
   long-of no = tt
   long-of word = by-cond Long (ltb (length s) (at + 3)) (Refused (BadRecord at)) _ (λ f. tt) (λ f. refl)
   long-of (pair {t}) =
@@ -53,15 +54,15 @@ module _ (s : List ℕ) (at : ℕ) where
   placeIn (Column t next) = next
   placeIn (Refused e) = 0
 
-  after-is : {t : DataType} {next : ℕ} → recordAt s at ≡ Column t next → afterColumn s at ≡ next
+  after-is : {t : DataType} {next : ℕ} → columnRecordAt s at ≡ Column t next → afterColumn s at ≡ next
   after-is {t} {next} e = by-size (eqb (plainSize (columnKind (getD s at 0))) 0) refl
     where
       by-size : (b : Bool) → eqb (plainSize (columnKind (getD s at 0))) 0 ≡ b → cond b (at + 3) (at + 1) ≡ next
-      by-size true f = sym (rw (body-record s at (eqb-true _ 0 f) ∙ e) at (long-of (bodied (getD s at 0))))
+      by-size true f = sym (rw e at (long-of (bodied (getD s at 0) (eqb-true _ 0 f))))
       by-size false f = ap placeIn (sym (plain-record s at (eqb-false _ 0 f)) ∙ e)
 
 module _ {s : List ℕ} {at : ℕ} {list : List ℕ} {from : ℕ} (r : Readable s at list from) where
-  type-read : (q : Record) → recordAt s at ≡ q → recordAt s at ≡ Column (typeIn (recordAt s at)) (afterColumn s at)
+  type-read : (q : Record) → columnRecordAt s at ≡ q → columnRecordAt s at ≡ Column (typeIn (columnRecordAt s at)) (afterColumn s at)
   type-read (Column t next) e = rw (after-is s at e, e)
   type-read (Refused u) e = absurd (r .type-there e)
 
@@ -70,7 +71,7 @@ module _ {s : List ℕ} {at : ℕ} {list : List ℕ} {from : ℕ} (r : Readable 
   value-read (Value.Refused u) e = absurd (r .value-there e)
 
   pub read-at : ReadAt s at list from (givenAt s at list from)
-  read-at = record { type-is = type-read (recordAt s at) refl; value-is = value-read (valueRecordAt list from) refl }
+  read-at = record { type-is = type-read (columnRecordAt s at) refl; value-is = value-read (valueRecordAt list from) refl }
 
   body-given : Given list from (valueIn (valueRecordAt list from)) (from + 1 + bodyLength (getD list from 0))
   body-given = given list from (read-at .value-is)
@@ -118,22 +119,22 @@ telling k =
     (either (eqb k 3) _ _ (λ n. tt)
     (either (eqb k 4) _ _ (λ n. tt)
     (either (eqb k 5) _ _ (λ n. tt)
-    (either (eqb k 8) _ _ (λ n. tt)
-    (either (eqb k 12) _ _ (λ n. tt)
-    (either (eqb k 13) _ _ (λ n. tt)
-    (either (eqb k 15) _ _ (λ n. tt)
     (either (eqb k 6) _ _ (λ p s n. (refl, tt))
     (either (eqb k 7) _ _ (λ p s n. (refl, tt))
+    (either (eqb k 8) _ _ (λ n. tt)
     (either (eqb k 9) _ _ (λ n. (refl, refl))
     (either (eqb k 10) _ _ (λ n. (refl, refl))
     (either (eqb k 11) _ _ (λ n. (refl, refl))
-    (either (eqb k 14) _ _ (λ n. (refl, refl)) tt))))))))))))))
+    (either (eqb k 12) _ _ (λ n. tt)
+    (either (eqb k 13) _ _ (λ n. tt)
+    (either (eqb k 14) _ _ (λ n. (refl, refl))
+    (either (eqb k 15) _ _ (λ n. tt) tt))))))))))))))
 
 abbrev Told : ℕ → ℕ → Record → Type 0
 Told h n (Column t next) = (h ≡ valueKind t) × Declared t n
 Told h n (Refused e) = Unit {0}
 
-told-of : (q : Kind) → Telling q → (s : List ℕ) (at : ℕ) → Told (heldKind q) (declaredAt s at) (recordOf q s at)
+told-of : (q : Kind) → Telling q → (s : List ℕ) (at : ℕ) → Told (heldKind q) (declaredAt s at) (columnRecordOf q s at)
 told-of unknown f s at = tt
 told-of (plain t) f s at = (refl, f (declaredAt s at))
 told-of (sized t) f s at = by-room (ltb (length s) (at + 3))
@@ -147,7 +148,7 @@ told-of (digits t) f s at =
     by-cond (Told (valueKind (t 0 0)) (declaredAt s at)) (ltb (length s) (at + 3)) (Refused (BadRecord at)) _ (λ g. tt)
     (λ g. by-cond (Told (valueKind (t 0 0)) (declaredAt s at)) (goodDigits p z) (Column (t p z) (at + 3)) (Refused (BadSchema at)) (λ u. f p z (declaredAt s at)) (λ u. tt))
 
-pub told : (s : List ℕ) (at : ℕ) {t : DataType} {next : ℕ} → recordAt s at ≡ Column t next → (heldKind (columnKind (getD s at 0)) ≡ valueKind t) × Declared t (declaredAt s at)
+pub told : (s : List ℕ) (at : ℕ) {t : DataType} {next : ℕ} → columnRecordAt s at ≡ Column t next → (heldKind (columnKind (getD s at 0)) ≡ valueKind t) × Declared t (declaredAt s at)
 told s at e = rw e at (told-of (columnKind (getD s at 0)) (telling (getD s at 0)) s at)
 
 -- ---- the text of a range
@@ -240,7 +241,7 @@ module _ (list : List ℕ) (at : ℕ) where
 
 module _ {s : List ℕ} {at : ℕ} {list : List ℕ} {from : ℕ} (r : Readable s at list from) (i : ℕ) (area : List ℕ) where
   abbrev t : DataType
-  t = typeIn (recordAt s at)
+  t = typeIn (columnRecordAt s at)
 
   pub null-payload : getD list from 0 ≡ 0 → Answer.Done 0 ≡ payloadIn i s at list from area
   null-payload e = size-null i t (valueIn (valueRecordAt list from)) area (rw (value-body r, e) refl)
@@ -263,5 +264,5 @@ module _ {s : List ℕ} {at : ℕ} {list : List ℕ} {from : ℕ} (r : Readable 
       found-short l = rw (k-is, kind-held) (held-short list (from + 1) area i t accepted-is l)
 
   -- read as a type and a value
-  pub read-payload : {u : DataType} {v : DataValue} {m n : ℕ} → recordAt s at ≡ Column u m → valueRecordAt list from ≡ Value.Value v n → payloadAnswer u (cellIn i u v area) ≡ payloadIn i s at list from area
+  pub read-payload : {u : DataType} {v : DataValue} {m n : ℕ} → columnRecordAt s at ≡ Column u m → valueRecordAt list from ≡ Value.Value v n → payloadAnswer u (cellIn i u v area) ≡ payloadIn i s at list from area
   read-payload e f = rw (e, f)

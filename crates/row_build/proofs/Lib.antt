@@ -12,5 +12,3 @@ pub mod Listing
 pub mod Schemas
 pub mod SameNulls
 pub mod Built
-pub mod ReadBuilt
-pub mod ReadBack

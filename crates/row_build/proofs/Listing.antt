@@ -5,17 +5,19 @@ use mathlib.Core.List.{List}
 use lib.ListN.{length}
 use Rattle.error.specs.declared.Refusal.{Refusal}
 use Rattle.error.specs.declared.Refusal.the-variants.{NoRoom}
+use Rattle.error.specs.Result.{ok, refused, onResult}
 use Rattle.row_format.specs.Places.{rowLimit}
 use Rattle.row_layout.specs.declared.RowLayout.{RowLayout}
-use Rattle.datatype.specs.Check.{typesIn, Accepted}
+use Rattle.datatype.specs.Check.{typesIn}
 use Rattle.value.specs.declared.DataValue.{DataValue}
 use Rattle.value_list.specs.declared.ListCheck.{ListCheck}
 use Rattle.value_list.specs.declared.ListCheck.the-variants as Check
-use Rattle.value_list.specs.Lists.{Values, values, refused, checked, answer}
+use Rattle.value_list.specs.Lists.{Values, checked}
 use Rattle.value_list.proofs.Lists.{Taken, checked-taken}
-use Rattle.row_column.proofs.Reach.{columns-all}
-use Rattle.row_build.specs.Build.{onValues}
-use Rattle.row_build.specs.Steps.{valuesGiven, valuesIn, Buildable}
+use Rattle.value_list.specs.InnerLists.{answer}
+use Rattle.datatype.proofs.Again.{columns-all}
+use Rattle.datatype.specs.InnerCheck.{Accepted}
+use Rattle.row_build.specs.InnerSteps.{valuesGiven, valuesIn, Buildable}
 
 abbrev reasonIn : ListCheck → Refusal
 reasonIn Check.Good = NoRoom
@@ -25,12 +27,12 @@ abbrev IsGood : ListCheck → Type 0
 IsGood Check.Good = Unit {0}
 IsGood (Check.Refused e) = ⊥
 
-good-values : (q : Values) → answer q ≡ Check.Good → q ≡ values (valuesGiven q)
-good-values (values vs) e = refl
+good-values : (q : Values) → answer q ≡ Check.Good → q ≡ ok (valuesGiven q)
+good-values (ok vs) e = refl
 good-values (refused u) e = absurd (subst IsGood (sym e) tt)
 
-refused-values : {A : Type 0} (q : Values) {e : Refusal} (bad : Refusal → A) (k : List DataValue → A) → answer q ≡ Check.Refused e → bad e ≡ onValues q bad k
-refused-values (values vs) bad k f = absurd (subst IsGood f tt)
+refused-values : {A : Type 0} (q : Values) {e : Refusal} (bad : Refusal → A) (k : List DataValue → A) → answer q ≡ Check.Refused e → bad e ≡ onResult q bad k
+refused-values (ok vs) bad k f = absurd (subst IsGood f tt)
 refused-values (refused u) bad k f = ap bad (sym (ap reasonIn f))
 
 module _ {s : List ℕ} {l : RowLayout} (a : Accepted s l) (list area : List ℕ) {c : ListCheck} (e : c ≡ answer (checked rowLimit (l .«num_columns») (length area) list)) where
@@ -40,7 +42,7 @@ module _ {s : List ℕ} {l : RowLayout} (a : Accepted s l) (list area : List ℕ
   said-is : c ≡ answer said
   said-is = e ∙ ap (λ (n : ℕ). answer (checked rowLimit n (length area) list)) (columns-all a)
 
-  pub on-list-refused : {A : Type 0} {u : Refusal} (bad : Refusal → A) (k : List DataValue → A) → c ≡ Check.Refused u → bad u ≡ onValues said bad k
+  pub on-list-refused : {A : Type 0} {u : Refusal} (bad : Refusal → A) (k : List DataValue → A) → c ≡ Check.Refused u → bad u ≡ onResult said bad k
   on-list-refused bad k f = refused-values said bad k (sym said-is ∙ f)
 
   module _ (f : c ≡ Check.Good) where
@@ -52,7 +54,7 @@ module _ {s : List ℕ} {l : RowLayout} (a : Accepted s l) (list area : List ℕ
     same-values = ap valuesGiven (taken .all)
 
     pub listed : Buildable s l list area
-    listed = record { accepted = a; taken = taken .all ∙ ap values (sym same-values); count = ap length same-values ∙ taken .count; short = taken .short }
+    listed = record { accepted = a; taken = taken .all ∙ ap ok (sym same-values); count = ap length same-values ∙ taken .count; short = taken .short }
 
-    pub on-list-good : {A : Type 0} (bad : Refusal → A) (k : List DataValue → A) → k (valuesIn list) ≡ onValues said bad k
-    on-list-good bad k = ap k same-values ∙ sym (ap (λ (q : Values). onValues q bad k) (good-values said (sym said-is ∙ f)))
+    pub on-list-good : {A : Type 0} (bad : Refusal → A) (k : List DataValue → A) → k (valuesIn list) ≡ onResult said bad k
+    on-list-good bad k = ap k same-values ∙ sym (ap (λ (q : Values). onResult q bad k) (good-values said (sym said-is ∙ f)))

@@ -9,19 +9,20 @@ use lib.ListN.{length, drop, length-append, drop-of-length-le}
 use Rattle.error.specs.declared.Refusal.{Refusal}
 use Rattle.error.specs.declared.Answer.{Answer}
 use Rattle.error.specs.declared.Answer.the-variants as Answer
+use Rattle.error.specs.Result.{Result, ok, refused, before}
 use Rattle.row_format.specs.declared.Shape.{Shape}
 use Rattle.row_format.specs.declared.Shape.the-variants.{Fixed, Varlen}
 use Rattle.row_format.specs.Table.{Cell, bytes, payloads}
 use Rattle.row_format.specs.Row.{varlenCells}
 use Rattle.row_layout.specs.declared.RowLayout.{RowLayout}
-use Rattle.row_layout.specs.Layout.{minimumOf}
+use Rattle.row_layout.specs.InnerLayout.{minimumOf}
 use Rattle.datatype.specs.declared.DataType.{DataType}
 use Rattle.datatype.specs.Types.{sizeOf, alignmentOf, isVarlen, shapeOf}
 use Rattle.datatype.specs.Check.{typesIn}
-use Rattle.row_column.proofs.Reach.{columns-all}
+use Rattle.datatype.proofs.Again.{columns-all}
 use Rattle.row_build.specs.declared.Given.{Given}
-use Rattle.row_build.specs.Stored.{Tested, good, refused, cellIn, before, onCell, cellsFrom}
-use Rattle.row_build.specs.Steps.{valuesIn, Buildable, ReadAt, payloadOf, payloadAnswer, Short, measured}
+use Rattle.row_build.specs.Stored.{cellIn, onCell, cellsFrom}
+use Rattle.row_build.specs.InnerSteps.{valuesIn, Buildable, ReadAt, payloadAdded, payloadAnswer, Short, measured}
 use Rattle.row_build.proofs.Walk.{Together, together-start, types-split, values-split, together-next}
 
 -- ---- a column more
@@ -31,8 +32,8 @@ payload-first : (t : DataType) (b : Bool) (ss : List Shape) (c : Cell) (cs : Lis
 payload-first t true ss c cs = length-append (bytes c) (payloads (varlenCells ss cs))
 payload-first t false ss c cs = omega arith
 
-measured-more : (m : ℕ) (t : DataType) (ts : List DataType) (c : Cell) (q : Tested (List Cell)) → measured m (t ∷ ts) (before c q) ≡ measured (m + payloadOf t c) ts q
-measured-more m t ts c (good cs) = ap Answer.Done (ap (λ (n : ℕ). m + n) (payload-first t (isVarlen t) (map shapeOf ts) c cs) ∙ sym (add-assoc m (payloadOf t c) (length (payloads (varlenCells (map shapeOf ts) cs)))))
+measured-more : (m : ℕ) (t : DataType) (ts : List DataType) (c : Cell) (q : Result (List Cell)) → measured m (t ∷ ts) (before c q) ≡ measured (m + payloadAdded t c) ts q
+measured-more m t ts c (ok cs) = ap Answer.Done (ap (λ (n : ℕ). m + n) (payload-first t (isVarlen t) (map shapeOf ts) c cs) ∙ sym (add-assoc m (payloadAdded t c) (length (payloads (varlenCells (map shapeOf ts) cs)))))
 measured-more m t ts c (refused e) = refl
 
 -- what an answer says
@@ -44,13 +45,13 @@ abbrev pub IsDone : Answer → Type 0
 IsDone (Answer.Done n) = Unit {0}
 IsDone (Answer.Refused e) = ⊥
 
-module _ (m : ℕ) (t : DataType) (ts : List DataType) (rest : Tested (List Cell)) where
-  counted-more : {n : ℕ} (q : Tested Cell) → payloadAnswer t q ≡ Answer.Done n → measured m (t ∷ ts) (onCell q rest) ≡ measured (m + n) ts rest
-  counted-more (good c) e = measured-more m t ts c rest ∙ ap (λ (k : ℕ). measured (m + k) ts rest) (ap counted e)
+module _ (m : ℕ) (t : DataType) (ts : List DataType) (rest : Result (List Cell)) where
+  counted-more : {n : ℕ} (q : Result Cell) → payloadAnswer t q ≡ Answer.Done n → measured m (t ∷ ts) (onCell q rest) ≡ measured (m + n) ts rest
+  counted-more (ok c) e = measured-more m t ts c rest ∙ ap (λ (k : ℕ). measured (m + k) ts rest) (ap counted e)
   counted-more (refused u) e = absurd (subst IsDone (sym e) tt)
 
-  counted-bad : {u : Refusal} (q : Tested Cell) → payloadAnswer t q ≡ Answer.Refused u → measured m (t ∷ ts) (onCell q rest) ≡ Answer.Refused u
-  counted-bad (good c) e = absurd (subst IsDone e tt)
+  counted-bad : {u : Refusal} (q : Result Cell) → payloadAnswer t q ≡ Answer.Refused u → measured m (t ∷ ts) (onCell q rest) ≡ Answer.Refused u
+  counted-bad (ok c) e = absurd (subst IsDone e tt)
   counted-bad (refused u) e = e
 
 -- ---- the walk
@@ -75,7 +76,7 @@ module _ {s : List ℕ} {l : RowLayout} {list area : List ℕ} (b : Buildable s 
         rw (none, add-zero) at (k .rest)
 
     module _ (h : i < length (typesIn s)) {g : Given} (r : ReadAt s at list from g) (res : Answer) (e : res ≡ payloadAnswer (g .ty) (cellIn i (g .ty) (g .value) area)) where
-      abbrev others : Tested (List Cell)
+      abbrev others : Result (List Cell)
       others = cellsFrom (i + 1) (drop (i + 1) (typesIn s)) (drop (i + 1) (valuesIn list)) area
 
       next : measured size (g .ty ∷ drop (i + 1) (typesIn s)) (onCell (cellIn i (g .ty) (g .value) area) others) ≡ measured (minimumOf l true) (typesIn s) (cellsFrom 0 (typesIn s) (valuesIn list) area)

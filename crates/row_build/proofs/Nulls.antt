@@ -16,12 +16,13 @@ use Rattle.row_format.specs.Row.{packedFlag, header}
 use Rattle.row_format.proofs.Bitmap.{length-bitmap}
 use Rattle.row_format.proofs.Fresh.{lastBits, bitmap-nulls, fresh-row}
 use Rattle.row_layout.specs.declared.RowLayout.{RowLayout}
-use Rattle.row_layout.specs.Layout.{minimumOf}
+use Rattle.row_layout.specs.InnerLayout.{minimumOf}
 use Rattle.datatype.specs.declared.DataType.{DataType}
 use Rattle.datatype.specs.Types.{shapeOf}
-use Rattle.datatype.specs.Check.{layoutFor, typesIn, Accepted}
+use Rattle.datatype.specs.Check.{layoutFor, typesIn}
+use Rattle.datatype.specs.InnerCheck.{Accepted}
 use Rattle.row_build.specs.Build.{freshRow}
-use Rattle.row_build.specs.Steps.{nullBits, nullRow}
+use Rattle.row_build.specs.InnerSteps.{nullBits, nullRow}
 
 last-some : (r : ℕ) → (r ≡ 0 → ⊥) → lastBits r ≡ (2 ^ r - 1) ∷ []
 last-some zero h = absurd (h refl)

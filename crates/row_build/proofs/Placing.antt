@@ -13,6 +13,7 @@ use Rattle.error.specs.declared.Refusal.the-variants.{RowLimit, NoRoom}
 use Rattle.error.specs.declared.Answer.{Answer}
 use Rattle.error.specs.declared.Answer.the-variants as Answer
 use Rattle.error.specs.Answer.{Outcome, unchanged}
+use Rattle.error.specs.Result.{Result, ok, refused, onResult}
 use Rattle.laws.proofs.Bytes.{sets-over}
 use Rattle.laws.proofs.Stores.{sets-append}
 use Rattle.row_format.specs.Places.{offsetWidth, rowLimit}
@@ -20,13 +21,13 @@ use Rattle.row_format.specs.Table.{Cell}
 use Rattle.row_format.specs.Row.{packedFlag, header, builtRow}
 use Rattle.row_format.proofs.Row.{length-header, length-row, slots-fit}
 use Rattle.row_layout.specs.declared.RowLayout.{RowLayout}
-use Rattle.row_layout.specs.Layout.{minimumOf}
+use Rattle.row_layout.specs.InnerLayout.{minimumOf}
 use Rattle.datatype.specs.declared.DataType.{DataType}
 use Rattle.datatype.specs.Types.{shapeOf}
 use Rattle.datatype.specs.Check.{typesIn}
-use Rattle.row_build.specs.Stored.{Tested, good, refused, onTested, cellsFrom}
+use Rattle.row_build.specs.Stored.{cellsFrom}
 use Rattle.row_build.specs.Build.{rowPlaced, buildValues}
-use Rattle.row_build.specs.Steps.{nullRow, valuesIn, Buildable, measured, cellsGiven, cellsIn, rowOf, Fillable}
+use Rattle.row_build.specs.InnerSteps.{nullRow, valuesIn, Buildable, measured, cellsGiven, cellsIn, rowGiven, Fillable}
 use Rattle.row_build.proofs.Nulls.{length-null-row, accepted-nulls}
 use Rattle.row_build.proofs.Cells.{cells-fit}
 use Rattle.row_build.proofs.Measuring.{counted, IsDone}
@@ -46,20 +47,20 @@ sets-again l xs h = sym (sets-over l 0 xs (rw zero-add h) xs refl)
 
 -- ---- cells that were measured
 
-all-good : (m : ℕ) (ts : List DataType) (q : Tested (List Cell)) {n : ℕ} → Answer.Done n ≡ measured m ts q → q ≡ good (cellsGiven q)
-all-good m ts (good cs) e = refl
+all-good : (m : ℕ) (ts : List DataType) (q : Result (List Cell)) {n : ℕ} → Answer.Done n ≡ measured m ts q → q ≡ ok (cellsGiven q)
+all-good m ts (ok cs) e = refl
 all-good m ts (refused u) e = absurd (subst IsDone e tt)
 
 -- the first refusal is the call's
-pub build-refused : (ts : List DataType) (q : Tested (List Cell)) (out : List ℕ) (m : ℕ) {e : Refusal} (k : List Cell → Outcome) → Answer.Refused e ≡ measured m ts q → unchanged out e ≡ onTested q (unchanged out) k
-build-refused ts (good cs) out m k f = absurd (subst IsDone (sym f) tt)
+pub build-refused : (ts : List DataType) (q : Result (List Cell)) (out : List ℕ) (m : ℕ) {e : Refusal} (k : List Cell → Outcome) → Answer.Refused e ≡ measured m ts q → unchanged out e ≡ onResult q (unchanged out) k
+build-refused ts (ok cs) out m k f = absurd (subst IsDone (sym f) tt)
 build-refused ts (refused u) out m k f = ap (λ (a : Answer). (a, out)) f
 
 module _ {s : List ℕ} {l : RowLayout} {list area : List ℕ} (b : Buildable s l list area) {n : ℕ} (d : Answer.Done n ≡ measured (minimumOf l true) (typesIn s) (cellsFrom 0 (typesIn s) (valuesIn list) area)) where
-  cells-good : cellsFrom 0 (typesIn s) (valuesIn list) area ≡ good (cellsIn s list area)
+  cells-good : cellsFrom 0 (typesIn s) (valuesIn list) area ≡ ok (cellsIn s list area)
   cells-good = all-good (minimumOf l true) (typesIn s) (cellsFrom 0 (typesIn s) (valuesIn list) area) d
 
-  length-is : length (rowOf s list area) ≡ n
+  length-is : length (rowGiven s list area) ≡ n
   length-is =
       let f = cells-fit area 0 (typesIn s) (valuesIn list) cells-good (b .count) in
       let e = length-row offsetWidth (header packedFlag (map shapeOf (typesIn s))) (length-header packedFlag (map shapeOf (typesIn s))) f (slots-fit f) in
@@ -71,8 +72,8 @@ module _ {s : List ℕ} {l : RowLayout} {list area : List ℕ} (b : Buildable s 
   least = let z = ap counted (rw cells-good at d) in omega (arith, z)
 
   module _ (out : List ℕ) where
-    whole : rowPlaced rowLimit out (rowOf s list area) ≡ buildValues offsetWidth rowLimit (typesIn s) (valuesIn list) area out
-    whole = sym (ap (λ (q : Tested (List Cell)). onTested q (unchanged out) (λ cs. rowPlaced rowLimit out (builtRow offsetWidth (map shapeOf (typesIn s)) cs))) cells-good)
+    whole : rowPlaced rowLimit out (rowGiven s list area) ≡ buildValues offsetWidth rowLimit (typesIn s) (valuesIn list) area out
+    whole = sym (ap (λ (q : Result (List Cell)). onResult q (unchanged out) (λ cs. rowPlaced rowLimit out (builtRow offsetWidth (map shapeOf (typesIn s)) cs))) cells-good)
 
     pub too-long : rowLimit < n → unchanged out RowLimit ≡ buildValues offsetWidth rowLimit (typesIn s) (valuesIn list) area out
     too-long h = rw (length-is, lt-ltb rowLimit n h) at whole
@@ -95,7 +96,7 @@ module _ {s : List ℕ} {l : RowLayout} {list area : List ℕ} (b : Buildable s 
               short = rw length-is h;
             }
 
-        pub row-placed : {last : List ℕ} → last ≡ sets first 0 (rowOf s list area) → (Answer.Done n, last) ≡ buildValues offsetWidth rowLimit (typesIn s) (valuesIn list) area out
+        pub row-placed : {last : List ℕ} → last ≡ sets first 0 (rowGiven s list area) → (Answer.Done n, last) ≡ buildValues offsetWidth rowLimit (typesIn s) (valuesIn list) area out
         row-placed f =
-            let same = f ∙ ap (λ (z : List ℕ). sets z 0 (rowOf s list area)) e ∙ sets-longer out (nullRow l) (rowOf s list area) least-row (rw (length-null-row, length-is) least) in
+            let same = f ∙ ap (λ (z : List ℕ). sets z 0 (rowGiven s list area)) e ∙ sets-longer out (nullRow l) (rowGiven s list area) least-row (rw (length-null-row, length-is) least) in
             ap (λ (z : List ℕ). (Answer.Done n, z)) same ∙ rw (length-is, le-ltb rowLimit n h, le-ltb (length out) n k) at whole

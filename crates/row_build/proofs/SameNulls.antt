@@ -8,19 +8,21 @@ use native.Mathlib.Omega.{arith}
 use borrow.Author.Tests.{le-ltb}
 use lib.ListN.{length, replicate, length-map, length-replicate}
 use Rattle.error.specs.Answer.{unchanged, placed}
+use Rattle.error.specs.Result.{Result, ok, onResult, before}
 use Rattle.row_format.specs.Places.{minimum}
 use Rattle.row_format.specs.Table.{Cell}
 use Rattle.row_format.specs.Row.{builtRow}
 use Rattle.row_format.proofs.Fresh.{length-fresh}
 use Rattle.datatype.specs.declared.DataType.{DataType}
 use Rattle.datatype.specs.Types.{shapeOf}
-use Rattle.datatype.specs.Schema.{Parsed, types, schemaOf}
-use Rattle.datatype.specs.Check.{onSchema}
+use Rattle.datatype.specs.Schema.{Parsed}
 use Rattle.value.specs.declared.DataValue.the-variants.{Null}
-use Rattle.value_list.specs.Lists.{Values, values, checked, listOf, AllSized}
+use Rattle.value_list.specs.Lists.{Values, checked, listOf}
 use Rattle.value_list.proofs.Lists.{list-checked}
-use Rattle.row_build.specs.Stored.{Tested, good, onTested, before, cellsFrom}
-use Rattle.row_build.specs.Build.{onValues, rowPlaced, buildValues, buildRow, buildCall, freshRow, freshCall}
+use Rattle.value_list.specs.InnerLists.{AllSized}
+use Rattle.row_build.specs.Stored.{cellsFrom}
+use Rattle.row_build.specs.Build.{rowPlaced, buildValues, buildRow, freshRow}
+use Rattle.row_build.specs.Built.{FreshIsBuilt}
 use Rattle.row_build.proofs.Schemas.{schema-minimum}
 
 -- ---- a list of nulls
@@ -33,10 +35,10 @@ nulls-sized : (n : ℕ) → AllSized (replicate n Null)
 nulls-sized zero = tt
 nulls-sized (suc n) = (tt, nulls-sized n)
 
-nulls-checked : (limit n : ℕ) → checked limit n 0 (replicate n 0) ≡ values (replicate n Null)
+nulls-checked : (limit n : ℕ) → checked limit n 0 (replicate n 0) ≡ ok (replicate n Null)
 nulls-checked limit n = rw (← nulls-listed n) (list-checked limit n 0 (replicate n Null) (nulls-sized n) (length-replicate n Null) (omega arith))
 
-null-cells : (i : ℕ) (ts : List DataType) (area : List ℕ) → cellsFrom i ts (replicate (length ts) Null) area ≡ good (replicate (length ts) none)
+null-cells : (i : ℕ) (ts : List DataType) (area : List ℕ) → cellsFrom i ts (replicate (length ts) Null) area ≡ ok (replicate (length ts) none)
 null-cells i [] area = refl
 null-cells i (t ∷ ts) area = ap (before none) (null-cells (i + 1) ts area)
 
@@ -47,12 +49,12 @@ module _ (w limit : ℕ) (out : List ℕ) where
   rows-same ts h =
       let n : length (freshRow w ts) ≡ minimum w true (map shapeOf ts) = rw (← length-map ts shapeOf) (length-fresh w (map shapeOf ts)) in
       let short : length (freshRow w ts) ≤ limit = rw n h in
-      sym (ap (λ (q : Values). onValues q (unchanged out) (λ vs. buildValues w limit ts vs [] out)) (nulls-checked limit (length ts))
-      ∙ ap (λ (q : Tested (List Cell)). onTested q (unchanged out) (λ cs. rowPlaced limit out (builtRow w (map shapeOf ts) cs))) (null-cells 0 ts [])
+      sym (ap (λ (q : Values). onResult q (unchanged out) (λ vs. buildValues w limit ts vs [] out)) (nulls-checked limit (length ts))
+      ∙ ap (λ (q : Result (List Cell)). onResult q (unchanged out) (λ cs. rowPlaced limit out (builtRow w (map shapeOf ts) cs))) (null-cells 0 ts [])
       ∙ rw (le-ltb limit (length (freshRow w ts)) short))
 
-  pub fresh-is-built : (schema : List ℕ) {ts : List DataType} → schemaOf w limit schema ≡ types ts → freshCall w limit schema out ≡ buildCall w limit schema (replicate (length ts) 0) [] out
-  fresh-is-built schema {ts} e =
-      ap (λ (p : Parsed). onSchema p (unchanged out) (λ us. placed out (freshRow w us))) e
-      ∙ rows-same ts (schema-minimum w limit schema e)
-      ∙ sym (ap (λ (p : Parsed). onSchema p (unchanged out) (λ us. buildRow w limit us (replicate (length ts) 0) [] out)) e)
+pub fresh-is-built : (w limit : ℕ) (schema out : List ℕ) → FreshIsBuilt w limit schema out
+fresh-is-built w limit schema out columns e =
+    ap (λ (p : Parsed). onResult p (unchanged out) (λ us. placed out (freshRow w us))) e
+    ∙ rows-same w limit out columns (schema-minimum w limit schema e)
+    ∙ sym (ap (λ (p : Parsed). onResult p (unchanged out) (λ us. buildRow w limit us (replicate (length columns) 0) [] out)) e)

@@ -8,6 +8,7 @@ use borrow.Author.Tests.{ltb-false}
 use lib.Dec.{ltb}
 use lib.ListN.{length}
 use Rattle.error.specs.declared.Refusal.the-variants.{BadSchema}
+use Rattle.error.specs.Result.{ok, refused}
 use Rattle.laws.proofs.Truths.{cases}
 use Rattle.row_format.specs.Places.{minimum}
 use Rattle.row_format.proofs.Sizes.{packed-least}
@@ -15,52 +16,55 @@ use Rattle.datatype.specs.declared.DataType.{DataType}
 use Rattle.datatype.specs.declared.Record.{Record}
 use Rattle.datatype.specs.declared.Record.the-variants.{Column, Refused}
 use Rattle.datatype.specs.Types.{shapeOf}
-use Rattle.datatype.specs.Schema.{Parsed, types, refused, records, limited, schemaOf, recordAt}
+use Rattle.datatype.specs.Schema.{Parsed, columnRecords, limited, schemaOf, columnRecordAt}
 use Rattle.datatype.proofs.Again.{all-aligned}
 use Rattle.datatype.proofs.Walk.{none-left, some-left, not-refused, first-left}
 
 -- ---- an accepted schema: its rows are within the limit, and its columns are at most 256
 
 abbrev IsTypes : Parsed → Type 0
-IsTypes (types ts) = Unit {0}
+IsTypes (ok ts) = Unit {0}
 IsTypes (refused e) = ⊥
 
 abbrev typesOf : Parsed → List DataType
-typesOf (types ts) = ts
+typesOf (ok ts) = ts
 typesOf (refused e) = []
 
 record Passed (w limit : ℕ) (q : Parsed) (ts : List DataType) : Type 0 where
-  all : q ≡ types ts
+  all : q ≡ ok ts
   padded : minimum w false (map shapeOf ts) ≤ limit
 
-passed : (w limit len : ℕ) (q : Parsed) {ts : List DataType} → limited w limit len q ≡ types ts → Passed w limit q ts
+passed : (w limit len : ℕ) (q : Parsed) {ts : List DataType} → limited w limit len q ≡ ok ts → Passed w limit q ts
 passed w limit len (refused e) f = absurd (subst IsTypes (sym f) tt)
-passed w limit len (types us) {ts} f = within (ltb limit (minimum w false (map shapeOf us))) refl f
+passed w limit len (ok us) {ts} f = within (ltb limit (minimum w false (map shapeOf us))) refl f
   where
-    within : (t : Bool) → ltb limit (minimum w false (map shapeOf us)) ≡ t → cond t (refused (BadSchema len)) (types us) ≡ types ts → Passed w limit (types us) ts
+    within : (t : Bool) → ltb limit (minimum w false (map shapeOf us)) ≡ t → cond t (refused (BadSchema len)) (ok us) ≡ ok ts → Passed w limit (ok us) ts
     within true k g = absurd (subst IsTypes (sym g) tt)
-    within false k g = subst (Passed w limit (types us)) (ap typesOf g) (record { all = refl; padded = ltb-false limit (minimum w false (map shapeOf us)) k })
+    within false k g = subst (Passed w limit (ok us)) (ap typesOf g) (record { all = refl; padded = ltb-false limit (minimum w false (map shapeOf us)) k })
 
 -- a record more than the columns behind it
-more-types : (m : ℕ) (s : List ℕ) (at : ℕ) (ts : List DataType) (q : Record) → recordAt s at ≡ q → at < length s → records (suc m) s at ≡ types ts
-    → ((next : ℕ) (us : List DataType) → records m s next ≡ types us → length us ≤ m) → length ts ≤ suc m
+more-types : (m : ℕ) (s : List ℕ) (at : ℕ) (ts : List DataType) (q : Record) → columnRecordAt s at ≡ q → at < length s → columnRecords (suc m) s at ≡ ok ts
+    → ((next : ℕ) (us : List DataType) → columnRecords m s next ≡ ok us → length us ≤ m) → length ts ≤ suc m
 more-types m s at ts (Refused u) f h g rest = absurd (not-refused s at (suc m) g h f)
 more-types m s at ts (Column t next) f h g rest =
     let p = first-left s at (suc m) g h m refl f in
     let k = rest next (p .tail) (p .ahead) in
     rw (p .split) (omega (arith, k))
 
-few-types : (n : ℕ) (s : List ℕ) (at : ℕ) (ts : List DataType) → records n s at ≡ types ts → length ts ≤ n
+few-types : (n : ℕ) (s : List ℕ) (at : ℕ) (ts : List DataType) → columnRecords n s at ≡ ok ts → length ts ≤ n
 few-types zero s at ts e = cases at (length s) (λ h. absurd (omega (arith, some-left s at 0 e h))) (λ h. rw (none-left s at 0 e h) (omega arith))
-few-types (suc m) s at ts e = cases at (length s) (λ h. more-types m s at ts (recordAt s at) refl h e (few-types m s)) (λ h. rw (none-left s at (suc m) e h) (omega arith))
+few-types (suc m) s at ts e = cases at (length s) (λ h. more-types m s at ts (columnRecordAt s at) refl h e (few-types m s)) (λ h. rw (none-left s at (suc m) e h) (omega arith))
 
-module _ (w limit : ℕ) (s : List ℕ) {ts : List DataType} (f : schemaOf w limit s ≡ types ts) where
-  of-schema : Passed w limit (records 256 s 0) ts
+module _ (w limit : ℕ) (s : List ℕ) {ts : List DataType} (f : schemaOf w limit s ≡ ok ts) where
+  of-schema : Passed w limit (columnRecords 256 s 0) ts
   unfolding schemaOf
-  of-schema = passed w limit (length s) (records 256 s 0) f
+  of-schema = passed w limit (length s) (columnRecords 256 s 0) f
+
+  pub schema-records : columnRecords 256 s 0 ≡ ok ts
+  schema-records = of-schema .all
 
   pub schema-minimum : minimum w true (map shapeOf ts) ≤ limit
   schema-minimum = omega (arith, of-schema .padded, packed-least w (all-aligned ts))
 
   pub schema-few : length ts ≤ 256
-  schema-few = few-types 256 s 0 ts (of-schema .all)
+  schema-few = few-types 256 s 0 ts schema-records

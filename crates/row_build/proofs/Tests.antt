@@ -10,6 +10,7 @@ use lib.Seq.{length-take-le}
 use Rattle.error.specs.declared.Refusal.{Refusal}
 use Rattle.error.specs.declared.Refusal.the-variants.{WrongKind, Unsuitable}
 use Rattle.error.specs.declared.Answer.the-variants as Answer
+use Rattle.error.specs.Result.{Result, ok, refused}
 use Rattle.row_format.specs.Places.{rowLimit}
 use Rattle.row_format.specs.Table.{Cell, bytes}
 use Rattle.datatype.specs.declared.DataType.{DataType}
@@ -19,8 +20,8 @@ use Rattle.value.specs.Kinds.{matches}
 use Rattle.value.specs.Ranges.{rangeOf, textOf}
 use Rattle.stored_form.specs.Write.{accepted, storedForm}
 use Rattle.stored_form.proofs.Lengths.{length-stored, accepted-inside, accepted-suits}
-use Rattle.row_build.specs.Stored.{Tested, good, refused, isNull, cellIn}
-use Rattle.row_build.specs.Steps.{payloadAnswer}
+use Rattle.row_build.specs.Stored.{isNull, cellIn}
+use Rattle.row_build.specs.InnerSteps.{payloadAnswer}
 
 -- ---- the stored form of a value that is accepted
 
@@ -46,7 +47,7 @@ module _ (t : DataType) (v : DataValue) (area : List ℕ) (m : matches t v ≡ t
 -- ---- the four outcomes
 
 module _ (i : ℕ) (t : DataType) (v : DataValue) (area : List ℕ) where
-  pub cell-null : isNull v ≡ true → cellIn i t v area ≡ good none
+  pub cell-null : isNull v ≡ true → cellIn i t v area ≡ ok none
   cell-null n = rw n
 
   module _ (n : isNull v ≡ false) where
@@ -56,7 +57,7 @@ module _ (i : ℕ) (t : DataType) (v : DataValue) (area : List ℕ) where
     pub cell-unsuited : matches t v ≡ true → accepted t v area ≡ false → cellIn i t v area ≡ refused (Unsuitable i)
     cell-unsuited m a = rw (n, m, a)
 
-    pub cell-stored : matches t v ≡ true → accepted t v area ≡ true → cellIn i t v area ≡ good (some (storedForm t v (textOf area v)))
+    pub cell-stored : matches t v ≡ true → accepted t v area ≡ true → cellIn i t v area ≡ ok (some (storedForm t v (textOf area v)))
     cell-stored m a = rw (n, m, a)
 
 -- ---- and back: what a cell says of the value
@@ -65,18 +66,18 @@ pub data CellIs (t : DataType) (v : DataValue) (area : List ℕ) : Cell → Type
   null : isNull v ≡ true → CellIs t v area none
   stored : isNull v ≡ false → matches t v ≡ true → accepted t v area ≡ true → CellIs t v area (some (storedForm t v (textOf area v)))
 
-abbrev cellOf : Tested Cell → Cell
-cellOf (good c) = c
+abbrev cellOf : Result Cell → Cell
+cellOf (ok c) = c
 cellOf (refused e) = none
 
-abbrev pub IsGood : {A : Type 0} → Tested A → Type 0
-IsGood (good x) = Unit {0}
+abbrev pub IsGood : {A : Type 0} → Result A → Type 0
+IsGood (ok x) = Unit {0}
 IsGood (refused e) = ⊥
 
-pub cell-is : (i : ℕ) (t : DataType) (v : DataValue) (area : List ℕ) {c : Cell} → cellIn i t v area ≡ good c → CellIs t v area c
+pub cell-is : (i : ℕ) (t : DataType) (v : DataValue) (area : List ℕ) {c : Cell} → cellIn i t v area ≡ ok c → CellIs t v area c
 cell-is i t v area {c} e = by-null (isNull v) refl
   where
-    same : {d : Cell} → cellIn i t v area ≡ good d → d ≡ c
+    same : {d : Cell} → cellIn i t v area ≡ ok d → d ≡ c
     same f = ap cellOf (sym f ∙ e)
 
     never : {q : Refusal} → cellIn i t v area ≡ refused q → ⊥
@@ -97,7 +98,7 @@ cell-is i t v area {c} e = by-null (isNull v) refl
 -- ---- the payload's size
 
 module _ (i : ℕ) (t : DataType) (v : DataValue) (area : List ℕ) where
-  pub size-of : {c : Cell} {n : ℕ} → cellIn i t v area ≡ good c → n ≡ cond (isVarlen t) (length (bytes c)) 0 → Answer.Done n ≡ payloadAnswer t (cellIn i t v area)
+  pub size-of : {c : Cell} {n : ℕ} → cellIn i t v area ≡ ok c → n ≡ cond (isVarlen t) (length (bytes c)) 0 → Answer.Done n ≡ payloadAnswer t (cellIn i t v area)
   size-of e h = rw e (ap Answer.Done h)
 
   pub size-refused : {e : Refusal} → cellIn i t v area ≡ refused e → Answer.Refused e ≡ payloadAnswer t (cellIn i t v area)

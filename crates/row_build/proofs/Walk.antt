@@ -6,12 +6,13 @@ use native.Mathlib.Numerals.{add-one}
 use native.Mathlib.Omega.{arith}
 use lib.ListN.{length, getD, drop, length-drop}
 use lib.Seq.{drop-cons}
+use Rattle.error.specs.Result.{ok}
 use Rattle.laws.proofs.Truths.{cases}
 use Rattle.row_layout.specs.declared.RowLayout.{RowLayout}
 use Rattle.datatype.specs.declared.DataType.{DataType}
 use Rattle.datatype.specs.declared.DataType.the-variants as T
 use Rattle.datatype.specs.Types.{precisionOf}
-use Rattle.datatype.specs.Schema.{types, records}
+use Rattle.datatype.specs.Schema.{columnRecords}
 use Rattle.datatype.specs.Check.{typeAt, typesIn}
 use Rattle.datatype.proofs.Records.{few-digits}
 use Rattle.datatype.proofs.Walk.{First, none-left, some-left, not-refused, first-left}
@@ -19,10 +20,10 @@ use Rattle.value.specs.declared.DataValue.{DataValue}
 use Rattle.value.specs.declared.DataValue.the-variants.{Null}
 use Rattle.value_list.specs.declared.ValueRecord.{ValueRecord}
 use Rattle.value_list.specs.declared.ValueRecord.the-variants as Value
-use Rattle.value_list.specs.Lists.{values, records as valueRecords, valuesOf}
+use Rattle.value_list.specs.Lists.{records as valueRecords, valuesOf}
 use Rattle.value_list.proofs.Lists.{First as FirstValue, records-first}
 use Rattle.row_build.specs.declared.Given.{Given}
-use Rattle.row_build.specs.Steps.{valuesIn, Buildable, Readable, ReadAt, valueIn}
+use Rattle.row_build.specs.InnerSteps.{valuesIn, Buildable, Readable, ReadAt, valueIn}
 
 -- value i of a list
 abbrev pub valueAt : List DataValue → ℕ → DataValue
@@ -31,9 +32,9 @@ valueAt vs i = getD vs i Null
 -- before column i: the records of schema and list from two places on
 pub record Together (s list : List ℕ) (i at from : ℕ) : Type 0 where
   pub within : i ≤ length (typesIn s)
-  pub columns : records (256 - i) s at ≡ types (drop i (typesIn s))
+  pub columns : columnRecords (256 - i) s at ≡ ok (drop i (typesIn s))
   pub fuel : ℕ
-  pub given : valueRecords fuel list from ≡ values (drop i (valuesIn list))
+  pub given : valueRecords fuel list from ≡ ok (drop i (valuesIn list))
 
 pub together-start : {s : List ℕ} {l : RowLayout} {list area : List ℕ} → Buildable s l list area → Together s list 0 0 0
 unfolding valuesOf
@@ -47,14 +48,14 @@ abbrev IsValue : ValueRecord → Type 0
 IsValue (Value.Value v next) = Unit {0}
 IsValue (Value.Refused e) = ⊥
 
-nothing-left : {v : DataValue} {vs : List DataValue} → values [] ≡ values (v ∷ vs) → ⊥
+nothing-left : {v : DataValue} {vs : List DataValue} → ok [] ≡ ok (v ∷ vs) → ⊥
 nothing-left p = let z : _≡_ {A = ℕ} 0 1 = cc in omega arith
 
 record Left (list : List ℕ) (from : ℕ) (v : DataValue) (vs : List DataValue) : Type 0 where
   fuel : ℕ
   first : FirstValue fuel list from v vs
 
-some-value : (fuel : ℕ) (list : List ℕ) (from : ℕ) {v : DataValue} {vs : List DataValue} → valueRecords fuel list from ≡ values (v ∷ vs) → Left list from v vs
+some-value : (fuel : ℕ) (list : List ℕ) (from : ℕ) {v : DataValue} {vs : List DataValue} → valueRecords fuel list from ≡ ok (v ∷ vs) → Left list from v vs
 some-value zero list from e = absurd (nothing-left e)
 some-value (suc n) list from e = record { fuel = n; first = records-first n list from e }
 
@@ -66,7 +67,7 @@ module _ {s : List ℕ} {l : RowLayout} {list area : List ℕ} (b : Buildable s 
   vs = valuesIn list
 
   value-left : Left list from (valueAt vs i) (drop (suc i) vs)
-  value-left = some-value (w .fuel) list from (w .given ∙ ap values (drop-cons vs i Null (rw (b .count) h)))
+  value-left = some-value (w .fuel) list from (w .given ∙ ap ok (drop-cons vs i Null (rw (b .count) h)))
 
   column-there : at < length s
   column-there =
@@ -116,7 +117,7 @@ module _ {s : List ℕ} {l : RowLayout} {list area : List ℕ} (b : Buildable s 
     together-next =
         record {
           within = omega arith;
-          columns = first .ahead ∙ ap types (ap (λ (us : List DataType). drop 1 us) split);
+          columns = first .ahead ∙ ap ok (ap (λ (us : List DataType). drop 1 us) split);
           fuel = value-left .fuel;
-          given = ap (valueRecords (value-left .fuel) list) (ap nextIn same-record) ∙ value-left .first .rest ∙ ap (λ (k : ℕ). values (drop k vs)) (sym (add-one i));
+          given = ap (valueRecords (value-left .fuel) list) (ap nextIn same-record) ∙ value-left .first .rest ∙ ap (λ (k : ℕ). ok (drop k vs)) (sym (add-one i));
         }

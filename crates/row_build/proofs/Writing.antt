@@ -8,32 +8,33 @@ use native.Mathlib.Numerals.{add-one}
 use native.Mathlib.Omega.{arith}
 use lib.ListN.{length, getD, length-map}
 use lib.Seq.{sets, length-sets}
-use Rattle.laws.specs.Forall.{Forall₂}
+use Rattle.laws.specs.InnerForall.{Forall₂}
 use Rattle.laws.proofs.Forall.{forall-length}
 use Rattle.laws.proofs.Maps.{take-map, at-map}
 use Rattle.row_format.specs.declared.Shape.{Shape}
 use Rattle.row_format.specs.declared.Shape.the-variants.{Fixed, Varlen}
 use Rattle.row_format.specs.Places.{varlens, rankOf, slotStart, offsetWidth, rowLimit, minimum, tableStart, fixedStart}
 use Rattle.row_format.specs.Table.{Cell}
-use Rattle.row_format.specs.Row.{packedFlag, header, builtRow, slotSize, FitsCell}
+use Rattle.row_format.specs.Row.{packedFlag, header, builtRow, slotSize}
 use Rattle.row_format.proofs.Places.{rank-inside, packed-inside}
 use Rattle.row_format.proofs.Row.{length-header, length-row, slots-fit, packed-start}
 use Rattle.row_format.proofs.Fresh.{length-fresh}
 use Rattle.row_format.proofs.Build.{upTo, up-to-start, up-to-end, built-le, built-null, length-built-fixed, length-built-varlen, step-fixed, step-varlen}
+use Rattle.row_format.specs.InnerRow.{FitsCell}
 use Rattle.row_layout.specs.declared.RowLayout.{RowLayout}
-use Rattle.row_layout.specs.Layout.{withColumn, minimumOf}
+use Rattle.row_layout.specs.InnerLayout.{minimumOf, withColumn}
 use Rattle.datatype.specs.declared.DataType.{DataType}
 use Rattle.datatype.specs.declared.DataType.the-variants as T
 use Rattle.datatype.specs.Types.{sizeOf, alignmentOf, isVarlen, shapeOf}
-use Rattle.datatype.specs.Check.{layoutBefore, typesIn}
-use Rattle.datatype.proofs.Again.{before-next, grown}
+use Rattle.datatype.specs.Check.{typesIn}
+use Rattle.datatype.proofs.Again.{columns-all, before-next, grown}
+use Rattle.datatype.specs.InnerCheck.{layoutBefore}
 use Rattle.value.specs.Ranges.{textOf}
 use Rattle.stored_form.specs.Write.{storedForm}
-use Rattle.row_column.proofs.Reach.{columns-all}
 use Rattle.row_build.specs.declared.Given.{Given}
 use Rattle.row_build.specs.Stored.{isNull}
 use Rattle.row_build.specs.Build.{freshRow}
-use Rattle.row_build.specs.Steps.{valuesIn, ReadAt, fixedStored, varlenStored, columnStored, Storable, cellsIn, rowOf, Fillable}
+use Rattle.row_build.specs.InnerSteps.{valuesIn, ReadAt, fixedStored, varlenStored, columnStored, Storable, cellsIn, rowGiven, Fillable}
 use Rattle.row_build.proofs.Tests.{CellIs, null, stored}
 use Rattle.row_build.proofs.Walk.{Together, together-start, type-given, value-given, digits-given, together-next}
 use Rattle.row_build.proofs.Cells.{cell-at, cells-fit}
@@ -115,7 +116,7 @@ module _ {s : List ℕ} {l : RowLayout} {list area out₀ : List ℕ} (f : Filla
     pub write-size : length out ≡ length out₀
     write-size = rw (k .written, length-sets)
 
-    pub write-end : l .«num_columns» ≤ i → out ≡ sets out₀ 0 (rowOf s list area)
+    pub write-end : l .«num_columns» ≤ i → out ≡ sets out₀ 0 (rowGiven s list area)
     write-end h =
         let n : i ≡ length cs = rw (forall-length fit, length-map ts shapeOf) (omega (arith, k .walk .within, columns-all (f .given .accepted))) in
         k .written ∙ ap (λ (ds : List Cell). sets out₀ 0 (builtRow offsetWidth ss ds)) (ap (λ (j : ℕ). upTo j cs) n ∙ up-to-end cs)
@@ -216,7 +217,7 @@ module _ {s : List ℕ} {l : RowLayout} {list area out₀ : List ℕ} (f : Filla
       long : minimum offsetWidth true ss ≤ length out
       long = rw write-size (omega (arith, f .room, length-row offsetWidth (header packedFlag ss) (length-header packedFlag ss) fit (slots-fit fit)))
 
-      payload-end : getD cs i none ≡ some form → isVarlen (g .ty) ≡ true → end + length form ≤ length (rowOf s list area)
+      payload-end : getD cs i none ≡ some form → isVarlen (g .ty) ≡ true → end + length form ≤ length (rowGiven s list area)
       payload-end e v = rw (k .end-is) (omega (arith, built-le offsetWidth fit (suc i), length-built-varlen offsetWidth fit i inside form e (varlen-is v)))
 
       end-small : end ≤ rowLimit

@@ -8,19 +8,14 @@ use lib.ListN.{length, replicate}
 use Rattle.error.specs.declared.Refusal.{Refusal}
 use Rattle.error.specs.declared.Refusal.the-variants.{RowLimit}
 use Rattle.error.specs.Answer.{Outcome, unchanged, placed}
+use Rattle.error.specs.Result.{onResult}
 use Rattle.row_format.specs.Row.{builtRow}
 use Rattle.datatype.specs.declared.DataType.{DataType}
 use Rattle.datatype.specs.Types.{shapeOf}
 use Rattle.datatype.specs.Schema.{schemaOf}
-use Rattle.datatype.specs.Check.{onSchema}
 use Rattle.value.specs.declared.DataValue.{DataValue}
-use Rattle.value_list.specs.Lists.{Values, values, refused, checked}
-use Rattle.row_build.specs.Stored.{onTested, cellsFrom}
-
--- a call on a value list: refused with it, or gone on with its values
-abbrev pub onValues : {A : Type 0} → Values → (Refusal → A) → (List DataValue → A) → A
-onValues (values vs) bad k = k vs
-onValues (refused e) bad k = bad e
+use Rattle.value_list.specs.Lists.{Values, checked}
+use Rattle.row_build.specs.Stored.{cellsFrom}
 
 -- 13: "row would pass 65,535 bytes", which is `limit`
 abbrev pub rowPlaced : ℕ → List ℕ → List ℕ → Outcome
@@ -28,17 +23,17 @@ rowPlaced limit out r = cond (ltb limit (length r)) (unchanged out RowLimit) (pl
 
 -- the row of values vs under types ts, with offsets of w bytes
 abbrev pub buildValues : ℕ → ℕ → List DataType → List DataValue → List ℕ → List ℕ → Outcome
-buildValues w limit ts vs area out = onTested (cellsFrom 0 ts vs area) (unchanged out) (λ cs. rowPlaced limit out (builtRow w (map shapeOf ts) cs))
+buildValues w limit ts vs area out = onResult (cellsFrom 0 ts vs area) (unchanged out) (λ cs. rowPlaced limit out (builtRow w (map shapeOf ts) cs))
 
 abbrev pub buildRow : ℕ → ℕ → List DataType → List ℕ → List ℕ → List ℕ → Outcome
-buildRow w limit ts list area out = onValues (checked limit (length ts) (length area) list) (unchanged out) (λ vs. buildValues w limit ts vs area out)
+buildRow w limit ts list area out = onResult (checked limit (length ts) (length area) list) (unchanged out) (λ vs. buildValues w limit ts vs area out)
 
 abbrev pub buildCall : ℕ → ℕ → List ℕ → List ℕ → List ℕ → List ℕ → Outcome
-buildCall w limit schema list area out = onSchema (schemaOf w limit schema) (unchanged out) (λ ts. buildRow w limit ts list area out)
+buildCall w limit schema list area out = onResult (schemaOf w limit schema) (unchanged out) (λ ts. buildRow w limit ts list area out)
 
 -- a row of nulls
 abbrev pub freshRow : ℕ → List DataType → List ℕ
 freshRow w ts = builtRow w (map shapeOf ts) (replicate (length ts) none)
 
 abbrev pub freshCall : ℕ → ℕ → List ℕ → List ℕ → Outcome
-freshCall w limit schema out = onSchema (schemaOf w limit schema) (unchanged out) (λ ts. placed out (freshRow w ts))
+freshCall w limit schema out = onResult (schemaOf w limit schema) (unchanged out) (λ ts. placed out (freshRow w ts))

@@ -1,4 +1,4 @@
 pub mod Stored
 pub mod Build
-pub mod Steps
-pub mod ReadBack
+pub mod InnerSteps
+pub mod Built

@@ -2,10 +2,12 @@
 use datatype::DataType;
 use datatype::Record;
 use datatype::SchemaCheck;
+use datatype::schema_kinds;
 use error::Answer;
 use error::Refusal;
 use row_layout::RowLayout;
 use value::DataValue;
+use value::value_kinds;
 use value_list::ListCheck;
 use value_list::ValueRecord;
 ghost use mathlib.Core.Path.{_≡_};
@@ -16,20 +18,21 @@ ghost use mathlib.Core.List.{[]};
 ghost use mathlib.Core.Option.{some};
 ghost use lib.ListN.{length};
 ghost use lib.Seq.{sets};
+ghost use Rattle.row_layout.specs.InnerLayout.{Bounded, minimumOf};
 ghost use Rattle.error.specs.Answer.{placed};
 ghost use Rattle.error.specs.declared.Answer.the-variants.{Done};
 ghost use Rattle.row_format.specs.Places.{offsetWidth, rowLimit, bitmapStart, bitmapSize};
 ghost use Rattle.row_format.specs.Edit.{bitEdit};
-ghost use Rattle.row_layout.specs.Layout.{Bounded, minimumOf};
 ghost use Rattle.datatype.specs.Types.{sizeOf, precisionOf};
-ghost use Rattle.datatype.specs.Schema.{kindOf, recordAt};
-ghost use Rattle.datatype.specs.Steps.{typeIn};
-ghost use Rattle.datatype.specs.Check.{typesIn, Accepted};
+ghost use Rattle.datatype.specs.Schema.{columnRecordAt};
+ghost use Rattle.datatype.specs.InnerSteps.{typeIn};
+ghost use Rattle.datatype.specs.Check.{typesIn};
+ghost use Rattle.datatype.specs.InnerCheck.{Accepted};
 ghost use Rattle.value.specs.Ranges.{part};
 ghost use Rattle.value_list.specs.Records.{bodyLength, rangeAt, recordAt as valueRecordAt};
 ghost use Rattle.row_build.specs.Stored.{isNull, cellIn, cellsFrom};
 ghost use Rattle.row_build.specs.Build.{buildValues, buildRow, buildCall, freshCall};
-ghost use Rattle.row_build.specs.Steps.{nullBits, nullRow, valuesIn, Buildable, Readable, ReadAt, declaredAt, afterColumn, heldKind, textSuits, suitsAt, payloadLength, payloadIn, payloadAnswer, Short, measured, valueIn, formIn, bodyStored, blankFilled, fixedStored, varlenStored, columnStored, SlotReady, PayloadReady, BitReady, Storable, rowOf, Fillable};
+ghost use Rattle.row_build.specs.InnerSteps.{nullBits, nullRow, valuesIn, Buildable, Readable, ReadAt, declaredAt, afterColumn, textSuits, suitsAt, payloadLength, payloadIn, payloadAnswer, Short, measured, valueIn, formIn, bodyStored, blankFilled, fixedStored, varlenStored, columnStored, SlotReady, PayloadReady, BitReady, Storable, rowGiven, Fillable};
 
 // n bits that are set, and clear ones up to the end of the last byte.
 fn write_null_bits(out: &mut [u8], at: usize, n: usize)
@@ -63,7 +66,7 @@ fn write_nulls(layout: RowLayout, out: &mut [u8])
 }
 
 // Behind the schema's check, for a caller that keeps its layout.
-pub fn fresh_row(layout: RowLayout, out: &mut [u8]) -> Answer
+fn fresh_row(layout: RowLayout, out: &mut [u8]) -> Answer
     requires { ⌜ Bounded layout ⌝ }
     ensures { λ r. ⌜ (r, now (out .exit)) ≡ placed (now (out .entry)) (nullRow layout) ⌝ }
 {
@@ -123,7 +126,7 @@ fn payload_size(column: usize, ty: DataType, value: DataValue, text: &[u8]) -> A
     requires { ⌜ (precisionOf ty ≤ 38) × (length (now text) ≤ rowLimit) ⌝ }
     ensures { λ r. ⌜ (r ≡ payloadAnswer ty (cellIn column ty value (now (text .entry)))) × Short r ⌝ }
 {
-    if value.kind() == 0 {
+    if value.kind() == value_kinds::NULL {
         return Answer::Done(0);
     }
     if !value::data_value_matches_type(ty, value) {
@@ -160,30 +163,6 @@ fn after_column(schema: &[u8], at: usize) -> usize
     at + 1
 }
 
-// The kind of the values that a column of a kind holds; 0 for no kind.
-fn held_kind(kind: u8) -> u8
-    ensures { λ r. ⌜ r ≡ heldKind (kindOf kind) ⌝ }
-{
-    match kind {
-        1 => 1,
-        2 => 2,
-        3 => 3,
-        4 => 4,
-        5 => 5,
-        6 => 6,
-        7 => 6,
-        8 => 7,
-        9 => 8,
-        10 => 8,
-        11 => 9,
-        12 => 10,
-        13 => 11,
-        14 => 12,
-        15 => 13,
-        _ => 0,
-    }
-}
-
 // Whether the range at a place of the list is a text of at most n bytes.
 fn text_suits(values: &[u8], body: usize, n: usize, text: &[u8]) -> bool
     requires { ⌜ body + 4 ≤ length (now values) ⌝ }
@@ -206,14 +185,14 @@ fn suits_at(kind: u8, n: usize, values: &[u8], body: usize, text: &[u8]) -> bool
     ensures { λ r. ⌜ r ≡ suitsAt kind n (now (values .entry)) body (now (text .entry)) ⌝ }
 {
     match kind {
-        6 => false,
-        7 => values[body] <= 1,
-        8 => text_suits(values, body, n, text),
-        9 => text_suits(values, body, n, text),
-        10 => temporal::is_date(endian::read_i32(values, body)),
-        11 => temporal::is_time(endian::read_i64(values, body)),
-        12 => false,
-        13 => temporal::is_timestamp(endian::read_i64(values, body)),
+        value_kinds::NUMERIC => false,
+        value_kinds::BOOL => values[body] <= 1,
+        value_kinds::CHAR => text_suits(values, body, n, text),
+        value_kinds::VARCHAR => text_suits(values, body, n, text),
+        value_kinds::DATE => temporal::is_date(endian::read_i32(values, body)),
+        value_kinds::TIME => temporal::is_time(endian::read_i64(values, body)),
+        value_kinds::BIT => false,
+        value_kinds::TIMESTAMP => temporal::is_timestamp(endian::read_i64(values, body)),
         _ => true,
     }
 }
@@ -223,7 +202,7 @@ fn payload_length(kind: u8, values: &[u8], body: usize) -> usize
     requires { ⌜ body + bodyLength kind ≤ length (now values) ⌝ }
     ensures { λ r. ⌜ r ≡ payloadLength kind (now (values .entry)) body ⌝ }
 {
-    if kind == 9 {
+    if kind == value_kinds::VARCHAR {
         return endian::read_u16(values, body + 2) as usize;
     }
     0
@@ -260,10 +239,10 @@ fn payload_at(
     ensures { λ r. ⌜ (r ≡ payloadIn column (now (schema .entry)) at (now (values .entry)) from (now (text .entry))) × Short r ⌝ }
 {
     let kind = values[from];
-    if kind == 0 {
+    if kind == value_kinds::NULL {
         return Answer::Done(0);
     }
-    if kind == held_kind(schema[at]) {
+    if kind == value::held_kind(schema[at]) {
         let n = declared_length(schema, at);
         if suits_at(kind, n, values, from + 1, text) {
             return Answer::Done(payload_length(kind, values, from + 1));
@@ -302,23 +281,24 @@ fn clear_bit(out: &mut [u8], n: usize, i: usize)
     requires { ⌜ (i < n) × (bitmapStart + i / 8 < length (now out)) ⌝ }
     ensures { λ _. ⌜ now (out .exit) ≡ bitEdit i (some []) (now (out .entry)) ⌝ }
 {
-    null_bitmap::clear_null(&mut out[4..], n, i);
+    let bitmap = RowLayout::bitmap_offset();
+    null_bitmap::clear_null(&mut out[bitmap..], n, i);
 }
 
 // The bytes of a column's slot.
 fn slot_size(schema: &[u8], at: usize) -> usize
     requires { ⌜ at < length (now schema) ⌝ }
-    ensures { λ r. ⌜ r ≡ sizeOf (typeIn (recordAt (now (schema .entry)) at)) ⌝ }
+    ensures { λ r. ⌜ r ≡ sizeOf (typeIn (columnRecordAt (now (schema .entry)) at)) ⌝ }
 {
     let kind = schema[at];
     let size = datatype::plain_size(kind);
     if size != 0 {
         return size;
     }
-    if kind == 11 {
+    if kind == schema_kinds::VARCHAR {
         return 0;
     }
-    if kind == 9 {
+    if kind == schema_kinds::CHAR {
         return declared_length(schema, at);
     }
     match datatype::record_at(schema, at) {
@@ -331,7 +311,7 @@ fn slot_size(schema: &[u8], at: usize) -> usize
 fn entry_size(kind: u8) -> usize
     ensures { λ r. ⌜ (r ≡ cond (eqb kind 9) offsetWidth 0) × (r ≤ 2) ⌝ }
 {
-    if kind == 9 {
+    if kind == value_kinds::VARCHAR {
         return 2;
     }
     0
@@ -343,15 +323,19 @@ fn write_body(out: &mut [u8], slot: usize, kind: u8, values: &[u8], body: usize)
     ensures { λ _. ⌜ now (out .exit) ≡ sets (now (out .entry)) slot (bodyStored kind (now (values .entry)) body) ⌝ }
 {
     match kind {
-        1 => endian::write_u16(out, slot, endian::read_u16(values, body)),
-        2 => endian::write_u32(out, slot, endian::read_u32(values, body)),
-        3 => endian::write_u64(out, slot, endian::read_u64(values, body)),
-        4 => endian::write_u32(out, slot, endian::read_u32(values, body)),
-        5 => endian::write_u64(out, slot, endian::read_u64(values, body)),
-        7 => out[slot] = values[body],
-        10 => endian::write_u32(out, slot, endian::read_u32(values, body)),
-        11 => endian::write_u64(out, slot, endian::read_u64(values, body)),
-        13 => endian::write_u64(out, slot, endian::read_u64(values, body)),
+        value_kinds::SMALL_INT => endian::write_u16(out, slot, endian::read_u16(values, body)),
+        value_kinds::INT => endian::write_u32(out, slot, endian::read_u32(values, body)),
+        value_kinds::BIG_INT => endian::write_u64(out, slot, endian::read_u64(values, body)),
+        value_kinds::REAL => endian::write_u32(out, slot, endian::read_u32(values, body)),
+        value_kinds::DOUBLE_PRECISION => endian::write_u64(
+            out,
+            slot,
+            endian::read_u64(values, body),
+        ),
+        value_kinds::BOOL => out[slot] = values[body],
+        value_kinds::DATE => endian::write_u32(out, slot, endian::read_u32(values, body)),
+        value_kinds::TIME => endian::write_u64(out, slot, endian::read_u64(values, body)),
+        value_kinds::TIMESTAMP => endian::write_u64(out, slot, endian::read_u64(values, body)),
         _ => {}
     }
 }
@@ -376,7 +360,7 @@ fn write_given(
     out: &mut [u8],
     slot: usize,
 )
-    requires { ⌜ Readable (now schema) at (now values) from × SlotReady (typeIn (recordAt (now schema) at)) (valueIn (valueRecordAt (now values) from)) (now text) slot (length (now out)) ⌝ }
+    requires { ⌜ Readable (now schema) at (now values) from × SlotReady (typeIn (columnRecordAt (now schema) at)) (valueIn (valueRecordAt (now values) from)) (now text) slot (length (now out)) ⌝ }
     ensures { λ _. ⌜ now (out .exit) ≡ sets (now (out .entry)) slot (formIn (now (schema .entry)) at (now (values .entry)) from (now (text .entry))) ⌝ }
 {
     let given = given_at(schema, at, values, from);
@@ -395,13 +379,13 @@ fn write_slot(
     out: &mut [u8],
     slot: usize,
 )
-    requires { ⌜ Readable (now schema) at (now values) from × SlotReady (typeIn (recordAt (now schema) at)) (valueIn (valueRecordAt (now values) from)) (now text) slot (length (now out)) ⌝ }
+    requires { ⌜ Readable (now schema) at (now values) from × SlotReady (typeIn (columnRecordAt (now schema) at)) (valueIn (valueRecordAt (now values) from)) (now text) slot (length (now out)) ⌝ }
     ensures { λ _. ⌜ now (out .exit) ≡ sets (now (out .entry)) slot (formIn (now (schema .entry)) at (now (values .entry)) from (now (text .entry))) ⌝ }
 {
     let kind = values[from];
     match kind {
-        6 => write_given(schema, at, values, from, text, out, slot),
-        8 => write_char(
+        value_kinds::NUMERIC => write_given(schema, at, values, from, text, out, slot),
+        value_kinds::CHAR => write_char(
             out,
             slot,
             declared_length(schema, at),
@@ -409,7 +393,7 @@ fn write_slot(
             from + 1,
             text,
         ),
-        12 => write_given(schema, at, values, from, text, out, slot),
+        value_kinds::BIT => write_given(schema, at, values, from, text, out, slot),
         _ => write_body(out, slot, kind, values, from + 1),
     }
 }
@@ -426,7 +410,7 @@ fn write_fixed(
     column: usize,
     slot: usize,
 )
-    requires { ⌜ Readable (now schema) at (now values) from × (SlotReady (typeIn (recordAt (now schema) at)) (valueIn (valueRecordAt (now values) from)) (now text) slot (length (now out)) × BitReady columns column (length (now out))) ⌝ }
+    requires { ⌜ Readable (now schema) at (now values) from × (SlotReady (typeIn (columnRecordAt (now schema) at)) (valueIn (valueRecordAt (now values) from)) (now text) slot (length (now out)) × BitReady columns column (length (now out))) ⌝ }
     ensures { λ _. ⌜ now (out .exit) ≡ fixedStored column slot (formIn (now (schema .entry)) at (now (values .entry)) from (now (text .entry))) (now (out .entry)) ⌝ }
 {
     write_slot(schema, at, values, from, text, out, slot);
@@ -469,14 +453,14 @@ fn write_column(
     entry: usize,
     end: usize,
 ) -> usize
-    requires { ⌜ Readable (now schema) at (now values) from × (isNull (valueIn (valueRecordAt (now values) from)) ≡ false → Storable columns column slot entry (typeIn (recordAt (now schema) at)) (valueIn (valueRecordAt (now values) from)) (now text) end (length (now out))) ⌝ }
-    ensures { λ r. ⌜ (r, now (out .exit)) ≡ columnStored column slot entry (typeIn (recordAt (now (schema .entry)) at)) (valueIn (valueRecordAt (now (values .entry)) from)) (formIn (now (schema .entry)) at (now (values .entry)) from (now (text .entry))) end (now (out .entry)) ⌝ }
+    requires { ⌜ Readable (now schema) at (now values) from × (isNull (valueIn (valueRecordAt (now values) from)) ≡ false → Storable columns column slot entry (typeIn (columnRecordAt (now schema) at)) (valueIn (valueRecordAt (now values) from)) (now text) end (length (now out))) ⌝ }
+    ensures { λ r. ⌜ (r, now (out .exit)) ≡ columnStored column slot entry (typeIn (columnRecordAt (now (schema .entry)) at)) (valueIn (valueRecordAt (now (values .entry)) from)) (formIn (now (schema .entry)) at (now (values .entry)) from (now (text .entry))) end (now (out .entry)) ⌝ }
 {
     let kind = values[from];
-    if kind == 0 {
+    if kind == value_kinds::NULL {
         return end;
     }
-    if kind == 9 {
+    if kind == value_kinds::VARCHAR {
         return write_varchar(values, from + 1, text, out, columns, column, entry, end);
     }
     write_fixed(schema, at, values, from, text, out, columns, column, slot);
@@ -486,7 +470,7 @@ fn write_column(
 // All columns, over the row of nulls.
 fn write_columns(schema: &[u8], layout: RowLayout, values: &[u8], text: &[u8], out: &mut [u8])
     requires { ⌜ Fillable (now schema) layout (now values) (now text) (now out) ⌝ }
-    ensures { λ _. ⌜ now (out .exit) ≡ sets (now (out .entry)) 0 (rowOf (now (schema .entry)) (now (values .entry)) (now (text .entry))) ⌝ }
+    ensures { λ _. ⌜ now (out .exit) ≡ sets (now (out .entry)) 0 (rowGiven (now (schema .entry)) (now (values .entry)) (now (text .entry))) ⌝ }
 {
     let mut column = 0;
     let mut at = 0;
@@ -510,7 +494,7 @@ fn write_columns(schema: &[u8], layout: RowLayout, values: &[u8], text: &[u8], o
             end,
         );
         slot += slot_size(schema, at);
-        entry += entry_size(held_kind(schema[at]));
+        entry += entry_size(value::held_kind(schema[at]));
         at = after_column(schema, at);
         from = from + 1 + value_list::body_length(values[from]);
         column += 1;
@@ -529,7 +513,7 @@ fn place_row(
     requires { ⌜ Buildable (now schema) layout (now values) (now text) × (Done n ≡ measured (minimumOf layout true) (typesIn (now schema)) (cellsFrom 0 (typesIn (now schema)) (valuesIn (now values)) (now text))) ⌝ }
     ensures { λ r. ⌜ (r, now (out .exit)) ≡ buildValues offsetWidth rowLimit (typesIn (now (schema .entry))) (valuesIn (now (values .entry))) (now (text .entry)) (now (out .entry)) ⌝ }
 {
-    if 65535 < n {
+    if RowLayout::ROW_LIMIT < n {
         return Answer::Refused(Refusal::RowLimit);
     }
     if out.len() < n {

@@ -1,6 +1,6 @@
 -- What is known of a row whose header is good, and how a call goes on behind its check.
 use Prim.Native.Nat.{ℕ, _%_, _≤_}
-use mathlib.Core.Path.{_≡_, sym, ap, _∙_}
+use mathlib.Core.Path.{_≡_, refl, sym, ap, _∙_}
 use mathlib.Core.Bool.{Bool}
 use mathlib.Core.List.{List}
 use borrow.Author.Tests.{ltb-false}
@@ -9,38 +9,66 @@ use lib.ListN.{length}
 use Rattle.error.specs.declared.Refusal.{Refusal}
 use Rattle.error.specs.declared.Refusal.the-variants.{RowTooShort, RowTooLong, WrongColumnCount, WrongVarlenCount}
 use Rattle.laws.proofs.Truths.{by-cond}
+use Rattle.row_format.specs.Places.{offsetWidth, rowLimit}
 use Rattle.row_format.specs.Row.{packedFlag}
 use Rattle.row_layout.specs.declared.RowLayout.{RowLayout}
-use Rattle.row_layout.specs.Layout.{minimumOf}
-use Rattle.datatype.specs.Check.{Accepted}
+use Rattle.row_layout.specs.InnerLayout.{minimumOf}
+use Rattle.datatype.specs.declared.DataType.{DataType}
+use Rattle.datatype.specs.Check.{layoutFor}
+use Rattle.datatype.specs.InnerCheck.{Accepted}
 use Rattle.row_column.specs.declared.Frame.{Frame}
 use Rattle.row_column.specs.declared.Frame.the-variants.{Good, Refused}
-use Rattle.row_column.specs.Frame.{columnCount, varlenField, isPacked, frameOf, onFrame, Framed}
+use Rattle.row_column.specs.Frame.{columnCount, varlenField, isPacked, frameWith, frameOf, onFrame}
+use Rattle.row_column.specs.InnerWalk.{walkedFrame, Framed}
+use Rattle.row_column.proofs.Walk.{frame-walked}
 
-abbrev Fine : ℕ → RowLayout → List ℕ → Frame → Type 0
-Fine limit l r (Good p) = (length r ≤ limit) × (minimumOf l p ≤ length r)
-Fine limit l r (Refused e) = Unit {0}
+pub record Fine (limit : ℕ) (least : Bool → ℕ) (r : List ℕ) (p : Bool) : Type 0 where
+  pub short : length r ≤ limit
+  pub flag : isPacked r ≡ p
+  pub long : least p ≤ length r
 
-fine : (limit : ℕ) (l : RowLayout) (r : List ℕ) → Fine limit l r (frameOf limit l r)
-fine limit l r =
-    by-cond (Fine limit l r) (ltb limit (length r)) (Refused RowTooLong) _ (λ a. tt)
-    (λ a. by-cond (Fine limit l r) (ltb (length r) 4) (Refused RowTooShort) _ (λ b. tt)
-    (λ b. by-cond (Fine limit l r) (eqb (columnCount r) (l .«num_columns»)) _ (Refused WrongColumnCount)
-    (λ c. by-cond (Fine limit l r) (eqb (varlenField r % packedFlag) (l .«num_varlen_cols»)) _ (Refused WrongVarlenCount)
-    (λ d. by-cond (Fine limit l r) (ltb (length r) (minimumOf l (isPacked r))) (Refused RowTooShort) (Good (isPacked r)) (λ e. tt)
-    (λ e. (ltb-false limit (length r) a, ltb-false (length r) (minimumOf l (isPacked r)) e)))
+abbrev IfGood : ℕ → (Bool → ℕ) → List ℕ → Frame → Type 0
+IfGood limit least r (Good p) = Fine limit least r p
+IfGood limit least r (Refused e) = Unit {0}
+
+if-good : (limit n v : ℕ) (least : Bool → ℕ) (r : List ℕ) → IfGood limit least r (frameWith limit n v least r)
+if-good limit n v least r =
+    let P = IfGood limit least r in
+    by-cond P (ltb limit (length r)) (Refused RowTooLong) _ (λ a. tt)
+    (λ a. by-cond P (ltb (length r) 4) (Refused RowTooShort) _ (λ b. tt)
+    (λ b. by-cond P (eqb (columnCount r) n) _ (Refused WrongColumnCount)
+    (λ c. by-cond P (eqb (varlenField r % packedFlag) v) _ (Refused WrongVarlenCount)
+    (λ d. by-cond P (ltb (length r) (least (isPacked r))) (Refused RowTooShort) (Good (isPacked r)) (λ e. tt)
+    (λ e. record {
+      short = ltb-false limit (length r) a;
+      flag = refl;
+      long = ltb-false (length r) (least (isPacked r)) e;
+    }))
     (λ d. tt))
     (λ c. tt)))
 
-pub framed : {s : List ℕ} {l : RowLayout} {r : List ℕ} {p : Bool} → Accepted s l → frameOf 65535 l r ≡ Good p → Framed s l p r
+pub fine : (limit n v : ℕ) (least : Bool → ℕ) (r : List ℕ) {p : Bool} → frameWith limit n v least r ≡ Good p
+    → Fine limit least r p
+fine limit n v least r e = rw e at (if-good limit n v least r)
+
+pub framed : {s : List ℕ} {l : RowLayout} {r : List ℕ} {p : Bool} → Accepted s l → walkedFrame rowLimit l r ≡ Good p
+    → Framed s l p r
 framed {s} {l} {r} a e =
-    let f = rw e at (fine 65535 l r) in
-    record { accepted = a; long = f .1; short = f .0 }
+    let f = fine rowLimit (l .«num_columns») (l .«num_varlen_cols») (minimumOf l) r e in
+    record { accepted = a; long = f .long; short = f .short }
 
--- the call behind a header, where the layout m is known as l
-module _ {A : Type 0} (limit : ℕ) {m l : RowLayout} (r : List ℕ) (e : m ≡ l) (bad : Refusal → A) (k : RowLayout → Bool → A) where
-  pub frame-refused : {q : Refusal} → frameOf limit l r ≡ Refused q → bad q ≡ onFrame (frameOf limit m r) bad (k m)
-  frame-refused f = sym (ap (λ (x : Frame). onFrame x bad (k l)) f) ∙ ap (λ (n : RowLayout). onFrame (frameOf limit n r) bad (k n)) (sym e)
+-- calls that go on alike
+pub same-good : {A : Type 0} (f : Frame) (bad : Refusal → A) {k k' : Bool → A} → ((p : Bool) → f ≡ Good p → k p ≡ k' p)
+    → onFrame f bad k ≡ onFrame f bad k'
+same-good (Good p) bad h = h p refl
+same-good (Refused e) bad h = refl
 
-  pub frame-good : {p : Bool} → frameOf limit l r ≡ Good p → k l p ≡ onFrame (frameOf limit m r) bad (k m)
-  frame-good f = sym (ap (λ (x : Frame). onFrame x bad (k l)) f) ∙ ap (λ (n : RowLayout). onFrame (frameOf limit n r) bad (k n)) (sym e)
+-- the call behind a header, where the layout of the columns ts is known as l
+module _ {A : Type 0} (limit : ℕ) (ts : List DataType) {l : RowLayout} (r : List ℕ) (e : layoutFor ts ≡ l)
+    (bad : Refusal → A) (k : Bool → A) where
+  pub frame-refused : {q : Refusal} → walkedFrame limit l r ≡ Refused q → bad q
+      ≡ onFrame (frameOf offsetWidth limit ts r) bad k
+  frame-refused f = sym (ap (λ (x : Frame). onFrame x bad k) (frame-walked limit ts r e ∙ f))
+
+  pub frame-good : {p : Bool} → walkedFrame limit l r ≡ Good p → k p ≡ onFrame (frameOf offsetWidth limit ts r) bad k
+  frame-good f = sym (ap (λ (x : Frame). onFrame x bad k) (frame-walked limit ts r e ∙ f))

@@ -1,3 +1,4 @@
+pub mod Walk
 pub mod Framing
 pub mod Reach
 pub mod Depends

@@ -9,25 +9,23 @@ use lib.Seq.{length-take-le}
 use Rattle.row_format.specs.declared.Shape.{Shape}
 use Rattle.row_format.specs.Places.{endAfter}
 use Rattle.row_layout.specs.declared.RowLayout.{RowLayout}
-use Rattle.row_layout.specs.Layout.{Bounded, withColumn, sizeIn}
+use Rattle.row_layout.specs.Layout.{sizeIn}
+use Rattle.row_layout.specs.InnerLayout.{Bounded, withColumn}
 use Rattle.datatype.specs.declared.DataType.{DataType}
 use Rattle.datatype.specs.declared.Record.the-variants as Record
 use Rattle.datatype.specs.Types.{shapeOf, precisionOf}
-use Rattle.datatype.specs.Schema.{recordAt}
-use Rattle.datatype.specs.Steps.{typeIn}
-use Rattle.datatype.specs.Check.{typeAt, layoutBefore, typesIn, Accepted}
+use Rattle.datatype.specs.Schema.{columnRecordAt}
+use Rattle.datatype.specs.InnerSteps.{typeIn}
+use Rattle.datatype.specs.Check.{typeAt, typesIn}
 use Rattle.datatype.proofs.Records.{few-digits}
 use Rattle.datatype.proofs.Again.{before-next, Grown, grown, size-grown, Ahead, ahead-inside, ahead-type, ahead-column, ahead-typed}
+use Rattle.datatype.specs.InnerCheck.{layoutBefore}
 use Rattle.row_column.specs.declared.Column.{Column}
-use Rattle.row_column.specs.Frame.{Framed}
-use Rattle.row_column.specs.Column.{Found, Reachable}
+use Rattle.row_column.specs.InnerWalk.{Framed, Found, Reachable}
 
 size-with : (b : RowLayout) (s : Shape) (p : Bool) → sizeIn (withColumn b s) p ≡ endAfter p s (sizeIn b p)
 size-with b s true = refl
 size-with b s false = refl
-
-pub columns-all : {s : List ℕ} {l : RowLayout} → Accepted s l → l .«num_columns» ≡ length (typesIn s)
-columns-all {s} a = ap (λ (k : RowLayout). k .«num_columns») (sym (a .layout)) ∙ length-map (typesIn s) shapeOf
 
 pub columns-before : (ts : List DataType) (i : ℕ) → i ≤ length ts → layoutBefore ts i .«num_columns» ≡ i
 columns-before ts i h = length-map (take i ts) shapeOf ∙ length-take-le i ts h
@@ -51,13 +49,13 @@ module _ {s : List ℕ} {l : RowLayout} {p : Bool} {r : List ℕ} (f : Framed s 
       }
 
   -- the column whose record the walk has come to
-  pub reach-next : {b : RowLayout} {at : ℕ} (w : Ahead s b at) (h : at < length s) {t : DataType} {next : ℕ} (e : recordAt s at ≡ Record.Column t next) → Reachable l p b t r
+  pub reach-next : {b : RowLayout} {at : ℕ} (w : Ahead s b at) (h : at < length s) {t : DataType} {next : ℕ} (e : columnRecordAt s at ≡ Record.Column t next) → Reachable l p b t r
   reach-next {b} {at} w h {t} e = reach b t (b .«num_columns») (ahead-inside w h e) (w .so-far) (ahead-type w h e) (w .bounded) (few-digits s at e)
 
   pub reach-typed : {b : RowLayout} {at : ℕ} (w : Ahead s b at) (h : at < length s) → Reachable l p b (typeAt (typesIn s) (b .«num_columns»)) r
   reach-typed {b} w h = subst (λ (t : DataType). Reachable l p b t r) (ahead-type w h (ahead-column w h .is)) (reach-next w h (ahead-column w h .is))
 
-pub found : {s : List ℕ} {b : RowLayout} {at i : ℕ} (w : Ahead s b at) (h : at < length s) → b .«num_columns» ≡ i → {c : Column} → c .before ≡ b → c .ty ≡ typeIn (recordAt s at) → Found s i c
+pub found : {s : List ℕ} {b : RowLayout} {at i : ℕ} (w : Ahead s b at) (h : at < length s) → b .«num_columns» ≡ i → {c : Column} → c .before ≡ b → c .ty ≡ typeIn (columnRecordAt s at) → Found s i c
 found {s} {b} {at} w h f eb et =
     let n = ahead-column w h in
     record {

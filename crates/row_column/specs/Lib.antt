@@ -1,3 +1,4 @@
 pub mod Frame
 pub mod Column
+pub mod InnerWalk
 pub mod Depends

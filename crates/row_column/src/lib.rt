@@ -10,14 +10,15 @@ ghost use mathlib.Core.Path.{_≡_};
 ghost use mathlib.Core.Bool.{true, false};
 ghost use Prim.Native.Nat.{_+_, _*_, _-_, _≤_, _<_};
 ghost use lib.ListN.{length};
+ghost use Rattle.error.specs.Result.{ok};
 ghost use Rattle.row_format.specs.Places.{offsetWidth, rowLimit};
-ghost use Rattle.row_layout.specs.Layout.{Bounded};
-ghost use Rattle.row_layout.specs.Range.{rangeOf};
+ghost use Rattle.row_layout.specs.Range.{varlenRange};
+ghost use Rattle.row_layout.specs.InnerLayout.{Bounded};
 ghost use Rattle.datatype.specs.Types.{sizeOf, isVarlen, precisionOf};
-ghost use Rattle.row_column.specs.Frame.{frameOf};
-ghost use Rattle.row_column.specs.Column.{readBytes, varlenValue, columnValue, Found, Reachable, InRow};
-ghost use Rattle.datatype.specs.Schema.{types, records, recordAt};
-ghost use Rattle.datatype.specs.Steps.{typeIn};
+ghost use Rattle.row_column.specs.InnerWalk.{walkedFrame, walkedColumn, Found, Reachable, InRow};
+ghost use Rattle.row_column.specs.Column.{readBytes, varlenValue};
+ghost use Rattle.datatype.specs.Schema.{columnRecords, columnRecordAt};
+ghost use Rattle.datatype.specs.InnerSteps.{typeIn};
 ghost use Rattle.datatype.specs.Check.{typesIn};
 
 // A row whose header suits the schema: whether it is packed.
@@ -28,9 +29,9 @@ pub enum Frame {
 
 pub fn check_frame(layout: RowLayout, row: &[u8]) -> Frame
     requires { ⌜ Bounded layout ⌝ }
-    ensures { λ r. ⌜ r ≡ frameOf rowLimit layout (now (row .entry)) ⌝ }
+    ensures { λ r. ⌜ r ≡ walkedFrame rowLimit layout (now (row .entry)) ⌝ }
 {
-    if 65535 < row.len() {
+    if RowLayout::ROW_LIMIT < row.len() {
         return Frame::Refused(Refusal::RowTooLong);
     }
     if row.len() < 4 {
@@ -60,7 +61,7 @@ pub struct Column {
 // The column whose record stands at a place of a schema that was checked, so that it is not refused.
 fn column_here(schema: &[u8], at: usize, before: RowLayout) -> Column
     requires { ⌜ at < length (now schema) ⌝ }
-    ensures { λ r. ⌜ (r .before ≡ before) × (r .ty ≡ typeIn (recordAt (now (schema .entry)) at)) ⌝ }
+    ensures { λ r. ⌜ (r .before ≡ before) × (r .ty ≡ typeIn (columnRecordAt (now (schema .entry)) at)) ⌝ }
 {
     match datatype::record_at(schema, at) {
         Record::Refused(_) => Column {
@@ -73,7 +74,7 @@ fn column_here(schema: &[u8], at: usize, before: RowLayout) -> Column
 
 // The schema was checked and has this column.
 pub fn column_at(schema: &[u8], column: usize) -> Column
-    requires { ⌜ (records 256 (now schema) 0 ≡ types (typesIn (now schema))) × (column < length (typesIn (now schema))) ⌝ }
+    requires { ⌜ (columnRecords 256 (now schema) 0 ≡ ok (typesIn (now schema))) × (column < length (typesIn (now schema))) ⌝ }
     ensures { λ r. ⌜ Found (now (schema .entry)) column r ⌝ }
 {
     let mut before = RowLayout::new();
@@ -112,7 +113,7 @@ fn read_varlen(
     rank: usize,
 ) -> ColumnRead
     requires { ⌜ (precisionOf ty ≤ 38) × ((isVarlen ty ≡ true) × ((rank < varlens) × (table + varlens * offsetWidth ≤ length (now row)))) ⌝ }
-    ensures { λ r. ⌜ (r ≡ varlenValue ty i (now (row .entry)) (rangeOf table varlens rank (now (row .entry)))) × InRow (length (now (row .entry))) r ⌝ }
+    ensures { λ r. ⌜ (r ≡ varlenValue ty i (now (row .entry)) (varlenRange offsetWidth table varlens rank (now (row .entry)))) × InRow (length (now (row .entry))) r ⌝ }
 {
     match row_layout::varlen_range(row, table, varlens, rank) {
         VarlenRange::Null => ColumnRead::Value(DataValue::Null),
@@ -130,10 +131,10 @@ pub fn read_column(
     row: &[u8],
 ) -> ColumnRead
     requires { ⌜ Reachable layout packed before ty (now row) ⌝ }
-    ensures { λ r. ⌜ (r ≡ columnValue layout packed before ty (now (row .entry))) × InRow (length (now (row .entry))) r ⌝ }
+    ensures { λ r. ⌜ (r ≡ walkedColumn layout packed before ty (now (row .entry))) × InRow (length (now (row .entry))) r ⌝ }
 {
     let i = before.num_columns;
-    if null_bitmap::bit_is_set(&row[4..], i) {
+    if null_bitmap::column_bit_is_set(row, i) {
         return ColumnRead::Value(DataValue::Null);
     }
     if ty.is_variable_length() {

@@ -10,36 +10,38 @@ use lib.Seq.{sets, length-sets}
 use Rattle.error.specs.declared.Refusal.{Refusal}
 use Rattle.error.specs.declared.Answer.{Answer}
 use Rattle.error.specs.declared.Answer.the-variants as Answer
+use Rattle.error.specs.Result.{ok, refused, before}
 use Rattle.laws.proofs.Stores.{sets-append}
 use Rattle.row_layout.specs.declared.RowLayout.{RowLayout}
-use Rattle.row_layout.specs.Layout.{Bounded, noColumns, withColumn}
+use Rattle.row_layout.specs.InnerLayout.{Bounded, noColumns, withColumn}
 use Rattle.datatype.specs.declared.DataType.{DataType}
 use Rattle.datatype.specs.declared.Record.the-variants.{Column}
 use Rattle.datatype.specs.declared.Step.{Step}
 use Rattle.datatype.specs.Types.{shapeOf}
-use Rattle.datatype.specs.Schema.{recordAt}
+use Rattle.datatype.specs.Schema.{columnRecordAt}
 use Rattle.datatype.specs.Check.{typeAt, typesIn}
-use Rattle.datatype.specs.Steps.{passed}
-use Rattle.datatype.proofs.Again.{Ahead, ahead-start, ahead-end, ahead-few, ahead-good, ahead-inside, ahead-type, ahead-split, ahead-more, ahead-column, ahead-typed, step-is}
+use Rattle.datatype.specs.InnerSteps.{passed}
+use Rattle.datatype.proofs.Again.{columns-all, Ahead, ahead-start, ahead-end, ahead-few, ahead-good, ahead-inside, ahead-type, ahead-split, ahead-more, ahead-column, ahead-typed, step-is}
 use Rattle.value.specs.declared.DataValue.{DataValue}
 use Rattle.value_list.specs.Records.{recordOf}
-use Rattle.value_list.specs.Lists.{Values, values, refused, before, listOf}
+use Rattle.value_list.specs.Lists.{Values, listOf}
 use Rattle.value_list.proofs.Records.{record-short}
 use Rattle.row_column.specs.declared.ColumnRead.{ColumnRead}
 use Rattle.row_column.specs.declared.ColumnRead.the-variants.{Value, Refused}
-use Rattle.row_column.specs.Column.{columnValue, InRow}
-use Rattle.row_column.proofs.Reach.{columns-all, reach-typed}
-use Rattle.row_decode.specs.Read.{wantedValue, readFrom}
-use Rattle.row_decode.specs.Marks.{isMarked, stepped, Decodable, DecodeAt, Filled}
+use Rattle.row_column.specs.InnerWalk.{walkedColumn, InRow}
+use Rattle.row_column.proofs.Reach.{reach-typed}
+use Rattle.row_decode.specs.Read.{wantedValue}
+use Rattle.row_decode.specs.InnerWalk.{walkedRead}
+use Rattle.row_decode.specs.InnerMarks.{isMarked, stepped, Decodable, DecodeAt, Filled}
 
 -- ---- values in front of others
 
 abbrev prepend : List DataValue → Values → Values
-prepend vs (values ws) = values (vs ++ ws)
+prepend vs (ok ws) = ok (vs ++ ws)
 prepend vs (refused e) = refused e
 
 prepend-next : (vs : List DataValue) (v : DataValue) (ws : Values) → prepend (vs ++ (v ∷ [])) ws ≡ prepend vs (before v ws)
-prepend-next vs v (values ws) = ap values (append-assoc vs (v ∷ []) ws)
+prepend-next vs v (ok ws) = ap ok (append-assoc vs (v ∷ []) ws)
 prepend-next vs v (refused e) = refl
 
 list-append : (vs ws : List DataValue) → listOf (vs ++ ws) ≡ listOf vs ++ listOf ws
@@ -59,13 +61,13 @@ wider (Refused e) n m h i = tt
 pub record Decoding (s : List ℕ) (l : RowLayout) (p : Bool) (r marks buf₀ buf : List ℕ) (b : RowLayout) (at end : ℕ) : Type 0 where
   pub walk : Ahead s b at
   pub done : List DataValue
-  pub rest : prepend done (readFrom l p (isMarked marks) r b (drop (b .«num_columns») (typesIn s))) ≡ readFrom l p (isMarked marks) r noColumns (typesIn s)
+  pub rest : prepend done (walkedRead l p (isMarked marks) r b (drop (b .«num_columns») (typesIn s))) ≡ walkedRead l p (isMarked marks) r noColumns (typesIn s)
   pub written : buf ≡ sets buf₀ 0 (listOf done)
   pub so-far : end ≡ length (listOf done)
   pub few : end ≤ 18 * b .«num_columns»
 
 front : (vs : Values) → prepend [] vs ≡ vs
-front (values vs) = refl
+front (ok vs) = refl
 front (refused e) = refl
 
 module _ {s : List ℕ} {l : RowLayout} {p : Bool} {r marks buf : List ℕ} where
@@ -74,7 +76,7 @@ module _ {s : List ℕ} {l : RowLayout} {p : Bool} {r marks buf : List ℕ} wher
       record {
         walk = ahead-start (d .framed .accepted .schema);
         done = [];
-        rest = front (readFrom l p (isMarked marks) r noColumns (typesIn s));
+        rest = front (walkedRead l p (isMarked marks) r noColumns (typesIn s));
         written = refl;
         so-far = refl;
         few = omega arith;
@@ -95,26 +97,26 @@ module _ {s : List ℕ} {l : RowLayout} {p : Bool} {r marks buf₀ buf : List �
   decode-size = rw (k .written, length-sets)
 
   -- no record is left
-  pub decode-end : length s ≤ at → Filled (readFrom l p (isMarked marks) r noColumns (typesIn s)) buf₀ (Answer.Done end) buf
+  pub decode-end : length s ≤ at → Filled (walkedRead l p (isMarked marks) r noColumns (typesIn s)) buf₀ (Answer.Done end) buf
   decode-end h =
       let n : b .«num_columns» ≡ length (typesIn s) = ahead-end (k .walk) h in
       let none : drop (b .«num_columns») (typesIn s) ≡ [] = drop-of-length-le (typesIn s) {i = b .«num_columns»} (omega (arith, n)) in
-      let all : values (k .done) ≡ readFrom l p (isMarked marks) r noColumns (typesIn s) = rw (none, append-nil) at (k .rest) in
+      let all : ok (k .done) ≡ walkedRead l p (isMarked marks) r noColumns (typesIn s) = rw (none, append-nil) at (k .rest) in
       subst (λ (vs : Values). Filled vs buf₀ (Answer.Done end) buf) all
       (ap Answer.Done (k .so-far), (k .written, rw (← k .so-far) (omega (arith, k .few, n, columns-all (d .framed .accepted), d .room))))
 
-  module _ (h : at < length s) {t : DataType} {next : ℕ} (e : recordAt s at ≡ Column t next) where
+  module _ (h : at < length s) {t : DataType} {next : ℕ} (e : columnRecordAt s at ≡ Column t next) where
     pub decode-room : end + 18 ≤ length buf
     decode-room = rw decode-size (omega (arith, k .few, ahead-inside (k .walk) h e, columns-all (d .framed .accepted), d .room))
 
     split : drop (b .«num_columns») (typesIn s) ≡ t ∷ drop (b .«num_columns» + 1) (typesIn s)
     split = ahead-split (k .walk) h e
 
-    module _ (res : Answer) (buf' : List ℕ) (x : ColumnRead) (is : wantedValue (isMarked marks (b .«num_columns»)) (columnValue l p b t r) ≡ x) (o : (res, buf') ≡ stepped buf end x) where
+    module _ (res : Answer) (buf' : List ℕ) (x : ColumnRead) (is : wantedValue (isMarked marks (b .«num_columns»)) (walkedColumn l p b t r) ≡ x) (o : (res, buf') ≡ stepped buf end x) where
       pub decode-more : {n : ℕ} → res ≡ Answer.Done n → Bounded (withColumn b (shapeOf t)) → Decoding s l p r marks buf₀ buf' (withColumn b (shapeOf t)) next n
       decode-more {n} f small = more x is o f
         where
-          more : (y : ColumnRead) → wantedValue (isMarked marks (b .«num_columns»)) (columnValue l p b t r) ≡ y → (res, buf') ≡ stepped buf end y → res ≡ Answer.Done n
+          more : (y : ColumnRead) → wantedValue (isMarked marks (b .«num_columns»)) (walkedColumn l p b t r) ≡ y → (res, buf') ≡ stepped buf end y → res ≡ Answer.Done n
               → Decoding s l p r marks buf₀ buf' (withColumn b (shapeOf t)) next n
           more (Refused q) i j g = absurd (subst IsDone (sym g ∙ ap (λ (z : Answer × List ℕ). z .0) j) tt)
           more (Value v) i j g =
@@ -123,20 +125,20 @@ module _ {s : List ℕ} {l : RowLayout} {p : Bool} {r marks buf₀ buf : List �
               record {
                 walk = ahead-more (k .walk) h e small;
                 done = k .done ++ (v ∷ []);
-                rest = prepend-next (k .done) v (readFrom l p (isMarked marks) r (withColumn b (shapeOf t)) (drop (b .«num_columns» + 1) (typesIn s))) ∙ rw (split, i) at (k .rest);
+                rest = prepend-next (k .done) v (walkedRead l p (isMarked marks) r (withColumn b (shapeOf t)) (drop (b .«num_columns» + 1) (typesIn s))) ∙ rw (split, i) at (k .rest);
                 written = c ∙ rw (k .written, k .so-far, list-one, sets-append, zero-add);
                 so-far = rw (m, k .so-far, list-one, length-append);
                 few = rw m (omega (arith, k .few, record-short v));
               }
 
-      pub decode-bad : {q : Refusal} → res ≡ Answer.Refused q → Filled (readFrom l p (isMarked marks) r noColumns (typesIn s)) buf₀ (Answer.Refused q) buf'
+      pub decode-bad : {q : Refusal} → res ≡ Answer.Refused q → Filled (walkedRead l p (isMarked marks) r noColumns (typesIn s)) buf₀ (Answer.Refused q) buf'
       decode-bad {q} f = bad x is o f
         where
-          bad : (y : ColumnRead) → wantedValue (isMarked marks (b .«num_columns»)) (columnValue l p b t r) ≡ y → (res, buf') ≡ stepped buf end y → res ≡ Answer.Refused q
-              → Filled (readFrom l p (isMarked marks) r noColumns (typesIn s)) buf₀ (Answer.Refused q) buf'
+          bad : (y : ColumnRead) → wantedValue (isMarked marks (b .«num_columns»)) (walkedColumn l p b t r) ≡ y → (res, buf') ≡ stepped buf end y → res ≡ Answer.Refused q
+              → Filled (walkedRead l p (isMarked marks) r noColumns (typesIn s)) buf₀ (Answer.Refused q) buf'
           bad (Value v) i j g = absurd (subst IsDone (sym (ap (λ (z : Answer × List ℕ). z .0) j) ∙ g) tt)
           bad (Refused u) i j g =
-              let all : refused u ≡ readFrom l p (isMarked marks) r noColumns (typesIn s) = rw (split, i) at (k .rest) in
+              let all : refused u ≡ walkedRead l p (isMarked marks) r noColumns (typesIn s) = rw (split, i) at (k .rest) in
               subst (λ (vs : Values). Filled vs buf₀ (Answer.Refused q) buf') all (sym g ∙ ap (λ (z : Answer × List ℕ). z .0) j)
 
 -- ---- a step of the walk: the column whose record stands at `at`
@@ -156,17 +158,17 @@ module _ {s : List ℕ} {l : RowLayout} {p : Bool} {r marks buf₀ buf : List �
       }
 
   abbrev here : ColumnRead
-  here = wantedValue (isMarked marks (b .«num_columns»)) (columnValue l p b (typeAt (typesIn s) (b .«num_columns»)) r)
+  here = wantedValue (isMarked marks (b .«num_columns»)) (walkedColumn l p b (typeAt (typesIn s) (b .«num_columns»)) r)
 
-  same : wantedValue (isMarked marks (b .«num_columns»)) (columnValue l p b (ahead-column (k .walk) h .ty) r) ≡ here
-  same = ap (λ (t : DataType). wantedValue (isMarked marks (b .«num_columns»)) (columnValue l p b t r)) (ahead-type (k .walk) h (ahead-column (k .walk) h .is))
+  same : wantedValue (isMarked marks (b .«num_columns»)) (walkedColumn l p b (ahead-column (k .walk) h .ty) r) ≡ here
+  same = ap (λ (t : DataType). wantedValue (isMarked marks (b .«num_columns»)) (walkedColumn l p b t r)) (ahead-type (k .walk) h (ahead-column (k .walk) h .is))
 
   module _ (res : Answer) (buf' : List ℕ) (o : (res, buf') ≡ stepped buf end here) where
-    pub decode-next : {n : ℕ} {q : Step} → res ≡ Answer.Done n → q ≡ passed at b (recordAt s at) → Bounded (q .before) → Decoding s l p r marks buf₀ buf' (q .before) (q .at) n
+    pub decode-next : {n : ℕ} {q : Step} → res ≡ Answer.Done n → q ≡ passed at b (columnRecordAt s at) → Bounded (q .before) → Decoding s l p r marks buf₀ buf' (q .before) (q .at) n
     decode-next {n} {q} f e small =
         let is = step-is (k .walk) h e in
         subst (λ (x : Step). Decoding s l p r marks buf₀ buf' (x .before) (x .at) n) (sym is)
         (decode-more d k h (ahead-column (k .walk) h .is) res buf' here same o f (subst (λ (x : Step). Bounded (x .before)) is small))
 
-    pub decode-refused : {e : Refusal} → res ≡ Answer.Refused e → Filled (readFrom l p (isMarked marks) r noColumns (typesIn s)) buf₀ (Answer.Refused e) buf'
+    pub decode-refused : {e : Refusal} → res ≡ Answer.Refused e → Filled (walkedRead l p (isMarked marks) r noColumns (typesIn s)) buf₀ (Answer.Refused e) buf'
     decode-refused f = decode-bad d k h (ahead-column (k .walk) h .is) res buf' here same o f

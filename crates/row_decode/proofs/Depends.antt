@@ -1,21 +1,19 @@
 -- A read depends on the header and on what its wanted columns depend on, and on no other byte of the row.
-use Prim.Native.Nat.{ℕ, _≤_}
-use mathlib.Core.Path.{_≡_, refl, ap, _∙_}
+use Prim.Native.Nat.{ℕ, zero, suc, _+_, _≤_}
+use mathlib.Core.Path.{_≡_, refl, ap, ap₂, _∙_}
 use mathlib.Core.Bool.{Bool, true, false}
-use mathlib.Core.List.{List, [], _∷_}
+use mathlib.Core.List.{List, map}
+use native.Mathlib.Omega.{arith}
 use lib.ListN.{length, take}
-use Rattle.error.specs.declared.Refusal.{Refusal}
 use Rattle.error.specs.Answer.{unchanged}
-use Rattle.row_layout.specs.declared.RowLayout.{RowLayout}
-use Rattle.row_layout.specs.Layout.{noColumns, withColumn, minimumOf}
+use Rattle.row_format.specs.Places.{minimum}
 use Rattle.datatype.specs.declared.DataType.{DataType}
 use Rattle.datatype.specs.Types.{shapeOf}
-use Rattle.datatype.specs.Check.{layoutFor}
 use Rattle.row_column.specs.declared.Frame.{Frame}
 use Rattle.row_column.specs.declared.Frame.the-variants as Frame
 use Rattle.row_column.specs.declared.ColumnRead.{ColumnRead}
 use Rattle.row_column.specs.Frame.{isPacked, frameOf, onFrame}
-use Rattle.row_column.specs.Column.{columnValue}
+use Rattle.row_column.proofs.Framing.{same-good}
 use Rattle.row_column.proofs.Depends.{column-depends, frame-depends}
 use Rattle.row_decode.specs.Read.{isWanted, wantedValue, onColumn, readFrom, handOut, readRow}
 use Rattle.row_decode.specs.Depends.{SameWanted}
@@ -24,22 +22,21 @@ same-wanted : (wanted : Bool) {c c' : ColumnRead} → (wanted ≡ true → c ≡
 same-wanted true h = h refl
 same-wanted false h = refl
 
-columns-depend : (l : RowLayout) (p : Bool) (wanted : ℕ → Bool) (r r' : List ℕ) (b : RowLayout) (ts : List DataType) → SameWanted l p wanted b ts r r' → readFrom l p wanted r b ts ≡ readFrom l p wanted r' b ts
-columns-depend l p wanted r r' b [] s = refl
-columns-depend l p wanted r r' b (t ∷ ts) s =
-    let next = withColumn b (shapeOf t) in
-    ap (λ (c : ColumnRead). onColumn c (readFrom l p wanted r next ts)) (same-wanted (wanted (b .«num_columns»)) (λ w. column-depends l p b t r r' (s .0 w)))
-    ∙ ap (onColumn (wantedValue (wanted (b .«num_columns»)) (columnValue l p b t r'))) (columns-depend l p wanted r r' next ts (s .1))
+columns-depend : (w : ℕ) (p : Bool) (ts : List DataType) (wanted : ℕ → Bool) (r r' : List ℕ)
+    → SameWanted w p ts wanted r r'
+    → (n i : ℕ) → i + n ≡ length ts → readFrom w p ts wanted r i n ≡ readFrom w p ts wanted r' i n
+columns-depend w p ts wanted r r' s zero i e = refl
+columns-depend w p ts wanted r r' s (suc n) i e =
+    ap₂ onColumn (same-wanted (wanted i) (λ a. column-depends w p ts i r r' (s i (omega arith) a)))
+    (columns-depend w p ts wanted r r' s n (suc i) (omega arith))
 
-same-good : {A : Type 0} (f : Frame) (bad : Refusal → A) {k k' : Bool → A} → ((p : Bool) → f ≡ Frame.Good p → k p ≡ k' p) → onFrame f bad k ≡ onFrame f bad k'
-same-good (Frame.Good p) bad h = h p refl
-same-good (Frame.Refused e) bad h = refl
-
-pub read-depends : (limit : ℕ) (ts : List DataType) (r r' ws out : List ℕ) → (let l = layoutFor ts in
-    take 4 r ≡ take 4 r' → length r ≤ limit → length r' ≤ limit → minimumOf l (isPacked r) ≤ length r → minimumOf l (isPacked r) ≤ length r'
-    → ((p : Bool) → frameOf limit l r ≡ Frame.Good p → SameWanted l p (isWanted ws) noColumns ts r r')
-    → readRow limit ts r ws out ≡ readRow limit ts r' ws out)
-read-depends limit ts r r' ws out e a a' m m' s =
-    let l = layoutFor ts in
-    same-good (frameOf limit l r) (unchanged out) (λ p g. ap (handOut out) (columns-depend l p (isWanted ws) r r' noColumns ts (s p g)))
-    ∙ ap (λ (f : Frame). onFrame f (unchanged out) (λ p. handOut out (readFrom l p (isWanted ws) r' noColumns ts))) (frame-depends limit l r r' e a a' m m')
+pub read-depends : (w limit : ℕ) (ts : List DataType) (r r' ws out : List ℕ) → take 4 r ≡ take 4 r'
+    → length r ≤ limit → length r' ≤ limit
+    → minimum w (isPacked r) (map shapeOf ts) ≤ length r → minimum w (isPacked r) (map shapeOf ts) ≤ length r'
+    → ((p : Bool) → frameOf w limit ts r ≡ Frame.Good p → SameWanted w p ts (isWanted ws) r r')
+    → readRow w limit ts r ws out ≡ readRow w limit ts r' ws out
+read-depends w limit ts r r' ws out e a a' m m' s =
+    same-good (frameOf w limit ts r) (unchanged out)
+    (λ p g. ap (handOut out) (columns-depend w p ts (isWanted ws) r r' (s p g) (length ts) 0 (omega arith)))
+    ∙ ap (λ (f : Frame). onFrame f (unchanged out) (λ p. handOut out (readFrom w p ts (isWanted ws) r' 0 (length ts))))
+    (frame-depends w limit ts r r' e a a' m m')

@@ -1,3 +1,4 @@
+pub mod Walk
 pub mod Marking
 pub mod Present
 pub mod Decoding

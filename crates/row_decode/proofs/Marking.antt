@@ -9,7 +9,7 @@ use lib.Dec.{eqb}
 use lib.ListN.{length, getD, set, drop, replicate, length-set, drop-of-length-le, length-replicate, getD-replicate}
 use lib.Seq.{drop-cons, getD-set-same, getD-set-other}
 use Rattle.row_decode.specs.Read.{isWanted}
-use Rattle.row_decode.specs.Marks.{marked, isMarked}
+use Rattle.row_decode.specs.InnerMarks.{marked, isMarked}
 
 pub marked-more : (m ws : List ℕ) (k : ℕ) → k < length ws → marked (set m (getD ws k 0) 1) (drop (k + 1) ws) ≡ marked m (drop k ws)
 marked-more m ws k h = rw (add-one, drop-cons ws k 0 h)

@@ -14,16 +14,17 @@ use Rattle.datatype.specs.declared.DataType.{DataType}
 use Rattle.datatype.specs.declared.DataType.the-variants.{Char, Character}
 use Rattle.datatype.specs.declared.Record.{Record}
 use Rattle.datatype.specs.declared.Record.the-variants as Record
-use Rattle.datatype.specs.Schema.{kindOf, recordAt}
-use Rattle.datatype.specs.Steps.{plainSize, plainType, typeIn}
+use Rattle.datatype.specs.Schema.{columnKind, columnRecordAt}
+use Rattle.datatype.specs.InnerSteps.{plainSize, plainType, typeIn}
 use Rattle.datatype.proofs.Plain.{Plain, plain-facts, plain-record}
 use Rattle.stored_form.specs.declared.SlotRead.{SlotRead}
 use Rattle.stored_form.specs.declared.SlotRead.the-variants as Slot
 use Rattle.stored_form.specs.Read.{readSlot}
-use Rattle.slot_record.specs.Record.{recorded}
+use Rattle.slot_record.specs.InnerRecord.{recorded}
 use Rattle.slot_record.proofs.Numbers.{part-length}
-use Rattle.row_column.specs.Column.{slotValue, columnValue, Reachable}
-use Rattle.row_decode.specs.Marks.{stepped}
+use Rattle.row_column.specs.Column.{slotValue}
+use Rattle.row_column.specs.InnerWalk.{walkedColumn, Reachable}
+use Rattle.row_decode.specs.InnerMarks.{stepped}
 
 -- a slot's record is the column's
 pub slot-stepped : (buf : List ℕ) (end i : ℕ) (x : SlotRead) → recorded buf end i x ≡ stepped buf end (slotValue i x)
@@ -38,15 +39,15 @@ pub as-char : {l : RowLayout} {p : Bool} {b : RowLayout} {n : ℕ} {r : List ℕ
 as-char q = record { whole = q .whole; before = q .before; digits = q .digits; column = q .column; table = q .table; rank = q .rank; slot = q .slot }
 
 -- a kind without a body, whose column takes z bytes from `start` on
-module _ (s : List ℕ) (at : ℕ) (l : RowLayout) (p : Bool) (b : RowLayout) (r : List ℕ) {t : DataType} {z start : ℕ} (typed : typeIn (recordAt s at) ≡ t) (some : z ≡ 0 → ⊥) (size : z ≡ plainSize (kindOf (getD s at 0)))
+module _ (s : List ℕ) (at : ℕ) (l : RowLayout) (p : Bool) (b : RowLayout) (r : List ℕ) {t : DataType} {z start : ℕ} (typed : typeIn (columnRecordAt s at) ≡ t) (some : z ≡ 0 → ⊥) (size : z ≡ plainSize (columnKind (getD s at 0)))
     (place : start ≡ fixedStart offsetWidth (l .«num_columns») (l .«num_varlen_cols») + startAt p z (sizeIn b p)) where
-  pub is-some : plainSize (kindOf (getD s at 0)) ≡ 0 → ⊥
+  pub is-some : plainSize (columnKind (getD s at 0)) ≡ 0 → ⊥
   is-some e = some (size ∙ e)
 
-  facts : Plain (kindOf (getD s at 0))
+  facts : Plain (columnKind (getD s at 0))
   facts = plain-facts (getD s at 0) is-some
 
-  here : t ≡ plainType (kindOf (getD s at 0))
+  here : t ≡ plainType (columnKind (getD s at 0))
   here = sym typed ∙ ap typeIn (plain-record s at is-some)
 
   pub plain-inside : Reachable l p b t r → start + z ≤ length r
@@ -55,9 +56,9 @@ module _ (s : List ℕ) (at : ℕ) (l : RowLayout) (p : Bool) (b : RowLayout) (r
       let h = rw (facts .aligned, facts .sized, ← size) at (q' .slot (facts .fixed)) in
       rw place h
 
-  pub plain-length : Reachable l p b t r → length (take (start + z - start) (drop start r)) ≡ plainSize (kindOf (getD s at 0))
+  pub plain-length : Reachable l p b t r → length (take (start + z - start) (drop start r)) ≡ plainSize (columnKind (getD s at 0))
   plain-length q = part-length r start (start + z) (omega arith) (plain-inside q) ∙ omega (arith, size)
 
   pub plain-column : eqb (bitAt (b .«num_columns») (drop bitmapStart r)) 1 ≡ false
-      → slotValue (b .«num_columns») (readSlot (plainType (kindOf (getD s at 0))) start (take (start + z - start) (drop start r))) ≡ columnValue l p b t r
+      → slotValue (b .«num_columns») (readSlot (plainType (columnKind (getD s at 0))) start (take (start + z - start) (drop start r))) ≡ walkedColumn l p b t r
   plain-column clear = rw (here, clear, facts .fixed, facts .aligned, facts .sized, ← size, ← place)

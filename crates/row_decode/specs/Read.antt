@@ -1,23 +1,23 @@
--- 01, Read: "1, 2, 4, 3 (four bytes), 5, 6, 3 (minimum), then 7 and 8 by rising column, 14". A read answers with a value list whose text area is the row itself.
-use Prim.Native.Nat.{ℕ}
+-- 01, Read: "1, 2, 4, 3 (four bytes), 5, 6, 3 (minimum), then 7 and 8 by rising column, 14". "A read answers with
+-- such a list whose text area is the row itself."
+use Prim.Native.Nat.{ℕ, zero, suc}
 use mathlib.Core.Bool.{Bool, true, false, cond}
 use mathlib.Core.List.{List, [], _∷_}
 use lib.Dec.{eqb}
+use lib.ListN.{length}
 use Rattle.error.specs.Answer.{Outcome, unchanged, placed}
-use Rattle.row_layout.specs.declared.RowLayout.{RowLayout}
-use Rattle.row_layout.specs.Layout.{noColumns, withColumn}
+use Rattle.error.specs.Result.{ok, refused, onResult, before}
 use Rattle.datatype.specs.declared.DataType.{DataType}
-use Rattle.datatype.specs.Types.{shapeOf}
 use Rattle.datatype.specs.Schema.{schemaOf}
-use Rattle.datatype.specs.Check.{onSchema, layoutFor}
 use Rattle.value.specs.declared.DataValue.the-variants.{Null}
-use Rattle.value_list.specs.Lists.{Values, values, refused, before, listOf}
+use Rattle.value_list.specs.Lists.{Values, listOf}
 use Rattle.row_column.specs.declared.ColumnRead.{ColumnRead}
 use Rattle.row_column.specs.declared.ColumnRead.the-variants.{Value, Refused}
 use Rattle.row_column.specs.Frame.{frameOf, onFrame}
 use Rattle.row_column.specs.Column.{columnValue}
 
--- whether a column is among the wanted ones, in "any order and length, repeats allowed"
+-- whether a column is among the wanted ones, whose numbers come in any order, and some more than once; "unknown
+-- column numbers ignored"
 abbrev pub isWanted : List ℕ → ℕ → Bool
 isWanted [] i = false
 isWanted (w ∷ ws) i = cond (eqb w i) true (isWanted ws i)
@@ -31,19 +31,23 @@ abbrev pub onColumn : ColumnRead → Values → Values
 onColumn (Value v) rest = before v rest
 onColumn (Refused e) rest = refused e
 
--- the columns of types ts that come after those of layout b, in a row r with layout l; `wanted` tells which are
-abbrev pub readFrom : RowLayout → Bool → (ℕ → Bool) → List ℕ → RowLayout → List DataType → Values
-readFrom l p wanted r b [] = values []
-readFrom l p wanted r b (t ∷ ts) = onColumn (wantedValue (wanted (b .«num_columns»)) (columnValue l p b t r)) (readFrom l p wanted r (withColumn b (shapeOf t)) ts)
+-- column i of a row r of columns ts, and the n columns from it on; `wanted` tells which are
+abbrev pub readFrom : ℕ → Bool → List DataType → (ℕ → Bool) → List ℕ → ℕ → ℕ → Values
+readFrom w p ts wanted r i zero = ok []
+readFrom w p ts wanted r i (suc n) =
+    onColumn (wantedValue (wanted i) (columnValue w p ts i r)) (readFrom w p ts wanted r (suc i) n)
 
 -- ---- the whole call: the answer, and the bytes of `out` afterwards
 
 abbrev pub handOut : List ℕ → Values → Outcome
-handOut out (values vs) = placed out (listOf vs)
+handOut out (ok vs) = placed out (listOf vs)
 handOut out (refused e) = unchanged out e
 
-abbrev pub readRow : ℕ → List DataType → List ℕ → List ℕ → List ℕ → Outcome
-readRow limit ts r ws out = onFrame (frameOf limit (layoutFor ts) r) (unchanged out) (λ p. handOut out (readFrom (layoutFor ts) p (isWanted ws) r noColumns ts))
+abbrev pub readRow : ℕ → ℕ → List DataType → List ℕ → List ℕ → List ℕ → Outcome
+readRow w limit ts r ws out =
+    onFrame (frameOf w limit ts r) (unchanged out)
+    (λ p. handOut out (readFrom w p ts (isWanted ws) r 0 (length ts)))
 
 abbrev pub readCall : ℕ → ℕ → List ℕ → List ℕ → List ℕ → List ℕ → Outcome
-readCall w limit schema r ws out = onSchema (schemaOf w limit schema) (unchanged out) (λ ts. readRow limit ts r ws out)
+readCall w limit schema r ws out = onResult (schemaOf w limit schema) (unchanged out)
+    (λ ts. readRow w limit ts r ws out)

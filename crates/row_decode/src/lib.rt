@@ -2,6 +2,7 @@
 // The records are written to a local buffer first, so that a refusal finds the output as it was.
 use datatype::Record;
 use datatype::SchemaCheck;
+use datatype::schema_kinds;
 use error::Answer;
 use error::Refusal;
 use row_column::ColumnRead;
@@ -15,14 +16,16 @@ ghost use lib.Dec.{eqb};
 ghost use lib.ListN.{length, set, drop};
 ghost use Rattle.laws.specs.Bits.{bitAt};
 ghost use Rattle.row_format.specs.Places.{offsetWidth, rowLimit, bitmapStart};
-ghost use Rattle.row_layout.specs.Layout.{noColumns};
-ghost use Rattle.row_layout.specs.Range.{rangeOf};
+ghost use Rattle.row_layout.specs.Range.{varlenRange};
+ghost use Rattle.row_layout.specs.InnerLayout.{noColumns};
 ghost use Rattle.datatype.specs.declared.DataType.the-variants.{Char as CharType, Varchar as VarcharType};
-ghost use Rattle.row_column.specs.Column.{readBytes, varlenValue, slotPlace, columnValue, Reachable, InRow};
-ghost use Rattle.row_decode.specs.Read.{isWanted, wantedValue, readFrom, handOut, readRow, readCall};
-ghost use Rattle.row_decode.specs.Marks.{marked, isMarked, stepped, Decodable, DecodeAt, Filled, Held, copiedOut};
-ghost use Rattle.datatype.specs.Check.{typeAt, typesIn, Accepted};
-ghost use Rattle.row_column.specs.Frame.{Framed};
+ghost use Rattle.row_column.specs.Column.{readBytes, varlenValue};
+ghost use Rattle.row_column.specs.InnerWalk.{walkedPlace, walkedColumn, Reachable, InRow, Framed};
+ghost use Rattle.row_decode.specs.Read.{isWanted, wantedValue, handOut, readRow, readCall};
+ghost use Rattle.row_decode.specs.InnerWalk.{walkedRead};
+ghost use Rattle.row_decode.specs.InnerMarks.{marked, isMarked, stepped, Decodable, DecodeAt, Filled, Held, copiedOut};
+ghost use Rattle.datatype.specs.Check.{typeAt, typesIn};
+ghost use Rattle.datatype.specs.InnerCheck.{Accepted};
 
 fn mark(marks: &mut [u8], column: usize)
     ensures { λ _. ⌜ now (marks .exit) ≡ set (now (marks .entry)) column 1 ⌝ }
@@ -82,7 +85,7 @@ fn decode_varchar(
     end: usize,
 ) -> Answer
     requires { ⌜ ((rank < varlens) × (table + varlens * offsetWidth ≤ length (now row))) × ((length (now row) ≤ 65535) × (end + 18 ≤ length (now buf))) ⌝ }
-    ensures { λ r. ⌜ (r, now (buf .exit)) ≡ stepped (now (buf .entry)) end (varlenValue (VarcharType n) i (now (row .entry)) (rangeOf table varlens rank (now (row .entry)))) ⌝ }
+    ensures { λ r. ⌜ (r, now (buf .exit)) ≡ stepped (now (buf .entry)) end (varlenValue (VarcharType n) i (now (row .entry)) (varlenRange offsetWidth table varlens rank (now (row .entry)))) ⌝ }
 {
     match row_layout::varlen_range(row, table, varlens, rank) {
         VarlenRange::Null => Answer::Done(value_list::write_null(buf, end)),
@@ -104,7 +107,7 @@ fn decode_char(
     end: usize,
 ) -> Answer
     requires { ⌜ Reachable layout packed before (CharType n) (now row) × ((length (now row) ≤ 65535) × (end + 18 ≤ length (now buf))) ⌝ }
-    ensures { λ r. ⌜ (r, now (buf .exit)) ≡ stepped (now (buf .entry)) end (readBytes (CharType n) (before .«num_columns») (now (row .entry)) (slotPlace layout packed before (CharType n)) (slotPlace layout packed before (CharType n) + n)) ⌝ }
+    ensures { λ r. ⌜ (r, now (buf .exit)) ≡ stepped (now (buf .entry)) end (readBytes (CharType n) (before .«num_columns») (now (row .entry)) (walkedPlace layout packed before (CharType n)) (walkedPlace layout packed before (CharType n) + n)) ⌝ }
 {
     let start = layout.fixed_data_start() + before.slot_start(packed, 1);
     slot_record::char_record(before.num_columns, row, start, start + n, buf, end)
@@ -122,7 +125,7 @@ fn decode_value(
     end: usize,
 ) -> Answer
     requires { ⌜ DecodeAt (now schema) at layout packed before (now row) (now buf) end ⌝ }
-    ensures { λ r. ⌜ (r, now (buf .exit)) ≡ stepped (now (buf .entry)) end (columnValue layout packed before (typeAt (typesIn (now (schema .entry))) (before .«num_columns»)) (now (row .entry))) ⌝ }
+    ensures { λ r. ⌜ (r, now (buf .exit)) ≡ stepped (now (buf .entry)) end (walkedColumn layout packed before (typeAt (typesIn (now (schema .entry))) (before .«num_columns»)) (now (row .entry))) ⌝ }
 {
     match datatype::record_at(schema, at) {
         Record::Refused(e) => Answer::Refused(e),
@@ -145,18 +148,18 @@ fn decode_body(
     end: usize,
 ) -> Answer
     requires { ⌜ DecodeAt (now schema) at layout packed before (now row) (now buf) end × (eqb (bitAt (before .«num_columns») (drop bitmapStart (now row))) 1 ≡ false) ⌝ }
-    ensures { λ r. ⌜ (r, now (buf .exit)) ≡ stepped (now (buf .entry)) end (columnValue layout packed before (typeAt (typesIn (now (schema .entry))) (before .«num_columns»)) (now (row .entry))) ⌝ }
+    ensures { λ r. ⌜ (r, now (buf .exit)) ≡ stepped (now (buf .entry)) end (walkedColumn layout packed before (typeAt (typesIn (now (schema .entry))) (before .«num_columns»)) (now (row .entry))) ⌝ }
 {
     match schema[at] {
-        9 => {
+        schema_kinds::CHAR => {
             let n = endian::read_u16(schema, at + 1) as usize;
             decode_char(n, layout, packed, before, row, buf, end)
         }
-        10 => {
+        schema_kinds::CHARACTER => {
             let n = endian::read_u16(schema, at + 1) as usize;
             decode_char(n, layout, packed, before, row, buf, end)
         }
-        11 => {
+        schema_kinds::VARCHAR => {
             let n = endian::read_u16(schema, at + 1) as usize;
             let table = layout.varlen_table_offset();
             decode_varchar(
@@ -186,7 +189,7 @@ fn decode_present(
     end: usize,
 ) -> Answer
     requires { ⌜ DecodeAt (now schema) at layout packed before (now row) (now buf) end × (eqb (bitAt (before .«num_columns») (drop bitmapStart (now row))) 1 ≡ false) ⌝ }
-    ensures { λ r. ⌜ (r, now (buf .exit)) ≡ stepped (now (buf .entry)) end (columnValue layout packed before (typeAt (typesIn (now (schema .entry))) (before .«num_columns»)) (now (row .entry))) ⌝ }
+    ensures { λ r. ⌜ (r, now (buf .exit)) ≡ stepped (now (buf .entry)) end (walkedColumn layout packed before (typeAt (typesIn (now (schema .entry))) (before .«num_columns»)) (now (row .entry))) ⌝ }
 {
     let kind = schema[at];
     let size = datatype::plain_size(kind);
@@ -211,13 +214,13 @@ fn decode_column(
     end: usize,
 ) -> Answer
     requires { ⌜ DecodeAt (now schema) at layout packed before (now row) (now buf) end × (length (now marks) ≡ 256) ⌝ }
-    ensures { λ r. ⌜ (r, now (buf .exit)) ≡ stepped (now (buf .entry)) end (wantedValue (isMarked (now (marks .entry)) (before .«num_columns»)) (columnValue layout packed before (typeAt (typesIn (now (schema .entry))) (before .«num_columns»)) (now (row .entry)))) ⌝ }
+    ensures { λ r. ⌜ (r, now (buf .exit)) ≡ stepped (now (buf .entry)) end (wantedValue (isMarked (now (marks .entry)) (before .«num_columns»)) (walkedColumn layout packed before (typeAt (typesIn (now (schema .entry))) (before .«num_columns»)) (now (row .entry)))) ⌝ }
 {
     let i = before.num_columns;
     if marks[i] != 1 {
         return Answer::Done(value_list::write_null(buf, end));
     }
-    if null_bitmap::bit_is_set(&row[4..], i) {
+    if null_bitmap::column_bit_is_set(row, i) {
         return Answer::Done(value_list::write_null(buf, end));
     }
     decode_present(schema, at, layout, packed, before, row, buf, end)
@@ -233,7 +236,7 @@ fn decode_columns(
     buf: &mut [u8],
 ) -> Answer
     requires { ⌜ Decodable (now schema) layout packed (now row) (now marks) (now buf) ⌝ }
-    ensures { λ r. ⌜ Filled (readFrom layout packed (isMarked (now (marks .entry))) (now (row .entry)) noColumns (typesIn (now (schema .entry)))) (now (buf .entry)) r (now (buf .exit)) ⌝ }
+    ensures { λ r. ⌜ Filled (walkedRead layout packed (isMarked (now (marks .entry))) (now (row .entry)) noColumns (typesIn (now (schema .entry)))) (now (buf .entry)) r (now (buf .exit)) ⌝ }
 {
     let mut before = RowLayout::new();
     let mut at = 0;
@@ -263,7 +266,7 @@ fn decode_short(
     out: &mut [u8],
 ) -> Answer
     requires { ⌜ Framed (now schema) layout packed (now row) × ((length (now marks) ≡ 256) × (layout .«num_columns» ≤ 32)) ⌝ }
-    ensures { λ r. ⌜ (r, now (out .exit)) ≡ handOut (now (out .entry)) (readFrom layout packed (isMarked (now (marks .entry))) (now (row .entry)) noColumns (typesIn (now (schema .entry)))) ⌝ }
+    ensures { λ r. ⌜ (r, now (out .exit)) ≡ handOut (now (out .entry)) (walkedRead layout packed (isMarked (now (marks .entry))) (now (row .entry)) noColumns (typesIn (now (schema .entry)))) ⌝ }
 {
     let mut buf = [0; 576];
     let answer = decode_columns(schema, layout, packed, row, marks, &mut buf);
@@ -279,7 +282,7 @@ fn decode_long(
     out: &mut [u8],
 ) -> Answer
     requires { ⌜ Framed (now schema) layout packed (now row) × ((length (now marks) ≡ 256) × (layout .«num_columns» ≤ 256)) ⌝ }
-    ensures { λ r. ⌜ (r, now (out .exit)) ≡ handOut (now (out .entry)) (readFrom layout packed (isMarked (now (marks .entry))) (now (row .entry)) noColumns (typesIn (now (schema .entry)))) ⌝ }
+    ensures { λ r. ⌜ (r, now (out .exit)) ≡ handOut (now (out .entry)) (walkedRead layout packed (isMarked (now (marks .entry))) (now (row .entry)) noColumns (typesIn (now (schema .entry)))) ⌝ }
 {
     let mut buf = [0; 4608];
     let answer = decode_columns(schema, layout, packed, row, marks, &mut buf);
@@ -296,9 +299,9 @@ fn decode_values(
     out: &mut [u8],
 ) -> Answer
     requires { ⌜ Framed (now schema) layout packed (now row) ⌝ }
-    ensures { λ r. ⌜ (r, now (out .exit)) ≡ handOut (now (out .entry)) (readFrom layout packed (isWanted (now (wanted .entry))) (now (row .entry)) noColumns (typesIn (now (schema .entry)))) ⌝ }
+    ensures { λ r. ⌜ (r, now (out .exit)) ≡ handOut (now (out .entry)) (walkedRead layout packed (isWanted (now (wanted .entry))) (now (row .entry)) noColumns (typesIn (now (schema .entry)))) ⌝ }
 {
-    let mut marks = [0; 256];
+    let mut marks = [0; RowLayout::COLUMN_LIMIT];
     mark_wanted(&mut marks, wanted);
     if layout.num_columns <= 32 {
         return decode_short(schema, layout, packed, row, &marks, out);
@@ -314,7 +317,7 @@ fn decode_row(
     out: &mut [u8],
 ) -> Answer
     requires { ⌜ Accepted (now schema) layout ⌝ }
-    ensures { λ r. ⌜ (r, now (out .exit)) ≡ readRow rowLimit (typesIn (now (schema .entry))) (now (row .entry)) (now (wanted .entry)) (now (out .entry)) ⌝ }
+    ensures { λ r. ⌜ (r, now (out .exit)) ≡ readRow offsetWidth rowLimit (typesIn (now (schema .entry))) (now (row .entry)) (now (wanted .entry)) (now (out .entry)) ⌝ }
 {
     match row_column::check_frame(layout, row) {
         Frame::Refused(e) => Answer::Refused(e),

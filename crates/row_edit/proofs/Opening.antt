@@ -8,20 +8,19 @@ use lib.Dec.{leb, ltb}
 use lib.ListN.{length, getD, take}
 use Rattle.error.specs.declared.Refusal.{Refusal}
 use Rattle.error.specs.declared.Refusal.the-variants.{NoSuchColumn, NoRoom, NotSound, WrongKind, Unsuitable}
-use Rattle.error.specs.declared.Answer.the-variants as Answer
-use Rattle.error.specs.Answer.{Outcome, unchanged}
-use Rattle.row_format.specs.Places.{rowLimit}
+use Rattle.error.specs.Result.{Result, ok, refused, onResult}
+use Rattle.row_format.specs.Places.{offsetWidth, rowLimit}
 use Rattle.row_layout.specs.declared.RowLayout.{RowLayout}
 use Rattle.datatype.specs.declared.DataType.{DataType}
-use Rattle.datatype.specs.Check.{typesIn, Accepted}
+use Rattle.datatype.specs.Check.{typesIn}
+use Rattle.datatype.specs.InnerCheck.{Accepted}
 use Rattle.value.specs.declared.DataValue.{DataValue}
 use Rattle.value.specs.declared.DataValue.the-variants.{Null}
 use Rattle.value.specs.Kinds.{matches}
-use Rattle.value_list.specs.Lists.{Values, values, checked}
+use Rattle.value_list.specs.Lists.{Values, checked}
 use Rattle.stored_form.specs.Write.{accepted}
-use Rattle.row_build.specs.Stored.{Tested, good, storedIn}
-use Rattle.row_build.specs.Build.{onValues}
-use Rattle.row_patch.specs.Stores.{formOf}
+use Rattle.row_build.specs.Stored.{storedIn}
+use Rattle.row_patch.specs.InnerStores.{formOf}
 use Rattle.row_column.specs.declared.Frame.{Frame}
 use Rattle.row_column.specs.declared.Frame.the-variants.{Good, Refused}
 use Rattle.row_column.specs.Frame.{onFrame}
@@ -29,34 +28,16 @@ use Rattle.row_sound.specs.declared.Soundness.{Soundness}
 use Rattle.row_sound.specs.declared.Soundness.the-variants as Row
 use Rattle.row_sound.specs.Sound.{soundness}
 use Rattle.row_sound.proofs.Rows.{told-row}
-use Rattle.row_edit.specs.Edit.{onSound, onRow, given}
-use Rattle.row_edit.specs.Opened.{opening, Opened}
+use Rattle.row_edit.specs.Edit.{onSound, opening, given}
+use Rattle.row_edit.specs.InnerOpened.{Opened}
 
-module _ (limit : ℕ) (ts : List DataType) (buf : List ℕ) (n i : ℕ) where
-  -- the tests as one answer
-  by-opening : (k : Bool → Outcome) → cond (ltb (length buf) n) (unchanged buf NoRoom) (onRow limit ts (take n buf) i (unchanged buf) k) ≡ onFrame (opening limit ts buf n i) (unchanged buf) k
-  by-opening k = by-length (ltb (length buf) n)
-    where
-      by-column : (p y : Bool) → cond y (unchanged buf NoSuchColumn) (k p) ≡ onFrame (cond y (Refused NoSuchColumn) (Good p)) (unchanged buf) k
-      by-column p true = refl
-      by-column p false = refl
+-- a call behind the opening of its row
+module _ {f : Frame} {A : Type 0} (bad : Refusal → A) (k : Bool → A) where
+  pub opened-refused : {e : Refusal} → f ≡ Refused e → bad e ≡ onFrame f bad k
+  opened-refused g = sym (ap (λ (x : Frame). onFrame x bad k) g)
 
-      by-sound : (x : Soundness) → onSound x (unchanged buf NotSound) (λ p. cond (leb (length ts) i) (unchanged buf NoSuchColumn) (k p))
-          ≡ onFrame (onSound x (Refused NotSound) (λ p. cond (leb (length ts) i) (Refused NoSuchColumn) (Good p))) (unchanged buf) k
-      by-sound (Row.Sound p) = by-column p (leb (length ts) i)
-      by-sound Row.NotSound = refl
-
-      by-length : (y : Bool) → cond y (unchanged buf NoRoom) (onRow limit ts (take n buf) i (unchanged buf) k)
-          ≡ onFrame (cond y (Refused NoRoom) (onSound (soundness limit ts (take n buf)) (Refused NotSound) (λ p. cond (leb (length ts) i) (Refused NoSuchColumn) (Good p)))) (unchanged buf) k
-      by-length true = refl
-      by-length false = by-sound (soundness limit ts (take n buf))
-
-  module _ (k : Bool → Outcome) where
-    pub opened-refused : {e : Refusal} → opening limit ts buf n i ≡ Refused e → (Answer.Refused e, buf) ≡ cond (ltb (length buf) n) (unchanged buf NoRoom) (onRow limit ts (take n buf) i (unchanged buf) k)
-    opened-refused f = sym (by-opening k ∙ ap (λ (x : Frame). onFrame x (unchanged buf) k) f)
-
-    pub opened-good : {p : Bool} → opening limit ts buf n i ≡ Good p → k p ≡ cond (ltb (length buf) n) (unchanged buf NoRoom) (onRow limit ts (take n buf) i (unchanged buf) k)
-    opened-good f = sym (by-opening k ∙ ap (λ (x : Frame). onFrame x (unchanged buf) k) f)
+  pub opened-good : {p : Bool} → f ≡ Good p → k p ≡ onFrame f bad k
+  opened-good g = sym (ap (λ (x : Frame). onFrame x bad k) g)
 
 abbrev IsGood : Frame → Type 0
 IsGood (Good p) = Unit {0}
@@ -68,56 +49,56 @@ flagIn (Refused e) = false
 
 -- ---- each outcome of the tests
 
-module _ (limit : ℕ) (ts : List DataType) (buf : List ℕ) (n i : ℕ) where
-  pub open-short : length buf < n → Refused NoRoom ≡ opening limit ts buf n i
+module _ (w limit : ℕ) (ts : List DataType) (buf : List ℕ) (n i : ℕ) where
+  pub open-short : length buf < n → Refused NoRoom ≡ opening w limit ts buf n i
   open-short h = sym (rw (lt-ltb (length buf) n h))
 
   module _ (h : n ≤ length buf) where
-    pub open-unsound : soundness limit ts (take n buf) ≡ Row.NotSound → Refused NotSound ≡ opening limit ts buf n i
+    pub open-unsound : soundness w limit ts (take n buf) ≡ Row.NotSound → Refused NotSound ≡ opening w limit ts buf n i
     open-unsound e = sym (rw (le-ltb (length buf) n h) (ap (λ (x : Soundness). onSound x (Refused NotSound) (λ p. cond (leb (length ts) i) (Refused NoSuchColumn) (Good p))) e))
 
-    module _ {p : Bool} (e : soundness limit ts (take n buf) ≡ Row.Sound p) where
-      on-column : cond (leb (length ts) i) (Refused NoSuchColumn) (Good p) ≡ opening limit ts buf n i
+    module _ {p : Bool} (e : soundness w limit ts (take n buf) ≡ Row.Sound p) where
+      on-column : cond (leb (length ts) i) (Refused NoSuchColumn) (Good p) ≡ opening w limit ts buf n i
       on-column = sym (rw (le-ltb (length buf) n h) (ap (λ (x : Soundness). onSound x (Refused NotSound) (λ q. cond (leb (length ts) i) (Refused NoSuchColumn) (Good q))) e))
 
-      pub open-none : length ts ≤ i → Refused NoSuchColumn ≡ opening limit ts buf n i
+      pub open-none : length ts ≤ i → Refused NoSuchColumn ≡ opening w limit ts buf n i
       open-none k = sym (ap (λ (y : Bool). cond y (Refused NoSuchColumn) (Good p)) (le-leb (length ts) i k)) ∙ on-column
 
-      pub open-good : i < length ts → Good p ≡ opening limit ts buf n i
+      pub open-good : i < length ts → Good p ≡ opening w limit ts buf n i
       open-good k = sym (ap (λ (y : Bool). cond y (Refused NoSuchColumn) (Good p)) (lt-leb (length ts) i k)) ∙ on-column
 
 -- ---- the value
 
 module _ (limit : ℕ) (t : DataType) (i : ℕ) (list area : List ℕ) where
-  pub given-one : {v : DataValue} → checked limit 1 (length area) list ≡ values (v ∷ []) → given limit t i list area ≡ storedIn i t v area
-  given-one e = ap (λ (q : Values). onValues q Tested.refused (λ vs. storedIn i t (getD vs 0 Null) area)) e
+  pub given-one : {v : DataValue} → checked limit 1 (length area) list ≡ ok (v ∷ []) → given limit t i list area ≡ storedIn i t v area
+  given-one e = ap (λ (q : Values). onResult q refused (λ vs. storedIn i t (getD vs 0 Null) area)) e
 
-  pub given-none : {r : Refusal} → checked limit 1 (length area) list ≡ Values.refused r → given limit t i list area ≡ Tested.refused r
-  given-none e = ap (λ (q : Values). onValues q Tested.refused (λ vs. storedIn i t (getD vs 0 Null) area)) e
+  pub given-none : {r : Refusal} → checked limit 1 (length area) list ≡ refused r → given limit t i list area ≡ refused r
+  given-none e = ap (λ (q : Values). onResult q refused (λ vs. storedIn i t (getD vs 0 Null) area)) e
 
 module _ (i : ℕ) (t : DataType) (v : DataValue) (area : List ℕ) where
-  pub kind-bad : matches t v ≡ false → storedIn i t v area ≡ Tested.refused (WrongKind i)
+  pub kind-bad : matches t v ≡ false → storedIn i t v area ≡ refused (WrongKind i)
   kind-bad e = rw e
 
-  pub suit-bad : matches t v ≡ true → accepted t v area ≡ false → storedIn i t v area ≡ Tested.refused (Unsuitable i)
+  pub suit-bad : matches t v ≡ true → accepted t v area ≡ false → storedIn i t v area ≡ refused (Unsuitable i)
   suit-bad e f = rw (e, f)
 
-  pub suit-good : matches t v ≡ true → accepted t v area ≡ true → storedIn i t v area ≡ good (formOf t v area)
+  pub suit-good : matches t v ≡ true → accepted t v area ≡ true → storedIn i t v area ≡ ok (formOf t v area)
   suit-good e f = rw (e, f)
 
 -- a row that was opened
-pub opened-row : {s : List ℕ} {l : RowLayout} {buf : List ℕ} {n i : ℕ} {p : Bool} → Accepted s l → opening rowLimit (typesIn s) buf n i ≡ Good p → Opened s l p buf n i
+pub opened-row : {s : List ℕ} {l : RowLayout} {buf : List ℕ} {n i : ℕ} {p : Bool} → Accepted s l → opening offsetWidth rowLimit (typesIn s) buf n i ≡ Good p → Opened s l p buf n i
 opened-row {s} {l} {buf} {n} {i} {p} a f = by-length (ltb (length buf) n) refl f
   where
-    by-column : (q y : Bool) → n ≤ length buf → soundness rowLimit (typesIn s) (take n buf) ≡ Row.Sound q → leb (length (typesIn s)) i ≡ y → cond y (Refused NoSuchColumn) (Good q) ≡ Good p → Opened s l p buf n i
+    by-column : (q y : Bool) → n ≤ length buf → soundness offsetWidth rowLimit (typesIn s) (take n buf) ≡ Row.Sound q → leb (length (typesIn s)) i ≡ y → cond y (Refused NoSuchColumn) (Good q) ≡ Good p → Opened s l p buf n i
     by-column q true h t e g = absurd (subst IsGood (sym g) tt)
     by-column q false h t e g =
-        subst (λ (x : Bool). Opened s l x buf n i) (ap flagIn g) (record { accepted = a; inside = h; row = told-row rowLimit (typesIn s) (take n buf) t; column = leb-false (length (typesIn s)) i e })
+        subst (λ (x : Bool). Opened s l x buf n i) (ap flagIn g) (record { accepted = a; inside = h; row = told-row offsetWidth rowLimit (typesIn s) (take n buf) t; column = leb-false (length (typesIn s)) i e })
 
-    by-sound : (x : Soundness) → n ≤ length buf → soundness rowLimit (typesIn s) (take n buf) ≡ x → onSound x (Refused NotSound) (λ q. cond (leb (length (typesIn s)) i) (Refused NoSuchColumn) (Good q)) ≡ Good p → Opened s l p buf n i
+    by-sound : (x : Soundness) → n ≤ length buf → soundness offsetWidth rowLimit (typesIn s) (take n buf) ≡ x → onSound x (Refused NotSound) (λ q. cond (leb (length (typesIn s)) i) (Refused NoSuchColumn) (Good q)) ≡ Good p → Opened s l p buf n i
     by-sound (Row.Sound q) h t g = by-column q (leb (length (typesIn s)) i) h t refl g
     by-sound Row.NotSound h t g = absurd (subst IsGood (sym g) tt)
 
-    by-length : (y : Bool) → ltb (length buf) n ≡ y → cond y (Refused NoRoom) (onSound (soundness rowLimit (typesIn s) (take n buf)) (Refused NotSound) (λ q. cond (leb (length (typesIn s)) i) (Refused NoSuchColumn) (Good q))) ≡ Good p → Opened s l p buf n i
+    by-length : (y : Bool) → ltb (length buf) n ≡ y → cond y (Refused NoRoom) (onSound (soundness offsetWidth rowLimit (typesIn s) (take n buf)) (Refused NotSound) (λ q. cond (leb (length (typesIn s)) i) (Refused NoSuchColumn) (Good q))) ≡ Good p → Opened s l p buf n i
     by-length true e g = absurd (subst IsGood (sym g) tt)
-    by-length false e g = by-sound (soundness rowLimit (typesIn s) (take n buf)) (ltb-false (length buf) n e) refl g
+    by-length false e g = by-sound (soundness offsetWidth rowLimit (typesIn s) (take n buf)) (ltb-false (length buf) n e) refl g

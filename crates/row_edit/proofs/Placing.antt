@@ -8,11 +8,11 @@ use Rattle.error.specs.declared.Refusal.the-variants.{RowLimit, NoRoom}
 use Rattle.error.specs.declared.Answer.the-variants.{Done, Refused}
 use Rattle.laws.proofs.Stores.{sets-start}
 use Rattle.row_build.specs.Build.{rowPlaced}
-use Rattle.row_patch.specs.Held.{Holds}
-use Rattle.row_edit.specs.Edit.{held}
+use Rattle.row_patch.specs.InnerHeld.{Holds}
+use Rattle.row_edit.specs.Edit.{rowStored}
 
 module _ (buf r : List ℕ) where
-  pub holding : (q : List ℕ) (m : ℕ) → Holds buf r q m → length r ≤ length buf → (Done m, q) ≡ held buf r
+  pub holding : (q : List ℕ) (m : ℕ) → Holds buf r q m → length r ≤ length buf → (Done m, q) ≡ rowStored buf r
   holding q m h room = rw (h .0, h .1, sets-start buf r room)
 
   module _ (limit : ℕ) where

@@ -11,24 +11,23 @@ use Rattle.laws.specs.Bytes.{entryAt, splice}
 use Rattle.laws.proofs.Bytes.{same-length-splice}
 use Rattle.row_format.specs.Places.{tableStart, fixedStart, offsetWidth, rowLimit}
 use Rattle.row_format.specs.Table.{Cell, bytes, orElse, rangeEnd}
-use Rattle.row_format.specs.Edit.{rangeStart, rangeEdit, slotEdit, editedRow}
-use Rattle.row_format.specs.Rising.{Between}
+use Rattle.row_format.specs.Edit.{offsetTable, span, rangeStart, rangeEdit, slotEdit, editedRow}
+use Rattle.row_format.specs.InnerRising.{Between}
 use Rattle.row_format.proofs.Edit.{length-bit-edit, length-range-edit}
 use Rattle.row_layout.specs.declared.RowLayout.{RowLayout}
-use Rattle.row_layout.specs.Layout.{minimumOf}
+use Rattle.row_layout.specs.InnerLayout.{minimumOf}
 use Rattle.datatype.specs.declared.DataType.{DataType}
 use Rattle.datatype.specs.Types.{sizeOf, isVarlen, shapeOf}
 use Rattle.datatype.specs.Check.{layoutFor, typesIn}
 use Rattle.row_column.specs.declared.Column.{Column}
-use Rattle.row_column.specs.declared.Frame.the-variants.{Good}
-use Rattle.row_column.specs.Frame.{frameOf, Framed}
-use Rattle.row_column.specs.Column.{slotPlace, Found, Reachable}
+use Rattle.row_column.specs.InnerWalk.{walkedPlace, Found, Framed, Reachable}
+use Rattle.row_column.proofs.Walk.{minimum-walked, frame-walked}
 use Rattle.row_column.proofs.Framing.{framed}
 use Rattle.row_column.proofs.Reach.{reach}
 use Rattle.row_sound.proofs.Columns.{sound-ranges}
-use Rattle.row_patch.specs.Stores.{columnSet, rowSet, Editable}
+use Rattle.row_patch.specs.InnerStores.{columnSet, rowSet, change, Editable}
 use Rattle.row_patch.proofs.Edited.{row-edited}
-use Rattle.row_edit.specs.Opened.{Opened, RangeAt}
+use Rattle.row_edit.specs.InnerOpened.{Opened, RangeAt}
 
 or-else : (x y : ℕ) → (x ≡ 0 → ⊥) → orElse x y ≡ x
 or-else zero y h = absurd (h refl)
@@ -47,11 +46,11 @@ module _ {s : List ℕ} {l : RowLayout} {p : Bool} {buf : List ℕ} {n i : ℕ} 
   row-size = length-take-le n buf (o .inside)
 
   pub framed-row : Framed s l p (take n buf)
-  framed-row = framed (o .accepted) (subst (λ (k : RowLayout). frameOf rowLimit k (take n buf) ≡ Good p) (o .accepted .layout) (o .row .frame))
+  framed-row = framed (o .accepted) (sym (frame-walked rowLimit (typesIn s) (take n buf) (o .accepted .layout)) ∙ o .row .frame)
 
   between : (k : ℕ) → k < l .«num_varlen_cols» → Between offsetWidth (tableStart (l .«num_columns»)) (l .«num_varlen_cols») k (minimumOf l p) (take n buf)
   between = subst (λ (m : RowLayout). (k : ℕ) → k < m .«num_varlen_cols» → Between offsetWidth (tableStart (m .«num_columns»)) (m .«num_varlen_cols») k (minimumOf m p) (take n buf)) (o .accepted .layout)
-      (sound-ranges p (typesIn s) (take n buf) (o .row .sound))
+      (rw (minimum-walked (typesIn s) p) at (sound-ranges p (typesIn s) (take n buf) (o .row .sound)))
 
   module _ {c : Column} (f : Found s i c) where
     pub reaches : Reachable l p (c .before) (c .ty) (take n buf)
@@ -70,10 +69,10 @@ module _ {s : List ℕ} {l : RowLayout} {p : Bool} {buf : List ℕ} {n i : ℕ} 
           let y = q v .1 in
           record { behind = omega (arith, b .past, x); rises = omega (arith, b .rises, x, y); within = omega (arith, b .within, y, row-size) }
 
-      pub edited-is : (x : Cell) → rowSet l p (c .before) (c .ty) a e x (take n buf) ≡ editedRow offsetWidth p (map shapeOf (typesIn s)) i x (take n buf)
+      pub edited-is : (x : Cell) → rowSet l p (c .before) (c .ty) (span a e) x (take n buf) ≡ editedRow offsetWidth p (map shapeOf (typesIn s)) i x (take n buf)
       edited-is x = row-edited (typesIn s) p i x (take n buf) a e (sym (o .accepted .layout)) (f .layout) (f .type-is) (o .column) q
 
-      pub ready : (z : ℕ) → (isVarlen (c .ty) ≡ true → (a + z + (n - e) ≤ rowLimit) × (a + z + (n - e) ≤ length buf)) → Editable l p (c .before) (c .ty) n a e z buf
+      pub ready : (z : ℕ) → (isVarlen (c .ty) ≡ true → (a + z + (n - e) ≤ rowLimit) × (a + z + (n - e) ≤ length buf)) → Editable l p (c .before) (c .ty) (change n a e z) buf
       ready z m =
           record {
             reach = reaches;
@@ -95,20 +94,20 @@ module _ {s : List ℕ} {l : RowLayout} {p : Bool} {buf : List ℕ} {n i : ℕ} 
                 };
           }
 
-      pub length-varlen : (v : isVarlen (c .ty) ≡ true) (x : Cell) → length (rowSet l p (c .before) (c .ty) a e x (take n buf)) ≡ a + length (bytes x) + (n - e)
+      pub length-varlen : (v : isVarlen (c .ty) ≡ true) (x : Cell) → length (rowSet l p (c .before) (c .ty) (span a e) x (take n buf)) ≡ a + length (bytes x) + (n - e)
       length-varlen v x =
           let h = range-in v in
           let t = tableStart (l .«num_columns») in
           let k = c .before .«num_varlen_cols» in
-          rw (length-bit-edit (c .before .«num_columns») x (columnSet l p (c .before) (c .ty) a e x (take n buf)), v)
+          rw (length-bit-edit (c .before .«num_columns») x (columnSet l p (c .before) (c .ty) (span a e) x (take n buf)), v)
           (length-range-edit offsetWidth t (l .«num_varlen_cols») k x a e (take n buf) (reaches .rank v) (h .behind) (h .rises) (rw row-size (h .within))
           ∙ rw row-size (omega (arith, h .rises, h .within)))
 
       module _ (v : isVarlen (c .ty) ≡ false) where
-        pub length-fixed : (b : List ℕ) → length b ≡ sizeOf (c .ty) → length (rowSet l p (c .before) (c .ty) a e (some b) (take n buf)) ≡ n
+        pub length-fixed : (b : List ℕ) → length b ≡ sizeOf (c .ty) → length (rowSet l p (c .before) (c .ty) (span a e) (some b) (take n buf)) ≡ n
         length-fixed b d =
-            rw (length-bit-edit (c .before .«num_columns») (some b) (columnSet l p (c .before) (c .ty) a e (some b) (take n buf)), v)
-            (same-length-splice (slotPlace l p (c .before) (c .ty)) (slotPlace l p (c .before) (c .ty) + sizeOf (c .ty)) b (take n buf) (ap (λ (z : ℕ). slotPlace l p (c .before) (c .ty) + z) d) (reaches .slot v) ∙ row-size)
+            rw (length-bit-edit (c .before .«num_columns») (some b) (columnSet l p (c .before) (c .ty) (span a e) (some b) (take n buf)), v)
+            (same-length-splice (walkedPlace l p (c .before) (c .ty)) (walkedPlace l p (c .before) (c .ty) + sizeOf (c .ty)) b (take n buf) (ap (λ (z : ℕ). walkedPlace l p (c .before) (c .ty) + z) d) (reaches .slot v) ∙ row-size)
 
-        pub length-null : length (rowSet l p (c .before) (c .ty) a e none (take n buf)) ≡ n
-        length-null = rw (length-bit-edit (c .before .«num_columns») none (columnSet l p (c .before) (c .ty) a e none (take n buf)), v) row-size
+        pub length-null : length (rowSet l p (c .before) (c .ty) (span a e) none (take n buf)) ≡ n
+        length-null = rw (length-bit-edit (c .before .«num_columns») none (columnSet l p (c .before) (c .ty) (span a e) none (take n buf)), v) row-size

@@ -1,2 +1,2 @@
 pub mod Edit
-pub mod Opened
+pub mod InnerOpened

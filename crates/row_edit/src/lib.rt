@@ -14,18 +14,22 @@ ghost use mathlib.Core.Bool.{true, false};
 ghost use mathlib.Core.Option.{none, some};
 ghost use Prim.Native.Nat.{_≤_, _<_};
 ghost use lib.ListN.{length};
+ghost use Rattle.row_layout.specs.InnerLayout.{Bounded};
 ghost use Rattle.row_format.specs.Places.{offsetWidth, rowLimit, fixedStart};
-ghost use Rattle.row_layout.specs.Layout.{Bounded};
 ghost use Rattle.datatype.specs.Types.{isVarlen};
-ghost use Rattle.datatype.specs.Check.{typeAt, typesIn, Accepted};
-ghost use Rattle.value_list.specs.Lists.{answer, checked};
+ghost use Rattle.datatype.specs.Check.{typeAt, typesIn};
+ghost use Rattle.datatype.specs.InnerCheck.{Accepted};
+ghost use Rattle.value_list.specs.Lists.{checked};
 ghost use Rattle.value_list.specs.declared.ListCheck.the-variants.{Good};
+ghost use Rattle.value_list.specs.InnerLists.{answer};
 ghost use Rattle.row_build.specs.Stored.{storedIn};
 ghost use Rattle.row_build.specs.Build.{rowPlaced};
-ghost use Rattle.row_column.specs.Column.{Found};
-ghost use Rattle.row_patch.specs.Stores.{formOf, Suited};
-ghost use Rattle.row_edit.specs.Edit.{setCall, setNullCall, edited, held, given};
-ghost use Rattle.row_edit.specs.Opened.{opening, written, setIn, setNullIn, Opened, RangeAt};
+ghost use Rattle.error.specs.Answer.{unchanged};
+ghost use Rattle.row_column.specs.Frame.{onFrame};
+ghost use Rattle.row_column.specs.InnerWalk.{Found};
+ghost use Rattle.row_patch.specs.InnerStores.{formOf, Suited};
+ghost use Rattle.row_edit.specs.Edit.{opening, written, edited, rowStored, given, setCall, setNullCall};
+ghost use Rattle.row_edit.specs.InnerOpened.{Opened, RangeAt};
 
 // The range of a Varchar. That of a null is empty and stands where its text would.
 struct Range {
@@ -89,7 +93,7 @@ fn set_varlen(
     let end = range.end;
     let kept = start + (n - end);
     let text = value.range();
-    if 65535 - kept < text.length {
+    if RowLayout::ROW_LIMIT - kept < text.length {
         return Answer::Refused(Refusal::RowLimit);
     }
     if buf.len() < kept + text.length {
@@ -143,7 +147,7 @@ fn set_column(
     area: &[u8],
 ) -> Answer
     requires { ⌜ Opened (now schema) layout packed (now buf) n column ⌝ }
-    ensures { λ r. ⌜ (r, now (buf .exit)) ≡ written rowLimit (typesIn (now (schema .entry))) packed (now (buf .entry)) n column (storedIn column (typeAt (typesIn (now (schema .entry))) column) value (now (area .entry))) ⌝ }
+    ensures { λ r. ⌜ (r, now (buf .exit)) ≡ written offsetWidth rowLimit (typesIn (now (schema .entry))) packed (now (buf .entry)) n column (storedIn column (typeAt (typesIn (now (schema .entry))) column) value (now (area .entry))) ⌝ }
 {
     let found = row_column::column_at(schema, column);
     let ty = found.ty;
@@ -168,7 +172,7 @@ fn set_record(
     area: &[u8],
 ) -> Answer
     requires { ⌜ Opened (now schema) layout packed (now buf) n column × (answer (checked rowLimit 1 (length (now area)) (now values)) ≡ Good) ⌝ }
-    ensures { λ r. ⌜ (r, now (buf .exit)) ≡ written rowLimit (typesIn (now (schema .entry))) packed (now (buf .entry)) n column (given rowLimit (typeAt (typesIn (now (schema .entry))) column) column (now (values .entry)) (now (area .entry))) ⌝ }
+    ensures { λ r. ⌜ (r, now (buf .exit)) ≡ written offsetWidth rowLimit (typesIn (now (schema .entry))) packed (now (buf .entry)) n column (given rowLimit (typeAt (typesIn (now (schema .entry))) column) column (now (values .entry)) (now (area .entry))) ⌝ }
 {
     match value_list::value_record_at(values, 0) {
         ValueRecord::Refused(e) => Answer::Refused(e),
@@ -187,7 +191,7 @@ fn set_list(
     area: &[u8],
 ) -> Answer
     requires { ⌜ Opened (now schema) layout packed (now buf) n column ⌝ }
-    ensures { λ r. ⌜ (r, now (buf .exit)) ≡ written rowLimit (typesIn (now (schema .entry))) packed (now (buf .entry)) n column (given rowLimit (typeAt (typesIn (now (schema .entry))) column) column (now (values .entry)) (now (area .entry))) ⌝ }
+    ensures { λ r. ⌜ (r, now (buf .exit)) ≡ written offsetWidth rowLimit (typesIn (now (schema .entry))) packed (now (buf .entry)) n column (given rowLimit (typeAt (typesIn (now (schema .entry))) column) column (now (values .entry)) (now (area .entry))) ⌝ }
 {
     match value_list::check_values(values, 1, area.len()) {
         ListCheck::Refused(e) => Answer::Refused(e),
@@ -204,7 +208,7 @@ fn null_column(
     column: usize,
 ) -> Answer
     requires { ⌜ Opened (now schema) layout packed (now buf) n column ⌝ }
-    ensures { λ r. ⌜ (r, now (buf .exit)) ≡ held (now (buf .entry)) (edited offsetWidth (typesIn (now (schema .entry))) packed (now (buf .entry)) n column none) ⌝ }
+    ensures { λ r. ⌜ (r, now (buf .exit)) ≡ rowStored (now (buf .entry)) (edited offsetWidth (typesIn (now (schema .entry))) packed (now (buf .entry)) n column none) ⌝ }
 {
     let found = row_column::column_at(schema, column);
     let ty = found.ty;
@@ -228,7 +232,7 @@ fn null_column(
 // What both calls ask of the row, behind the schema's check.
 fn open_row(schema: &[u8], layout: RowLayout, buf: &[u8], n: usize, column: usize) -> Frame
     requires { ⌜ Accepted (now schema) layout ⌝ }
-    ensures { λ r. ⌜ r ≡ opening rowLimit (typesIn (now (schema .entry))) (now (buf .entry)) n column ⌝ }
+    ensures { λ r. ⌜ r ≡ opening offsetWidth rowLimit (typesIn (now (schema .entry))) (now (buf .entry)) n column ⌝ }
 {
     if buf.len() < n {
         return Frame::Refused(Refusal::NoRoom);
@@ -255,7 +259,10 @@ pub fn set_checked(
     area: &[u8],
 ) -> Answer
     requires { ⌜ Accepted (now schema) layout ⌝ }
-    ensures { λ r. ⌜ (r, now (buf .exit)) ≡ setIn offsetWidth rowLimit (now (buf .entry)) n column (now (values .entry)) (now (area .entry)) (typesIn (now (schema .entry))) ⌝ }
+    ensures { λ r. ⌜ (r, now (buf .exit))
+        ≡ onFrame (opening offsetWidth rowLimit (typesIn (now (schema .entry))) (now (buf .entry)) n column) (unchanged (now (buf .entry)))
+        (λ p. written offsetWidth rowLimit (typesIn (now (schema .entry))) p (now (buf .entry)) n column
+        (given rowLimit (typeAt (typesIn (now (schema .entry))) column) column (now (values .entry)) (now (area .entry)))) ⌝ }
 {
     match open_row(schema, layout, buf, n, column) {
         Frame::Refused(e) => Answer::Refused(e),
@@ -271,7 +278,9 @@ pub fn null_checked(
     column: usize,
 ) -> Answer
     requires { ⌜ Accepted (now schema) layout ⌝ }
-    ensures { λ r. ⌜ (r, now (buf .exit)) ≡ setNullIn offsetWidth rowLimit (now (buf .entry)) n column (typesIn (now (schema .entry))) ⌝ }
+    ensures { λ r. ⌜ (r, now (buf .exit))
+        ≡ onFrame (opening offsetWidth rowLimit (typesIn (now (schema .entry))) (now (buf .entry)) n column) (unchanged (now (buf .entry)))
+        (λ p. rowStored (now (buf .entry)) (edited offsetWidth (typesIn (now (schema .entry))) p (now (buf .entry)) n column none)) ⌝ }
 {
     match open_row(schema, layout, buf, n, column) {
         Frame::Refused(e) => Answer::Refused(e),

@@ -10,7 +10,7 @@ use native.Mathlib.Omega.{arith}
 use lib.ListN.{length, getD, take, drop, set, replicate, length-append, length-drop, length-replicate, take-append-drop, List·getD-append}
 use lib.Seq.{sets, set-at, length-sets, length-take-le, drop-length, drop-drop, set-getD, take-append-le, drop-append-le, set-append-left}
 use Rattle.laws.specs.Bytes.{toLe, toTable, concat}
-use Rattle.laws.specs.Forall.{Forall₂, nil, cons}
+use Rattle.laws.specs.InnerForall.{Forall₂, nil, cons}
 use Rattle.laws.proofs.Bytes.{length-toLe, length-toTable, toTable-append, sets-at}
 use Rattle.laws.proofs.Forall.{forall-length, forall-get}
 use Rattle.laws.proofs.Stores.{sets-splice, sets-left, sets-end, sets-start}
@@ -18,8 +18,8 @@ use Rattle.row_format.specs.declared.Shape.{Shape}
 use Rattle.row_format.specs.declared.Shape.the-variants.{Fixed, Varlen}
 use Rattle.row_format.specs.Places.{varlens, rankOf, slotStart, bitmapStart, bitmapSize, tableStart, fixedStart}
 use Rattle.row_format.specs.Table.{Cell, bytes, payloads, offset, offsets, lay}
-use Rattle.row_format.specs.Row.{bitmap, varlenCells, rowWith, packedFlag, header, builtRow, slotsOf, slotSize, FitsCell, FitsSlot}
-use Rattle.row_format.specs.Edit.{bitEdit, slotsKept}
+use Rattle.row_format.specs.Row.{bitmap, varlenCells, rowWith, packedFlag, header, builtRow, slotsOf, slotSize}
+use Rattle.row_format.specs.Edit.{bitEdit}
 use Rattle.row_format.proofs.Bitmap.{length-bitmap}
 use Rattle.row_format.proofs.Row.{length-header, length-row, slots-fit, length-front, forall-at, of-rank}
 use Rattle.row_format.proofs.Places.{varlens-cons, rank-inside, packed-inside}
@@ -28,6 +28,8 @@ use Rattle.row_format.proofs.Zeroed.{slots-set, slot-kept}
 use Rattle.row_format.proofs.Edit.{bit-lay, edited-shape, length-bit-edit}
 use Rattle.row_format.proofs.SetRow.{varlen-set, bits-set, set-fixed}
 use Rattle.row_format.proofs.Table.{payloads-append, length-offsets, offsets-append, length-lay}
+use Rattle.row_format.specs.InnerRow.{FitsCell, FitsSlot}
+use Rattle.row_format.specs.InnerEdit.{slotsKept}
 
 -- ---- a Varchar after which all are null
 

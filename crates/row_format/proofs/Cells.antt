@@ -8,16 +8,18 @@ use native.Mathlib.Omega.{arith}
 use lib.ListN.{length, getD, take, drop}
 use lib.Seq.{ext-getD}
 use Rattle.laws.specs.Bits.{bitAt}
-use Rattle.laws.specs.Forall.{Forall₂, nil, cons}
+use Rattle.laws.specs.InnerForall.{Forall₂, nil, cons}
 use Rattle.laws.proofs.Forall.{forall-length}
 use Rattle.row_format.specs.declared.Shape.{Shape}
 use Rattle.row_format.specs.declared.Shape.the-variants.{Fixed, Varlen}
 use Rattle.row_format.specs.Places.{varlens, rankOf, slotStart, bitmapStart, tableStart, fixedStart}
-use Rattle.row_format.specs.Table.{Cell, rangeBytes}
-use Rattle.row_format.specs.Row.{packedFlag, header, nullBit, rowWith, slotOf, slotsOf, builtRow, slotSize, FitsSlot, FitsCell}
+use Rattle.row_format.specs.Table.{Cell}
+use Rattle.row_format.specs.Row.{packedFlag, header, nullBit, rowWith, slotOf, slotsOf, builtRow, slotSize}
 use Rattle.row_format.specs.Zeroed.{zeroedSlot}
 use Rattle.row_format.proofs.Row.{length-header, slots-fit, bit-row, slot-row, range-row}
 use Rattle.row_format.proofs.Zeroed.{slotsZeroed, Agree, agree-written}
+use Rattle.row_format.specs.InnerTable.{rangeBytes}
+use Rattle.row_format.specs.InnerRow.{FitsCell, FitsSlot}
 
 -- the cell of column i, by the row's bit, slot and range
 abbrev pub unlessNull : ℕ → List ℕ → Cell

@@ -16,10 +16,11 @@ use Rattle.row_format.specs.declared.Shape.{Shape}
 use Rattle.row_format.specs.declared.Shape.the-variants.{Fixed, Varlen}
 use Rattle.row_format.specs.Places.{varlens, rankOf, slotStart, bitmapSize, tableStart, fixedStart}
 use Rattle.row_format.specs.Table.{Cell, bytes, payloads, offset, offsets, base, lay, orElse, rangeEnd}
-use Rattle.row_format.specs.Row.{nullBit, FitsCell}
-use Rattle.row_format.specs.Edit.{movedBy, movedOffsets, rangeStart, rangeEdit, varlenEdit, slotEdit, bitEdit, columnEdit, editedRow}
+use Rattle.row_format.specs.Row.{nullBit}
+use Rattle.row_format.specs.Edit.{offsetTable, span, movedBy, movedOffsets, rangeStart, rangeEdit, varlenEdit, slotEdit, bitEdit, columnEdit, editedRow}
 use Rattle.row_format.proofs.Table.{payloads-append, length-offsets, offsets-append, place, table-cut, entry-lay, end-lay, drop-past}
 use Rattle.row_format.proofs.Places.{rank-inside}
+use Rattle.row_format.specs.InnerRow.{FitsCell}
 
 -- ---- a Varchar of a row
 
@@ -176,7 +177,7 @@ length-moved k v a e c os h l =
     rw (length-append, length-take-le k os n, length-map, length-drop) (omega arith)
 
 -- where the range from a to e lies past the table and in the row
-pub length-range-edit : (w t v k : ℕ) (c : Cell) (a e : ℕ) (r : List ℕ) → k < v → t + v * w ≤ a → a ≤ e → e ≤ length r → length (rangeEdit w t v k c a e r) ≡ length r - (e - a) + length (bytes c)
+pub length-range-edit : (w t v k : ℕ) (c : Cell) (a e : ℕ) (r : List ℕ) → k < v → t + v * w ≤ a → a ≤ e → e ≤ length r → length (rangeEdit (offsetTable w t v) k c (span a e) r) ≡ length r - (e - a) + length (bytes c)
 length-range-edit w t v k c a e r h table range inside =
     let m : length (splice a e (bytes c) r) ≡ length r - (e - a) + length (bytes c) = length-splice a e (bytes c) r range inside in
     let os : List ℕ = movedOffsets k c a e (fromTable w v (drop t r)) in

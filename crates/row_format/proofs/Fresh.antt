@@ -11,14 +11,15 @@ use lib.ListN.{length, replicate, length-replicate, replicate-append-replicate}
 use lib.Pow.{pow-pos}
 use lib.Seq.{take-all}
 use Rattle.laws.specs.Bytes.{toLe, toTable, concat}
-use Rattle.laws.specs.Forall.{Forall₂, nil, cons}
+use Rattle.laws.specs.InnerForall.{Forall₂, nil, cons}
 use Rattle.row_format.specs.declared.Shape.{Shape}
 use Rattle.row_format.specs.declared.Shape.the-variants.{Fixed, Varlen}
 use Rattle.row_format.specs.Places.{varlens, fixedSize, bitmapSize, minimum}
 use Rattle.row_format.specs.Table.{Cell, payloads, offsets, lay}
-use Rattle.row_format.specs.Row.{packedFlag, header, bitsValue, bitmap, varlenCells, rowWith, slotsOf, builtRow, FitsCell}
+use Rattle.row_format.specs.Row.{packedFlag, header, bitsValue, bitmap, varlenCells, rowWith, slotsOf, builtRow}
 use Rattle.row_format.proofs.Places.{varlens-cons, packed-cons}
 use Rattle.row_format.proofs.Row.{length-header, length-row, slots-fit}
+use Rattle.row_format.specs.InnerRow.{FitsCell}
 
 -- ---- nulls have neither offsets nor payloads
 

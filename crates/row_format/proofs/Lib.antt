@@ -7,6 +7,7 @@ pub mod SetRow
 pub mod Fresh
 pub mod Build
 pub mod Zeroed
+pub mod ZeroedPlaces
 pub mod Cells
 pub mod Rising
 pub mod Sizes

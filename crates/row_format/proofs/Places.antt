@@ -10,6 +10,7 @@ use lib.Seq.{take-take}
 use Rattle.row_format.specs.declared.Shape.{Shape}
 use Rattle.row_format.specs.declared.Shape.the-variants.{Fixed, Varlen}
 use Rattle.row_format.specs.Places.{through, rankAfter, roundUp, startAt, endAfter, varlens, fixedSize, rankOf, slotAfter, slotStart}
+use Rattle.row_format.specs.InnerAligned.{Aligned, All, none, more}
 use Rattle.row_format.specs.Row.{slotSize}
 
 -- ---- any number that is carried through the columns
@@ -63,14 +64,6 @@ rank-inside (Varlen ∷ ss) zero h v = rw (varlens-cons Varlen ss) (omega arith)
 rank-inside (s ∷ ss) (suc i) h v = rw (varlens-cons s ss, varlens-cons s (take i ss)) (omega (arith, rank-inside ss i (omega arith) v))
 
 -- ---- shapes whose alignments are positive
-
-abbrev pub Aligned : Shape → Type 0
-Aligned (Fixed z a) = 0 < a
-Aligned Varlen = Unit {0}
-
-pub data All : List Shape → Type 0 where
-  none : All []
-  more : {s : Shape} {ss : List Shape} → Aligned s → All ss → All (s ∷ ss)
 
 pub all-take : {ss : List Shape} (i : ℕ) → All ss → All (take i ss)
 all-take zero a = none

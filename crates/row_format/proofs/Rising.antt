@@ -12,7 +12,7 @@ use Rattle.laws.specs.Bytes.{toLe, fromLe, toTable, fromTable, entryAt}
 use Rattle.laws.proofs.Bytes.{Below, below-drop, below-take, to-from, length-fromTable, table-entry}
 use Rattle.row_format.specs.Table.{payloads, offsets, lay, orElse, firstOffset, rangeEnd}
 use Rattle.row_format.specs.Edit.{rangeStart}
-use Rattle.row_format.specs.Rising.{Rising, heldAt, heldCells, Between}
+use Rattle.row_format.specs.InnerRising.{Rising, heldAt, heldCells, Between}
 
 -- ---- offsets that rise up to e
 

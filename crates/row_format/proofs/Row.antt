@@ -9,17 +9,19 @@ use lib.ListN.{length, getD, take, drop, length-append, length-replicate, List·
 use lib.Seq.{drop-drop, take-at, drop-at, drop-append-seam, split-at}
 use Rattle.laws.specs.Bytes.{fromLe, concat, entryAt}
 use Rattle.laws.specs.Bits.{bitAt}
-use Rattle.laws.specs.Forall.{Forall₂, nil, cons}
+use Rattle.laws.specs.InnerForall.{Forall₂, nil, cons}
 use Rattle.laws.proofs.Bytes.{from-to}
 use Rattle.laws.proofs.Forall.{forall-length}
 use Rattle.row_format.specs.declared.Shape.{Shape}
 use Rattle.row_format.specs.declared.Shape.the-variants.{Fixed, Varlen}
 use Rattle.row_format.specs.Places.{varlens, fixedSize, rankOf, slotAfter, slotStart, bitmapStart, bitmapSize, tableStart, fixedStart, minimum}
-use Rattle.row_format.specs.Table.{Cell, bytes, payloads, offset, lay, rangeEnd, rangeBytes}
-use Rattle.row_format.specs.Row.{header, nullBit, bitmap, varlenCells, rowWith, slotsOf, slotSize, FitsSlot, FitsCell}
+use Rattle.row_format.specs.Table.{Cell, bytes, payloads, offset, lay, rangeEnd}
+use Rattle.row_format.specs.Row.{header, nullBit, bitmap, varlenCells, rowWith, slotsOf, slotSize}
 use Rattle.row_format.proofs.Places.{varlens-cons, packed-cons}
 use Rattle.row_format.proofs.Table.{length-lay, past-table, entry-lay, end-lay, range-lay}
 use Rattle.row_format.proofs.Bitmap.{length-bitmap, bitmap-bit}
+use Rattle.row_format.specs.InnerTable.{rangeBytes}
+use Rattle.row_format.specs.InnerRow.{FitsCell, FitsSlot}
 
 -- ---- the header
 

@@ -9,19 +9,21 @@ use lib.ListN.{length, getD, take, drop, set}
 use lib.Seq.{set-split, set-getD}
 use Rattle.laws.specs.Bytes.{concat}
 use Rattle.laws.specs.Bits.{putBitAt}
-use Rattle.laws.specs.Forall.{Forall₂, nil, cons}
+use Rattle.laws.specs.InnerForall.{Forall₂, nil, cons}
 use Rattle.laws.proofs.Bytes.{splice-at}
 use Rattle.laws.proofs.Forall.{forall-length}
 use Rattle.row_format.specs.declared.Shape.{Shape}
 use Rattle.row_format.specs.declared.Shape.the-variants.{Fixed, Varlen}
 use Rattle.row_format.specs.Places.{rankOf, slotStart, bitmapSize}
 use Rattle.row_format.specs.Table.{Cell}
-use Rattle.row_format.specs.Row.{bitmap, varlenCells, nullBit, rowWith, slotSize, FitsCell, FitsSlot}
-use Rattle.row_format.specs.Edit.{slotEdit, editedRow, slotKept, slotsKept}
+use Rattle.row_format.specs.Row.{bitmap, varlenCells, nullBit, rowWith, slotSize}
+use Rattle.row_format.specs.Edit.{slotEdit, editedRow}
 use Rattle.row_format.proofs.Places.{varlens-cons, packed-inside}
 use Rattle.row_format.proofs.Bitmap.{length-bitmap, put-bitmap}
 use Rattle.row_format.proofs.Row.{concat-append, concat-at, forall-take, forall-at, length-slots, length-varlens, packed-start}
 use Rattle.row_format.proofs.Edit.{edit-fixed, edit-varlen}
+use Rattle.row_format.specs.InnerRow.{FitsCell, FitsSlot}
+use Rattle.row_format.specs.InnerEdit.{slotKept, slotsKept}
 
 -- ---- one cell, one slot
 

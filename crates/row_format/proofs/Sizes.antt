@@ -6,13 +6,15 @@ use mathlib.Core.Option.{none, some}
 use native.Mathlib.Nat.{le-refl}
 use native.Mathlib.Omega.{arith}
 use lib.ListN.{length, set, length-append}
-use Rattle.laws.specs.Forall.{Forall₂, nil, cons}
+use Rattle.laws.specs.InnerForall.{Forall₂, nil, cons}
 use Rattle.row_format.specs.declared.Shape.{Shape}
 use Rattle.row_format.specs.declared.Shape.the-variants.{Fixed, Varlen}
 use Rattle.row_format.specs.Places.{through, endAfter, minimum}
 use Rattle.row_format.specs.Table.{Cell, bytes, payloads}
-use Rattle.row_format.specs.Row.{varlenCells, slotSize, FitsCell}
-use Rattle.row_format.proofs.Places.{All, none as no-shapes, more, Aligned, round-up-ge}
+use Rattle.row_format.specs.Row.{varlenCells, slotSize}
+use Rattle.row_format.specs.InnerAligned.{Aligned, All, none as no-shapes, more}
+use Rattle.row_format.proofs.Places.{round-up-ge}
+use Rattle.row_format.specs.InnerRow.{FitsCell}
 
 -- ---- packed, the minimum is least
 

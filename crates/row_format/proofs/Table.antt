@@ -11,7 +11,8 @@ use lib.Seq.{drop-drop, take-at, drop-at, drop-append-seam, take-append-seam, ge
 use Rattle.laws.specs.Bytes.{toTable, fromTable, entryAt}
 use Rattle.laws.proofs.Bytes.{Below, length-toTable, length-fromTable, table-from-to, table-entry}
 use Rattle.laws.proofs.Forall.{by-cut}
-use Rattle.row_format.specs.Table.{Cell, bytes, payloads, offset, offsets, base, lay, orElse, firstOffset, rangeEnd, rangeBytes}
+use Rattle.row_format.specs.Table.{Cell, bytes, payloads, offset, offsets, base, lay, orElse, firstOffset, rangeEnd}
+use Rattle.row_format.specs.InnerTable.{rangeBytes}
 
 -- ---- offsets and payloads
 

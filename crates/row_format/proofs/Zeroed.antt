@@ -10,17 +10,18 @@ use lib.ListN.{length, getD, take, drop, set, length-append, length-replicate}
 use lib.Seq.{take-at, drop-at}
 use Rattle.laws.specs.Bytes.{toTable, concat}
 use Rattle.laws.specs.Bits.{bitAt}
-use Rattle.laws.specs.Forall.{Forall₂, nil, cons}
+use Rattle.laws.specs.InnerForall.{Forall₂, nil, cons}
 use Rattle.laws.proofs.Bytes.{length-toTable}
 use Rattle.row_format.specs.declared.Shape.{Shape}
 use Rattle.row_format.specs.declared.Shape.the-variants.{Fixed, Varlen}
 use Rattle.row_format.specs.Places.{varlens, bitmapStart, bitmapSize, fixedStart, minimum}
 use Rattle.row_format.specs.Table.{Cell, payloads, offsets, lay}
-use Rattle.row_format.specs.Row.{packedFlag, header, nullBit, bitmap, varlenCells, rowWith, slotOf, slotsOf, builtRow, slotSize, FitsSlot, FitsCell}
-use Rattle.row_format.specs.Edit.{slotKept, slotsKept}
+use Rattle.row_format.specs.Row.{packedFlag, header, nullBit, bitmap, varlenCells, rowWith, slotOf, slotsOf, builtRow, slotSize}
 use Rattle.row_format.specs.Zeroed.{zeroedSlot, zeroedFrom, zeroedRow}
 use Rattle.row_format.proofs.Table.{length-offsets}
 use Rattle.row_format.proofs.Row.{length-header, length-slots, length-varlens, length-front, bit-row, forall-at}
+use Rattle.row_format.specs.InnerRow.{FitsCell, FitsSlot}
+use Rattle.row_format.specs.InnerEdit.{slotKept, slotsKept}
 
 -- ---- slots
 

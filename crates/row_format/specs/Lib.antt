@@ -1,6 +1,10 @@
 pub mod Places
+pub mod InnerAligned
 pub mod Table
 pub mod Row
 pub mod Edit
 pub mod Zeroed
-pub mod Rising
+pub mod InnerRising
+pub mod InnerEdit
+pub mod InnerRow
+pub mod InnerTable

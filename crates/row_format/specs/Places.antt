@@ -70,6 +70,10 @@ tableStart n = bitmapStart + bitmapSize n
 abbrev pub fixedStart : ℕ → ℕ → ℕ → ℕ
 fixedStart w n v = tableStart n + v * w
 
+-- the byte of a row at which the slot of a fixed column starts
+abbrev pub slotPlace : ℕ → Bool → List Shape → ℕ → ℕ
+slotPlace w p ss i = fixedStart w (length ss) (varlens ss) + slotStart p ss i
+
 -- 01's minimum: "the number of bytes before the payloads"
 abbrev pub minimum : ℕ → Bool → List Shape → ℕ
 minimum w p ss = fixedStart w (length ss) (varlens ss) + fixedSize p ss

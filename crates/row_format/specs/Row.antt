@@ -2,7 +2,6 @@
 use Prim.Native.Nat.{ℕ, zero, suc, _+_, _*_}
 use mathlib.Core.List.{List, [], _∷_, _++_}
 use mathlib.Core.Option.{none, some}
-use mathlib.Core.Path.{_≡_}
 use lib.ListN.{length, take, drop, replicate}
 use Rattle.laws.specs.Bytes.{toLe, concat}
 use Rattle.row_format.specs.declared.Shape.{Shape}
@@ -60,11 +59,3 @@ builtRow w ss cs = rowWith w (header packedFlag ss) ss cs (slotsOf ss cs)
 abbrev pub slotSize : Shape → ℕ
 slotSize (Fixed z a) = z
 slotSize Varlen = 0
-
-abbrev pub FitsSlot : Shape → List ℕ → Type 0
-FitsSlot s b = length b ≡ slotSize s
-
-abbrev pub FitsCell : Shape → Cell → Type 0
-FitsCell (Fixed z a) none = Unit {0}
-FitsCell (Fixed z a) (some b) = length b ≡ z
-FitsCell Varlen c = Unit {0}

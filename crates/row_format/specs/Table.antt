@@ -1,9 +1,9 @@
 -- 01, "Layout": the cells of Varchars, their offsets and payloads, and the range of a Varchar.
-use Prim.Native.Nat.{ℕ, zero, suc, _+_, _*_, _-_}
+use Prim.Native.Nat.{ℕ, zero, suc, _+_, _*_}
 use mathlib.Core.List.{List, [], _∷_, _++_}
 use mathlib.Core.Option.{Option, none, some}
-use lib.ListN.{length, take, drop}
-use Rattle.laws.specs.Bytes.{toTable, fromTable, entryAt}
+use lib.ListN.{length, drop}
+use Rattle.laws.specs.Bytes.{toTable, fromTable}
 
 -- what a row holds of a column: null, or the stored form
 abbrev pub Cell : Type 0
@@ -47,8 +47,3 @@ firstOffset (x ∷ xs) e = orElse x (firstOffset xs e)
 -- the end of the range of rank k, in a row r with a table of v offsets at byte t
 unfoldable pub rangeEnd : ℕ → ℕ → ℕ → ℕ → List ℕ → ℕ
 rangeEnd w t v k r = firstOffset (drop (suc k) (fromTable w v (drop t r))) (length r)
-
--- its bytes
-unfoldable pub rangeBytes : ℕ → ℕ → ℕ → ℕ → List ℕ → List ℕ
-unfolding rangeEnd
-rangeBytes w t v k r = take (rangeEnd w t v k r - entryAt w t k r) (drop (entryAt w t k r) r)

@@ -6,12 +6,12 @@ use mathlib.Core.Path.{_≡_, refl, sym, ap, _∙_}
 use native.Mathlib.Omega.{arith}
 use borrow.Author.Tests.{lt-leb}
 use lib.ListN.{length}
+use Rattle.datatype.specs.InnerCheck.{Accepted}
 use Rattle.laws.proofs.Bytes.{AllBytes}
 use Rattle.error.specs.declared.Answer.{Answer}
 use Rattle.error.specs.Answer.{Outcome}
 use Rattle.row_format.specs.Row.{packedFlag}
 use Rattle.row_layout.specs.declared.RowLayout.{RowLayout}
-use Rattle.datatype.specs.Check.{Accepted}
 use Rattle.row_column.specs.Frame.{isPacked, varlenField}
 use Rattle.row_handle.specs.declared.RowHandle.{RowHandle}
 use Rattle.row_handle.specs.Handle.{geometry, handleAfter, handled}

@@ -1,5 +1,1 @@
 mod Handling
-mod Parts
-pub mod Flag
-pub mod Runs
-pub mod Worked

@@ -1,5 +1,5 @@
--- 01, "What must change shape": "a small row handle of length and layout is lent and changed by the set calls". What such a call answers, what it leaves in
--- the buffer, and what in the handle.
+-- 01, "What must change shape": "a small row handle of length and layout is lent and changed by the set calls". What
+-- such a call answers, what it leaves in the buffer, and what in the handle.
 use Prim.Native.Nat.{ℕ}
 use mathlib.Core.Bool.{Bool}
 use mathlib.Core.List.{List}
@@ -11,7 +11,6 @@ use Rattle.row_layout.specs.declared.RowLayout.{RowLayout}
 use Rattle.row_layout.specs.Layout.{sizeIn}
 use Rattle.datatype.specs.Check.{layoutFor, typesIn}
 use Rattle.row_column.specs.Frame.{isPacked}
-use Rattle.row_build.specs.Build.{freshCall}
 use Rattle.row_edit.specs.Edit.{setCall, setNullCall}
 use Rattle.row_handle.specs.declared.HandleLayout.{HandleLayout}
 use Rattle.row_handle.specs.declared.RowHandle.{RowHandle}
@@ -27,8 +26,8 @@ geometry l p =
     }
 
 -- the layout that a schema and the flag of the row give; the row is the buffer's first bytes
-abbrev pub layoutOf : List ℕ → List ℕ → HandleLayout
-layoutOf schema buf = geometry (layoutFor (typesIn schema)) (isPacked buf)
+abbrev pub storedLayout : List ℕ → List ℕ → HandleLayout
+storedLayout schema buf = geometry (layoutFor (typesIn schema)) (isPacked buf)
 
 -- after an accepted call the new length and that layout, whatever came in; after a refusal the handle as it was
 abbrev pub handleAfter : HandleLayout → RowHandle → Answer → RowHandle
@@ -40,7 +39,7 @@ abbrev pub Handled : Type 0
 Handled = Answer × (List ℕ × RowHandle)
 
 abbrev pub handled : List ℕ → RowHandle → Outcome → Handled
-handled schema h o = (o .0, (o .1, handleAfter (layoutOf schema (o .1)) h (o .0)))
+handled schema h o = (o .0, (o .1, handleAfter (storedLayout schema (o .1)) h (o .0)))
 
 -- each answers, and leaves the buffer, as the plain call on the buffer and the handle's length
 abbrev pub handleSet : ℕ → ℕ → List ℕ → List ℕ → RowHandle → ℕ → List ℕ → List ℕ → Handled
@@ -48,17 +47,3 @@ handleSet w limit schema buf h i list area = handled schema h (setCall w limit s
 
 abbrev pub handleSetNull : ℕ → ℕ → List ℕ → List ℕ → RowHandle → ℕ → Handled
 handleSetNull w limit schema buf h i = handled schema h (setNullCall w limit schema buf (h .length) i)
-
--- ---- how a handle is made
-
--- of a row of n bytes whose layout nobody has stored yet
-abbrev pub handleAt : ℕ → RowHandle
-handleAt n =
-    record {
-      length = n;
-      layout = record { «num_columns» = 0; «num_varlen_cols» = 0; «fixed_size» = 0; packed = 0 };
-    }
-
--- from fresh; after a refusal of a row of no bytes
-abbrev pub handleFresh : ℕ → ℕ → List ℕ → List ℕ → Handled
-handleFresh w limit schema out = handled schema (handleAt 0) (freshCall w limit schema out)

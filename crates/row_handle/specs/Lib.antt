@@ -1,3 +1,1 @@
 pub mod Handle
-pub mod Runs
-pub mod Worked

@@ -10,7 +10,8 @@ use Rattle.row_format.specs.declared.Shape.{Shape}
 use Rattle.row_format.specs.declared.Shape.the-variants.{Fixed, Varlen}
 use Rattle.row_format.specs.Places.{rankAfter, endAfter, minimum, offsetWidth, slotStart, startAt}
 use Rattle.row_format.proofs.Places.{through-next}
-use Rattle.row_layout.specs.Layout.{layoutOf, withColumn, sizeIn, minimumOf}
+use Rattle.row_layout.specs.Layout.{layoutOf, sizeIn}
+use Rattle.row_layout.specs.InnerLayout.{minimumOf, withColumn}
 
 -- past column i
 pub layout-next : (ss : List Shape) (i : ℕ) → i < length ss → layoutOf (take (suc i) ss) ≡ withColumn (layoutOf (take i ss)) (getD ss i Varlen)

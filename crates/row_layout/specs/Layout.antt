@@ -1,46 +1,17 @@
 -- `RowLayout` against the layout's definitions on a list of shapes.
-use Prim.Native.Nat.{ℕ, _+_, _*_, _≤_, _<_}
+use Prim.Native.Nat.{ℕ}
 use mathlib.Core.Bool.{Bool, true, false}
-use mathlib.Core.List.{List, []}
+use mathlib.Core.List.{List}
 use lib.ListN.{length}
 use Rattle.row_format.specs.declared.Shape.{Shape}
-use Rattle.row_format.specs.declared.Shape.the-variants.{Fixed, Varlen}
-use Rattle.row_format.specs.Places.{rankAfter, endAfter, varlens, fixedSize, fixedStart, offsetWidth}
+use Rattle.row_format.specs.Places.{varlens, fixedSize}
 use Rattle.row_layout.specs.declared.RowLayout.{RowLayout}
 
 -- the layout of a schema with columns of these shapes
 abbrev pub layoutOf : List Shape → RowLayout
 layoutOf ss = record { «num_columns» = length ss; «num_varlen_cols» = varlens ss; «packed_size» = fixedSize true ss; «padded_size» = fixedSize false ss }
 
-abbrev pub noColumns : RowLayout
-noColumns = layoutOf []
-
-abbrev pub withColumn : RowLayout → Shape → RowLayout
-withColumn l s =
-    record {
-      «num_columns» = l .«num_columns» + 1;
-      «num_varlen_cols» = rankAfter s (l .«num_varlen_cols»);
-      «packed_size» = endAfter true s (l .«packed_size»);
-      «padded_size» = endAfter false s (l .«padded_size»);
-    }
-
--- `min_row_size`
+-- the bytes of the fixed columns, packed or padded
 abbrev pub sizeIn : RowLayout → Bool → ℕ
 sizeIn l true = l .«packed_size»
 sizeIn l false = l .«padded_size»
-
-abbrev pub minimumOf : RowLayout → Bool → ℕ
-minimumOf l p = fixedStart offsetWidth (l .«num_columns») (l .«num_varlen_cols») + sizeIn l p
-
--- ---- what keeps the sums from wrapping
-
--- a slot of a type: at most 65,535 bytes, aligned at 1 to 8
-abbrev pub Small : Shape → Type 0
-Small (Fixed z a) = (z ≤ 65535) × ((0 < a) × (a ≤ 8))
-Small Varlen = Unit {0}
-
-pub record Bounded (l : RowLayout) : Type 0 where
-  pub few : l .«num_columns» ≤ 256
-  pub ranked : l .«num_varlen_cols» ≤ l .«num_columns»
-  pub tight : l .«packed_size» ≤ 65542 * l .«num_columns»
-  pub wide : l .«padded_size» ≤ 65542 * l .«num_columns»

@@ -1,2 +1,4 @@
 pub mod Layout
 pub mod Range
+pub mod InnerLayout
+pub mod InnerRange

@@ -6,8 +6,10 @@ ghost use lib.ListN.{length};
 ghost use Rattle.row_format.specs.Places.{roundUp, startAt, bitmapStart, tableStart, fixedStart, offsetWidth};
 ghost use Rattle.row_format.specs.Table.{rangeEnd};
 ghost use Rattle.laws.specs.Bytes.{entryAt};
-ghost use Rattle.row_layout.specs.Layout.{Bounded, Small, noColumns, withColumn, sizeIn, minimumOf};
-ghost use Rattle.row_layout.specs.Range.{rangeOf, Inside};
+ghost use Rattle.row_layout.specs.Layout.{sizeIn};
+ghost use Rattle.row_layout.specs.Range.{varlenRange};
+ghost use Rattle.row_layout.specs.InnerLayout.{Bounded, Small, minimumOf, noColumns, withColumn};
+ghost use Rattle.row_layout.specs.InnerRange.{Inside};
 
 // at, rounded up to a multiple of a.
 pub fn round_up(at: usize, a: usize) -> usize
@@ -34,6 +36,12 @@ pub struct RowLayout {
 impl RowLayout {
     // In the header's Varchar count of a packed row.
     pub const PACKED_LAYOUT_FLAG: u16 = 0x8000;
+
+    // The most bytes of a row, and of the text area beside a value list.
+    pub const ROW_LIMIT: usize = 65535;
+
+    // The most columns of a schema.
+    pub const COLUMN_LIMIT: usize = 256;
 
     pub fn bitmap_offset() -> usize
         ensures { λ r. ⌜ r ≡ bitmapStart ⌝ }
@@ -149,7 +157,7 @@ pub enum VarlenRange {
 
 pub fn varlen_range(row: &[u8], table: usize, varlens: usize, rank: usize) -> VarlenRange
     requires { ⌜ (rank < varlens) × (table + varlens * offsetWidth ≤ length (now row)) ⌝ }
-    ensures { λ r. ⌜ (r ≡ rangeOf table varlens rank (now (row .entry))) × Inside (now (row .entry)) r ⌝ }
+    ensures { λ r. ⌜ (r ≡ varlenRange offsetWidth table varlens rank (now (row .entry))) × Inside (now (row .entry)) r ⌝ }
 {
     let start = offset_at(row, table, rank);
     if start == 0 {

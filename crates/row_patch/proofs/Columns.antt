@@ -15,22 +15,23 @@ use Rattle.laws.proofs.Parts.{part-all, part-none}
 use Rattle.laws.proofs.Stores.{sets-left, sets-splice}
 use Rattle.laws.proofs.Truths.{by-cond}
 use Rattle.null_bitmap.specs.declared.BitAnswer.{BitAnswer}
-use Rattle.null_bitmap.specs.Bitmap.{flagPut}
-use Rattle.row_format.specs.Places.{tableStart, offsetWidth}
+use Rattle.null_bitmap.specs.InnerBitmap.{flagPut}
+use Rattle.row_format.specs.Places.{bitmapStart, tableStart, offsetWidth}
 use Rattle.row_format.specs.Table.{Cell, bytes}
-use Rattle.row_format.specs.Edit.{slotEdit, rangeEdit}
+use Rattle.row_format.specs.Edit.{offsetTable, span, slotEdit, rangeEdit}
 use Rattle.row_format.specs.declared.Shape.the-variants.{Fixed}
-use Rattle.row_format.specs.Row.{nullBit, FitsCell}
+use Rattle.row_format.specs.Row.{nullBit}
 use Rattle.row_format.proofs.Edit.{length-bit-edit, length-range-edit}
+use Rattle.row_format.specs.InnerRow.{FitsCell}
 use Rattle.row_layout.specs.declared.RowLayout.{RowLayout}
 use Rattle.datatype.specs.declared.DataType.{DataType}
 use Rattle.datatype.specs.Types.{sizeOf, isVarlen}
 use Rattle.value.specs.declared.DataValue.{DataValue}
 use Rattle.value.specs.Ranges.{rangeOf, textOf}
 use Rattle.stored_form.proofs.Lengths.{length-stored, accepted-suits}
-use Rattle.row_column.specs.Column.{slotPlace}
-use Rattle.row_patch.specs.Held.{Holds}
-use Rattle.row_patch.specs.Stores.{formOf, bitPut, columnSet, rowSet, Suited, Editable}
+use Rattle.row_column.specs.InnerWalk.{walkedPlace}
+use Rattle.row_patch.specs.InnerHeld.{Holds}
+use Rattle.row_patch.specs.InnerStores.{formOf, bitPut, columnSet, rowSet, Suited, change, Editable}
 use Rattle.row_patch.proofs.Held.{row-of, held-again}
 use Rattle.row_patch.proofs.Ranges.{length-text}
 
@@ -52,13 +53,15 @@ slot-stored b bs q n at z l h k d =
 
 -- ---- a bit
 
--- y is the answer, and x what the callee leaves of the part that starts at the bitmap
-pub bit-stored : (v n i : ℕ) (r : List ℕ) (y : BitAnswer) (x : List ℕ) → i < n → tableStart n ≤ length r → (y, x) ≡ flagPut v n i (take (length r - 4) (drop 4 r))
-    → take 4 r ++ (x ++ drop (length r - 4) (drop 4 r)) ≡ bitPut v i r
-bit-stored v n i r y x h k d =
+-- y is the answer, and x what the callee leaves of the part that starts at the bitmap, at b
+pub bit-stored : (v n i : ℕ) (r : List ℕ) (y : BitAnswer) (x : List ℕ) {b : ℕ} → b ≡ bitmapStart → i < n
+    → tableStart n ≤ length r → (y, x) ≡ flagPut v n i (take (length r - b) (drop b r))
+    → take b r ++ (x ++ drop (length r - b) (drop b r)) ≡ bitPut v i r
+bit-stored v n i r y x e h k f =
+    let d = rw e at f in
     let inside : i / 8 < length (drop 4 r) = rw length-drop (omega arith) in
     let put : x ≡ putBitAt v i (drop 4 r) = ap (λ (p : BitAnswer × List ℕ). p .1) (rw (part-all r 4, lt-leb n i h, lt-leb (length (drop 4 r)) (i / 8) inside) at d) in
-    rw (put, part-none r 4, append-nil)
+    rw (e, put, part-none r 4, append-nil)
 
 -- ---- a column
 
@@ -82,12 +85,12 @@ slot-edited at z none r f h = refl
 slot-edited at z (some b) r f h = same-length-splice at (at + z) b r (rw f) h
 
 -- q is the buffer after the column was set, and m the length of its row
-module _ {l : RowLayout} {p : Bool} {b : RowLayout} {t : DataType} {n a e z : ℕ} {buf : List ℕ} (g : Editable l p b t n a e z buf) {c : Cell} (s : Sized t z c) (q : List ℕ) (m : ℕ) (h : Holds buf (columnSet l p b t a e c (take n buf)) q m) where
+module _ {l : RowLayout} {p : Bool} {b : RowLayout} {t : DataType} {n a e z : ℕ} {buf : List ℕ} (g : Editable l p b t (change n a e z) buf) {c : Cell} (s : Sized t z c) (q : List ℕ) (m : ℕ) (h : Holds buf (columnSet l p b t (span a e) c (take n buf)) q m) where
   abbrev row : List ℕ
   row = take n buf
 
   abbrev edited : List ℕ
-  edited = columnSet l p b t a e c row
+  edited = columnSet l p b t (span a e) c row
 
   row-length : length row ≡ n
   row-length = length-take-le n buf (g .inside)
@@ -95,14 +98,14 @@ module _ {l : RowLayout} {p : Bool} {b : RowLayout} {t : DataType} {n a e z : �
   -- its row has the bitmap, and fits the buffer
   inside : (tableStart (l .«num_columns») ≤ length edited) × (length edited ≤ length buf)
   inside =
-      by-cond (λ r. (tableStart (l .«num_columns») ≤ length r) × (length r ≤ length buf)) (isVarlen t) (rangeEdit offsetWidth (tableStart (l .«num_columns»)) (l .«num_varlen_cols») (b .«num_varlen_cols») c a e row) (slotEdit (slotPlace l p b t) (sizeOf t) c row)
+      by-cond (λ r. (tableStart (l .«num_columns») ≤ length r) × (length r ≤ length buf)) (isVarlen t) (rangeEdit (offsetTable offsetWidth (tableStart (l .«num_columns»)) (l .«num_varlen_cols»)) (b .«num_varlen_cols») c (span a e) row) (slotEdit (walkedPlace l p b t) (sizeOf t) c row)
       (λ v.
       let r = g .range v in
       let k = r .replaceable in
       let x = length-range-edit offsetWidth (tableStart (l .«num_columns»)) (l .«num_varlen_cols») (b .«num_varlen_cols») c a e row (r .ranked) (r .behind) (k .range) (rw row-length (k .within)) in
       (omega (arith, x, row-length, s .text v, r .behind, k .range, k .within), omega (arith, x, row-length, s .text v, k .room, k .range, k .within)))
       (λ f.
-      let x = slot-edited (slotPlace l p b t) (sizeOf t) c row (s .slot f) (g .reach .slot f) in
+      let x = slot-edited (walkedPlace l p b t) (sizeOf t) c row (s .slot f) (g .reach .slot f) in
       (rw x (omega (arith, g .reach .table)), rw (x, row-length) (g .inside)))
 
   lent : take m q ≡ edited
@@ -117,8 +120,8 @@ module _ {l : RowLayout} {p : Bool} {b : RowLayout} {t : DataType} {n a e z : �
   pub bit-ready : (b .«num_columns» < l .«num_columns») × (tableStart (l .«num_columns») ≤ length (take m q))
   bit-ready = (g .reach .column, rw lent (inside .0))
 
-  pub bit-done : (x : List ℕ) → x ≡ bitPut (nullBit c) (b .«num_columns») (take m q) → Holds buf (rowSet l p b t a e c row) (x ++ drop m q) m
+  pub bit-done : (x : List ℕ) → x ≡ bitPut (nullBit c) (b .«num_columns») (take m q) → Holds buf (rowSet l p b t (span a e) c row) (x ++ drop m q) m
   bit-done x d =
-      let y : x ≡ rowSet l p b t a e c row = d ∙ rw lent in
-      let k : length (rowSet l p b t a e c row) ≡ m = length-bit-edit (b .«num_columns») c edited ∙ sym (h .1) in
+      let y : x ≡ rowSet l p b t (span a e) c row = d ∙ rw lent in
+      let k : length (rowSet l p b t (span a e) c row) ≡ m = length-bit-edit (b .«num_columns») c edited ∙ sym (h .1) in
       (held-again buf edited q m (h .0) (sym (h .1)) x (ap length y ∙ k) ∙ rw y, sym k)

@@ -11,10 +11,10 @@ use Rattle.laws.proofs.Bytes.{length-splice}
 use Rattle.laws.proofs.Stores.{sets-append, sets-splice, sets-comm}
 use Rattle.laws.proofs.Parts.{part-all}
 use Rattle.laws.proofs.Lent.{drop-take, lent-stores}
-use Rattle.row_patch.specs.Held.{held}
-use Rattle.row_patch.specs.Stores.{Replaceable}
+use Rattle.row_patch.specs.InnerHeld.{held}
+use Rattle.row_patch.specs.InnerStores.{change, Replaceable}
 
-module _ {n a e z : ℕ} {b : List ℕ} (h : Replaceable n a e z b) (bs : List ℕ) (size : length bs ≡ z) where
+module _ {n a e z : ℕ} {b : List ℕ} (h : Replaceable (change n a e z) b) (bs : List ℕ) (size : length bs ≡ z) where
   abbrev tail : List ℕ
   tail = take (n - e) (drop e b)
 
@@ -38,7 +38,7 @@ module _ {n a e z : ℕ} {b : List ℕ} (h : Replaceable n a e z b) (bs : List �
       stored ∙ sets-splice b a (bs ++ tail) (rw n₁ (omega (arith, h .room))) ∙ rw (length-spliced, n₁, all, take-take a n b low, drop-take n e b (h .within) (h .inside), append-assoc, append-assoc, append-assoc)
 
 -- x is what a callee leaves of the part that starts at a
-module _ {n a e z : ℕ} {b : List ℕ} (h : Replaceable n a e z b) where
+module _ {n a e z : ℕ} {b : List ℕ} (h : Replaceable (change n a e z) b) where
   pub tail-moved : (x : List ℕ) → x ≡ sets (take (length b - a) (drop a b)) z (take (n - e) (drop (e - a) (take (length b - a) (drop a b)))) → take a b ++ (x ++ drop (length b - a) (drop a b)) ≡ sets b (a + z) (take (n - e) (drop e b))
   tail-moved x d =
       let at : a + (e - a) ≡ e = omega (arith, h .range) in

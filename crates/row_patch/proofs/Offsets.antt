@@ -12,8 +12,8 @@ use Rattle.laws.proofs.Bytes.{AllBytes, all-below, below-drop, length-toLe, len
 use Rattle.laws.proofs.Stores.{sets-append, sets-self, sets-splice, sets-comm}
 use Rattle.laws.proofs.Entries.{stored-again, table-take, table-drop, table-to-from}
 use Rattle.laws.proofs.Lent.{drop-sets}
-use Rattle.row_format.specs.Edit.{movedBy}
-use Rattle.row_patch.specs.Offsets.{movedFrom, tableEdit, CanMove, HigherMove}
+use Rattle.row_format.specs.Edit.{offsetTable, movedBy}
+use Rattle.row_patch.specs.InnerOffsets.{movedFrom, tableEdit, CanMove, HigherMove}
 
 -- ---- one offset
 
@@ -117,7 +117,7 @@ module _ (w t v k x e f : ℕ) (r : List ℕ) (a : AllBytes r) (h : k < v) (insi
   unfolding higher
   moved-higher = rw add-one
 
-  pub table-edited : (q p : List ℕ) → q ≡ movedFrom w t v (k + 1) e f r → p ≡ sets q (t + k * w) (toLe w x) → p ≡ tableEdit w t v k x e f r
+  pub table-edited : (q p : List ℕ) → q ≡ movedFrom w t v (k + 1) e f r → p ≡ sets q (t + k * w) (toLe w x) → p ≡ tableEdit (offsetTable w t v) k x e f r
   table-edited q p d c =
       let at : t + suc k * w ≡ t + k * w + length (toLe w x) = rw length-toLe (omega arith) in
       let one : q ≡ sets r (t + suc k * w) higher = d ∙ moved-higher in

@@ -11,16 +11,16 @@ use Rattle.laws.proofs.Bytes.{table-entry}
 use Rattle.laws.proofs.Entries.{table-before}
 use Rattle.row_format.specs.Places.{offsetWidth}
 use Rattle.row_format.specs.Table.{Cell, bytes, offset}
-use Rattle.row_format.specs.Edit.{rangeEdit}
+use Rattle.row_format.specs.Edit.{offsetTable, span, rangeEdit}
 use Rattle.row_format.proofs.Edit.{length-range-edit}
 use Rattle.datatype.specs.declared.DataType.{DataType}
 use Rattle.datatype.specs.Types.{isVarlen}
 use Rattle.value.specs.declared.DataValue.{DataValue}
 use Rattle.value.specs.Ranges.{rangeOf, textOf}
 use Rattle.stored_form.proofs.Lengths.{length-stored, accepted-inside, accepted-suits}
-use Rattle.row_patch.specs.Held.{held, Holds}
-use Rattle.row_patch.specs.Offsets.{tableEdit, CanMove, HigherMove}
-use Rattle.row_patch.specs.Stores.{formOf, Suited, RangeReady}
+use Rattle.row_patch.specs.InnerHeld.{held, Holds}
+use Rattle.row_patch.specs.InnerOffsets.{tableEdit, CanMove, HigherMove}
+use Rattle.row_patch.specs.InnerStores.{formOf, Suited, change, RangeReady}
 use Rattle.row_patch.proofs.Held.{length-spliced, row-of, held-again}
 
 -- ---- the text of a Varchar
@@ -32,7 +32,7 @@ length-text {t} {v} {area} s e =
 
 -- ---- the table of a row whose range was replaced: q is the buffer, m the row's length
 
-module _ {t v k n a e z : ℕ} {b : List ℕ} (g : RangeReady t v k n a e z b) (c : Cell) (size : length (bytes c) ≡ z) (m f : ℕ) (em : m ≡ a + z + (n - e)) (ef : f ≡ a + z) (q : List ℕ) (d : q ≡ held b (splice a e (bytes c) (take n b))) where
+module _ {t v k n a e z : ℕ} {b : List ℕ} (g : RangeReady t v k (change n a e z) b) (c : Cell) (size : length (bytes c) ≡ z) (m f : ℕ) (em : m ≡ a + z + (n - e)) (ef : f ≡ a + z) (q : List ℕ) (d : q ≡ held b (splice a e (bytes c) (take n b))) where
   abbrev row : List ℕ
   row = take n b
 
@@ -69,11 +69,11 @@ module _ {t v k n a e z : ℕ} {b : List ℕ} (g : RangeReady t v k n a e z b) (
         higher = λ j h l. rw (same-entry j l) (can-move j h l);
       })
 
-  pub table-done : (x : List ℕ) → x ≡ tableEdit offsetWidth t v k (offset c a) e f (take m q) → Holds b (rangeEdit offsetWidth t v k c a e row) (x ++ drop m q) m
+  pub table-done : (x : List ℕ) → x ≡ tableEdit (offsetTable offsetWidth t v) k (offset c a) e f (take m q) → Holds b (rangeEdit (offsetTable offsetWidth t v) k c (span a e) row) (x ++ drop m q) m
   table-done x y =
       let ends : f ≡ a + length (bytes c) = ef ∙ rw size in
-      let edited : x ≡ rangeEdit offsetWidth t v k c a e row = y ∙ rw (lent, same-table, ends) in
-      let n : length (rangeEdit offsetWidth t v k c a e row) ≡ m
+      let edited : x ≡ rangeEdit (offsetTable offsetWidth t v) k c (span a e) row = y ∙ rw (lent, same-table, ends) in
+      let n : length (rangeEdit (offsetTable offsetWidth t v) k c (span a e) row) ≡ m
       = length-range-edit offsetWidth t v k c a e row (g .ranked) (g .behind) (g .replaceable .range) (rw row-length (g .replaceable .within))
       ∙ rw (row-length, size) (omega (arith, em, g .replaceable .range, g .replaceable .within)) in
       (held-again b spliced q m d spliced-length x (ap length edited ∙ n) ∙ rw edited, sym n)

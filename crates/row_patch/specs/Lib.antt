@@ -1,3 +1,3 @@
-pub mod Held
-pub mod Offsets
-pub mod Stores
+pub mod InnerHeld
+pub mod InnerOffsets
+pub mod InnerStores

@@ -12,12 +12,12 @@ ghost use lib.Seq.{sets};
 ghost use Rattle.laws.specs.Bytes.{toLe, entryAt, splice};
 ghost use Rattle.laws.specs.Bits.{bitValue};
 ghost use Rattle.row_format.specs.Places.{tableStart, offsetWidth};
-ghost use Rattle.row_format.specs.Edit.{movedBy, rangeEdit, slotEdit};
+ghost use Rattle.row_format.specs.Edit.{offsetTable, span, movedBy, rangeEdit, slotEdit};
 ghost use Rattle.datatype.specs.Types.{sizeOf, isVarlen};
 ghost use Rattle.value.specs.Ranges.{rangeOf};
-ghost use Rattle.row_patch.specs.Held.{held, Holds};
-ghost use Rattle.row_patch.specs.Offsets.{movedFrom, tableEdit, CanMove, HigherMove};
-ghost use Rattle.row_patch.specs.Stores.{formOf, bitPut, columnSet, rowSet, Suited, Replaceable, RangeReady, Editable};
+ghost use Rattle.row_patch.specs.InnerHeld.{held, Holds};
+ghost use Rattle.row_patch.specs.InnerOffsets.{movedFrom, tableEdit, CanMove, HigherMove};
+ghost use Rattle.row_patch.specs.InnerStores.{formOf, bitPut, columnSet, rowSet, Suited, change, Replaceable, RangeReady, Editable};
 
 // ---- the offset table
 
@@ -69,7 +69,7 @@ fn edit_table(
     new_end: usize,
 )
     requires { ⌜ HigherMove offsetWidth table varlens rank end «new_end» (now row) × (own < 65536) ⌝ }
-    ensures { λ _. ⌜ now (row .exit) ≡ tableEdit offsetWidth table varlens rank own end «new_end» (now (row .entry)) ⌝ }
+    ensures { λ _. ⌜ now (row .exit) ≡ tableEdit (offsetTable offsetWidth table varlens) rank own end «new_end» (now (row .entry)) ⌝ }
 {
     move_offsets(row, table, varlens, rank, end, new_end);
     put_offset(row, table, rank, own);
@@ -79,7 +79,7 @@ fn edit_table(
 
 // The tail of the row, which starts at `end`, starts `size` bytes behind `start` afterwards.
 fn move_tail(buf: &mut [u8], n: usize, start: usize, end: usize, size: usize)
-    requires { ⌜ Replaceable n start end size (now buf) ⌝ }
+    requires { ⌜ Replaceable (change n start end size) (now buf) ⌝ }
     ensures { λ _. ⌜ now (buf .exit) ≡ sets (now (buf .entry)) (start + size) (take (n - end) (drop end (now (buf .entry)))) ⌝ }
 {
     endian::move_within(&mut buf[start..], end - start, size, n - end);
@@ -96,7 +96,7 @@ fn replace(
     value: DataValue,
     area: &[u8],
 )
-    requires { ⌜ Replaceable n start end size (now buf) × (Suited ty value (now area) × (length (formOf ty value (now area)) ≡ size)) ⌝ }
+    requires { ⌜ Replaceable (change n start end size) (now buf) × (Suited ty value (now area) × (length (formOf ty value (now area)) ≡ size)) ⌝ }
     ensures { λ _. ⌜ now (buf .exit) ≡ held (now (buf .entry)) (splice start end (formOf ty value (now (area .entry))) (take n (now (buf .entry)))) ⌝ }
 {
     move_tail(buf, n, start, end, size);
@@ -104,7 +104,7 @@ fn replace(
 }
 
 fn remove(buf: &mut [u8], n: usize, start: usize, end: usize)
-    requires { ⌜ Replaceable n start end 0 (now buf) ⌝ }
+    requires { ⌜ Replaceable (change n start end 0) (now buf) ⌝ }
     ensures { λ _. ⌜ now (buf .exit) ≡ held (now (buf .entry)) (splice start end [] (take n (now (buf .entry)))) ⌝ }
 {
     move_tail(buf, n, start, end, 0);
@@ -113,7 +113,7 @@ fn remove(buf: &mut [u8], n: usize, start: usize, end: usize)
 // ---- a column
 
 // The range of a Varchar, from `start` to `end`, gets the value's text. The answer is the row's new length.
-fn set_varlen(
+fn store_varlen(
     buf: &mut [u8],
     n: usize,
     table: usize,
@@ -125,8 +125,8 @@ fn set_varlen(
     value: DataValue,
     area: &[u8],
 ) -> usize
-    requires { ⌜ RangeReady table varlens rank n start end (rangeOf value .length) (now buf) × (Suited ty value (now area) × (isVarlen ty ≡ true)) ⌝ }
-    ensures { λ r. ⌜ Holds (now (buf .entry)) (rangeEdit offsetWidth table varlens rank (some (formOf ty value (now (area .entry)))) start end (take n (now (buf .entry)))) (now (buf .exit)) r ⌝ }
+    requires { ⌜ RangeReady table varlens rank (change n start end (rangeOf value .length)) (now buf) × (Suited ty value (now area) × (isVarlen ty ≡ true)) ⌝ }
+    ensures { λ r. ⌜ Holds (now (buf .entry)) (rangeEdit (offsetTable offsetWidth table varlens) rank (some (formOf ty value (now (area .entry)))) (span start end) (take n (now (buf .entry)))) (now (buf .exit)) r ⌝ }
 {
     let range = value.range();
     let size = range.length;
@@ -154,8 +154,8 @@ fn null_varlen(
     start: usize,
     end: usize,
 ) -> usize
-    requires { ⌜ RangeReady table varlens rank n start end 0 (now buf) ⌝ }
-    ensures { λ r. ⌜ Holds (now (buf .entry)) (rangeEdit offsetWidth table varlens rank none start end (take n (now (buf .entry)))) (now (buf .exit)) r ⌝ }
+    requires { ⌜ RangeReady table varlens rank (change n start end 0) (now buf) ⌝ }
+    ensures { λ r. ⌜ Holds (now (buf .entry)) (rangeEdit (offsetTable offsetWidth table varlens) rank none (span start end) (take n (now (buf .entry)))) (now (buf .exit)) r ⌝ }
 {
     remove(buf, n, start, end);
     let m = start + (n - end);
@@ -164,7 +164,7 @@ fn null_varlen(
 }
 
 // A fixed column's slot, at `at`, gets the value's stored form.
-fn set_fixed(buf: &mut [u8], n: usize, at: usize, ty: DataType, value: DataValue, area: &[u8])
+fn store_fixed(buf: &mut [u8], n: usize, at: usize, ty: DataType, value: DataValue, area: &[u8])
     requires { ⌜ Suited ty value (now area) × ((isVarlen ty ≡ false) × ((at + sizeOf ty ≤ n) × (n ≤ length (now buf)))) ⌝ }
     ensures { λ _. ⌜ Holds (now (buf .entry)) (slotEdit at (sizeOf ty) (some (formOf ty value (now (area .entry)))) (take n (now (buf .entry)))) (now (buf .exit)) n ⌝ }
 {
@@ -176,17 +176,18 @@ fn put_bit(row: &mut [u8], columns: usize, column: usize, null: bool)
     requires { ⌜ (column < columns) × (tableStart columns ≤ length (now row)) ⌝ }
     ensures { λ _. ⌜ now (row .exit) ≡ bitPut (bitValue null) column (now (row .entry)) ⌝ }
 {
+    let bitmap = RowLayout::bitmap_offset();
     if null {
-        null_bitmap::set_null(&mut row[4..], columns, column);
+        null_bitmap::set_null(&mut row[bitmap..], columns, column);
     } else {
-        null_bitmap::clear_null(&mut row[4..], columns, column);
+        null_bitmap::clear_null(&mut row[bitmap..], columns, column);
     }
 }
 
 // ---- a column and its bit
 
 // The column of type ty that comes after those of `before` gets the value. Start and end are those of a Varchar's range.
-fn set_column(
+fn store_column(
     buf: &mut [u8],
     n: usize,
     layout: RowLayout,
@@ -198,22 +199,22 @@ fn set_column(
     value: DataValue,
     area: &[u8],
 ) -> usize
-    requires { ⌜ Editable layout packed before ty n start end (rangeOf value .length) (now buf) × Suited ty value (now area) ⌝ }
-    ensures { λ r. ⌜ Holds (now (buf .entry)) (columnSet layout packed before ty start end (some (formOf ty value (now (area .entry)))) (take n (now (buf .entry)))) (now (buf .exit)) r ⌝ }
+    requires { ⌜ Editable layout packed before ty (change n start end (rangeOf value .length)) (now buf) × Suited ty value (now area) ⌝ }
+    ensures { λ r. ⌜ Holds (now (buf .entry)) (columnSet layout packed before ty (span start end) (some (formOf ty value (now (area .entry)))) (take n (now (buf .entry)))) (now (buf .exit)) r ⌝ }
 {
     if ty.is_variable_length() {
         let table = layout.varlen_table_offset();
         let varlens = layout.num_varlen_cols;
         let rank = before.num_varlen_cols;
-        return set_varlen(buf, n, table, varlens, rank, start, end, ty, value, area);
+        return store_varlen(buf, n, table, varlens, rank, start, end, ty, value, area);
     }
     let at = layout.fixed_data_start() + before.slot_start(packed, ty.alignment());
-    set_fixed(buf, n, at, ty, value, area);
+    store_fixed(buf, n, at, ty, value, area);
     n
 }
 
 // A null leaves the slot of a fixed column as it is.
-fn null_column(
+fn store_null(
     buf: &mut [u8],
     n: usize,
     layout: RowLayout,
@@ -223,8 +224,8 @@ fn null_column(
     start: usize,
     end: usize,
 ) -> usize
-    requires { ⌜ Editable layout packed before ty n start end 0 (now buf) ⌝ }
-    ensures { λ r. ⌜ Holds (now (buf .entry)) (columnSet layout packed before ty start end none (take n (now (buf .entry)))) (now (buf .exit)) r ⌝ }
+    requires { ⌜ Editable layout packed before ty (change n start end 0) (now buf) ⌝ }
+    ensures { λ r. ⌜ Holds (now (buf .entry)) (columnSet layout packed before ty (span start end) none (take n (now (buf .entry)))) (now (buf .exit)) r ⌝ }
 {
     if ty.is_variable_length() {
         let table = layout.varlen_table_offset();
@@ -248,10 +249,10 @@ pub fn write_value(
     value: DataValue,
     area: &[u8],
 ) -> usize
-    requires { ⌜ Editable layout packed before ty n start end (rangeOf value .length) (now buf) × Suited ty value (now area) ⌝ }
-    ensures { λ r. ⌜ Holds (now (buf .entry)) (rowSet layout packed before ty start end (some (formOf ty value (now (area .entry)))) (take n (now (buf .entry)))) (now (buf .exit)) r ⌝ }
+    requires { ⌜ Editable layout packed before ty (change n start end (rangeOf value .length)) (now buf) × Suited ty value (now area) ⌝ }
+    ensures { λ r. ⌜ Holds (now (buf .entry)) (rowSet layout packed before ty (span start end) (some (formOf ty value (now (area .entry)))) (take n (now (buf .entry)))) (now (buf .exit)) r ⌝ }
 {
-    let m = set_column(buf, n, layout, packed, before, ty, start, end, value, area);
+    let m = store_column(buf, n, layout, packed, before, ty, start, end, value, area);
     put_bit(&mut buf[..m], layout.num_columns, before.num_columns, false);
     m
 }
@@ -266,10 +267,10 @@ pub fn write_null(
     start: usize,
     end: usize,
 ) -> usize
-    requires { ⌜ Editable layout packed before ty n start end 0 (now buf) ⌝ }
-    ensures { λ r. ⌜ Holds (now (buf .entry)) (rowSet layout packed before ty start end none (take n (now (buf .entry)))) (now (buf .exit)) r ⌝ }
+    requires { ⌜ Editable layout packed before ty (change n start end 0) (now buf) ⌝ }
+    ensures { λ r. ⌜ Holds (now (buf .entry)) (rowSet layout packed before ty (span start end) none (take n (now (buf .entry)))) (now (buf .exit)) r ⌝ }
 {
-    let m = null_column(buf, n, layout, packed, before, ty, start, end);
+    let m = store_null(buf, n, layout, packed, before, ty, start, end);
     put_bit(&mut buf[..m], layout.num_columns, before.num_columns, true);
     m
 }

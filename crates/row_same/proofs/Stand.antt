@@ -16,18 +16,20 @@ use Rattle.row_format.specs.Table.{rangeEnd}
 use Rattle.row_layout.specs.declared.RowLayout.{RowLayout}
 use Rattle.row_layout.specs.declared.VarlenRange.{VarlenRange}
 use Rattle.row_layout.specs.declared.VarlenRange.the-variants as Range
-use Rattle.row_layout.specs.Range.{partOf, rangeOf, Inside}
+use Rattle.row_layout.specs.Range.{partOf, varlenRange}
+use Rattle.row_layout.specs.InnerRange.{Inside}
 use Rattle.datatype.specs.declared.DataType.{DataType}
 use Rattle.datatype.specs.Types.{sizeOf, isVarlen, lengthOf}
 use Rattle.value.specs.declared.DataValue.the-variants.{Null}
-use Rattle.value_same.specs.Same.{standsIn}
+use Rattle.value_same.specs.InnerFields.{standsIn}
 use Rattle.value_same.proofs.Read.{read-stands}
 use Rattle.stored_form.specs.declared.SlotRead.{SlotRead}
 use Rattle.stored_form.specs.declared.SlotRead.the-variants as Slot
 use Rattle.stored_form.specs.Read.{readSlot}
 use Rattle.row_column.specs.declared.ColumnRead.the-variants.{Value}
-use Rattle.row_column.specs.Column.{slotValue, readBytes, varlenValue, slotPlace, columnValue, Reachable}
-use Rattle.row_same.specs.Columns.{Stands}
+use Rattle.row_column.specs.Column.{slotValue, readBytes, varlenValue}
+use Rattle.row_column.specs.InnerWalk.{walkedPlace, walkedColumn, Reachable}
+use Rattle.row_same.specs.InnerWalk.{Stands}
 
 module _ (t : DataType) (r : List ℕ) where
   null-stands : Stands t r (Value Null)
@@ -47,15 +49,15 @@ module _ (t : DataType) (r : List ℕ) where
   range-stands f i (Range.Bytes a e) h = bytes-stand i a e (h .0) (h .1) (λ g. absurd (false≢true (sym g ∙ f)))
   range-stands f i Range.Outside h = tt
 
-inside : (table v k : ℕ) (r : List ℕ) → Inside r (rangeOf table v k r)
+inside : (table v k : ℕ) (r : List ℕ) → Inside r (varlenRange offsetWidth table v k r)
 inside table v k r =
     by-cond (Inside r) (eqb (entryAt offsetWidth table k r) 0) Range.Null _ (λ z. tt)
     (λ z. by-cond (Inside r) (ltb (rangeEnd offsetWidth table v k r) (entryAt offsetWidth table k r)) Range.Outside _ (λ x. tt)
     (λ x. by-cond (Inside r) (ltb (length r) (rangeEnd offsetWidth table v k r)) Range.Outside _ (λ y. tt)
     (λ y. (ltb-false (rangeEnd offsetWidth table v k r) (entryAt offsetWidth table k r) x, ltb-false (length r) (rangeEnd offsetWidth table v k r) y))))
 
-pub column-stands : {l : RowLayout} {p : Bool} {b : RowLayout} {t : DataType} {r : List ℕ} → Reachable l p b t r → Stands t r (columnValue l p b t r)
+pub column-stands : {l : RowLayout} {p : Bool} {b : RowLayout} {t : DataType} {r : List ℕ} → Reachable l p b t r → Stands t r (walkedColumn l p b t r)
 column-stands {l} {p} {b} {t} {r} h =
     by-cond (Stands t r) (eqb (bitAt (b .«num_columns») (drop bitmapStart r)) 1) (Value Null) _ (λ z. null-stands t r)
-    (λ z. by-cond (Stands t r) (isVarlen t) _ _ (λ f. range-stands t r f (b .«num_columns») (rangeOf (tableStart (l .«num_columns»)) (l .«num_varlen_cols») (b .«num_varlen_cols») r) (inside (tableStart (l .«num_columns»)) (l .«num_varlen_cols») (b .«num_varlen_cols») r))
-    (λ f. bytes-stand t r (b .«num_columns») (slotPlace l p b t) (slotPlace l p b t + sizeOf t) (omega arith) (h .slot f) (λ g. omega arith)))
+    (λ z. by-cond (Stands t r) (isVarlen t) _ _ (λ f. range-stands t r f (b .«num_columns») (varlenRange offsetWidth (tableStart (l .«num_columns»)) (l .«num_varlen_cols») (b .«num_varlen_cols») r) (inside (tableStart (l .«num_columns»)) (l .«num_varlen_cols») (b .«num_varlen_cols») r))
+    (λ f. bytes-stand t r (b .«num_columns») (walkedPlace l p b t) (walkedPlace l p b t + sizeOf t) (omega arith) (h .slot f) (λ g. omega arith)))

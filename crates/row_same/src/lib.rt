@@ -11,15 +11,15 @@ use value::DataValue;
 ghost use mathlib.Core.Path.{_≡_};
 ghost use mathlib.Core.Bool.{true};
 ghost use lib.ListN.{length};
+ghost use Rattle.row_layout.specs.InnerLayout.{noColumns};
 ghost use Rattle.row_format.specs.Places.{offsetWidth, rowLimit};
-ghost use Rattle.row_layout.specs.Layout.{noColumns};
 ghost use Rattle.datatype.specs.Types.{lengthOf};
-ghost use Rattle.datatype.specs.Check.{typesIn, Accepted};
-ghost use Rattle.row_column.specs.Frame.{Framed};
-ghost use Rattle.row_column.specs.Column.{columnValue, Reachable};
-ghost use Rattle.value_same.specs.Same.{standsIn};
+ghost use Rattle.datatype.specs.Check.{typesIn};
+ghost use Rattle.datatype.specs.InnerCheck.{Accepted};
+ghost use Rattle.row_column.specs.InnerWalk.{Framed, walkedColumn, Reachable};
+ghost use Rattle.value_same.specs.InnerFields.{standsIn};
 ghost use Rattle.row_same.specs.Rows.{sameRows, sameCall};
-ghost use Rattle.row_same.specs.Columns.{compared, comparedFrom, comparedRows, WhenOpen, Stands};
+ghost use Rattle.row_same.specs.InnerWalk.{compared, walkedCompared, walkedRows, WhenOpen, Stands};
 ghost use Rattle.error.specs.declared.Flag.the-variants.{Is};
 
 // The column's value v in row a against what the column of row b reads as; both rows are of one schema.
@@ -49,7 +49,7 @@ fn compare_column(
     b: &[u8],
 ) -> Flag
     requires { ⌜ (standsIn (lengthOf ty) v (now a) ≡ true) × WhenOpen «so_far» (Reachable layout packed before ty (now b)) ⌝ }
-    ensures { λ r. ⌜ r ≡ compared «so_far» ty v (now (a .entry)) (now (b .entry)) (columnValue layout packed before ty (now (b .entry))) ⌝ }
+    ensures { λ r. ⌜ r ≡ compared «so_far» ty v (now (a .entry)) (now (b .entry)) (walkedColumn layout packed before ty (now (b .entry))) ⌝ }
 {
     match so_far {
         Flag::Refused(e) => Flag::Refused(e),
@@ -71,7 +71,7 @@ fn compare_columns(
     start: Flag,
 ) -> Flag
     requires { ⌜ Framed (now schema) layout p (now a) × WhenOpen start (Framed (now schema) layout q (now b)) ⌝ }
-    ensures { λ r. ⌜ r ≡ comparedFrom layout p (now (a .entry)) q (now (b .entry)) start noColumns (typesIn (now (schema .entry))) ⌝ }
+    ensures { λ r. ⌜ r ≡ walkedCompared layout p (now (a .entry)) q (now (b .entry)) start noColumns (typesIn (now (schema .entry))) ⌝ }
 {
     let mut so_far = start;
     let mut before = RowLayout::new();
@@ -101,7 +101,7 @@ fn compare_columns(
 // The first row's header is good; where the second one's is not, the first row is read to its end all the same.
 fn compare_framed(schema: &[u8], layout: RowLayout, p: bool, a: &[u8], b: &[u8]) -> Flag
     requires { ⌜ Framed (now schema) layout p (now a) ⌝ }
-    ensures { λ r. ⌜ r ≡ comparedRows rowLimit (typesIn (now (schema .entry))) layout p (now (a .entry)) (now (b .entry)) ⌝ }
+    ensures { λ r. ⌜ r ≡ walkedRows rowLimit (typesIn (now (schema .entry))) layout p (now (a .entry)) (now (b .entry)) ⌝ }
 {
     match row_column::check_frame(layout, b) {
         Frame::Good(q) => compare_columns(schema, layout, p, a, q, b, Flag::Is(true)),
@@ -111,7 +111,7 @@ fn compare_framed(schema: &[u8], layout: RowLayout, p: bool, a: &[u8], b: &[u8])
 
 fn compare_rows(schema: &[u8], layout: RowLayout, a: &[u8], b: &[u8]) -> Flag
     requires { ⌜ Accepted (now schema) layout ⌝ }
-    ensures { λ r. ⌜ r ≡ sameRows rowLimit (typesIn (now (schema .entry))) (now (a .entry)) (now (b .entry)) ⌝ }
+    ensures { λ r. ⌜ r ≡ sameRows offsetWidth rowLimit (typesIn (now (schema .entry))) (now (a .entry)) (now (b .entry)) ⌝ }
 {
     match row_column::check_frame(layout, a) {
         Frame::Refused(e) => Flag::Refused(e),

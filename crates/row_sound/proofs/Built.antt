@@ -11,33 +11,33 @@ use lib.ListN.{length, getD, take, drop, length-map, length-drop}
 use lib.Seq.{take-append-le, drop-append-le, drop-append-seam, drop-cons}
 use Rattle.laws.specs.Bits.{bitAt}
 use Rattle.laws.specs.Bytes.{fromLe, concat}
-use Rattle.laws.specs.Forall.{Forall₂, nil, cons}
+use Rattle.laws.specs.InnerForall.{Forall₂, nil, cons}
 use Rattle.laws.proofs.Forall.{forall-get, forall-length}
 use Rattle.row_format.specs.declared.Shape.{Shape}
 use Rattle.row_format.specs.declared.Shape.the-variants.{Fixed, Varlen}
-use Rattle.row_format.specs.Places.{varlens, slotStart, bitmapSize, bitmapStart, offsetWidth}
+use Rattle.row_format.specs.Places.{varlens, slotStart, bitmapSize, bitmapStart, minimum, offsetWidth}
 use Rattle.row_format.specs.Table.{Cell, bytes, lay}
-use Rattle.row_format.specs.Row.{packedFlag, header, nullBit, bitmap, varlenCells, rowWith, slotSize, FitsSlot, FitsCell}
+use Rattle.row_format.specs.Row.{packedFlag, header, nullBit, bitmap, varlenCells, rowWith, slotSize}
 use Rattle.row_format.proofs.Places.{packed-inside}
 use Rattle.row_format.proofs.Bitmap.{length-bitmap, bitmap-bit}
 use Rattle.row_format.proofs.Row.{length-header, header-columns, header-varlens, length-row, length-slots, length-varlens, of-rank}
 use Rattle.row_format.proofs.Cells.{unlessNull, columnBytes, cell-row}
 use Rattle.row_format.proofs.Zeroed.{Agree}
-use Rattle.row_layout.specs.declared.RowLayout.{RowLayout}
-use Rattle.row_layout.specs.Layout.{minimumOf}
+use Rattle.row_format.specs.InnerRow.{FitsCell, FitsSlot}
 use Rattle.datatype.specs.declared.DataType.{DataType}
 use Rattle.datatype.specs.declared.DataType.the-variants.{Varchar}
 use Rattle.datatype.specs.Types.{sizeOf, alignmentOf, isVarlen, shapeOf}
-use Rattle.datatype.specs.Check.{typeAt, layoutFor}
+use Rattle.datatype.specs.Check.{typeAt}
 use Rattle.value.specs.Ranges.{textOf}
 use Rattle.stored_form.proofs.Lengths.{accepted-suits, length-stored}
 use Rattle.stored_form.proofs.ReadBack.{read-stored}
 use Rattle.row_column.specs.declared.Frame.the-variants.{Good}
 use Rattle.row_column.specs.Frame.{columnCount, varlenField, isPacked, frameOf}
+use Rattle.row_column.proofs.Walk.{shape-at}
 use Rattle.row_sound.specs.Sound.{isSoundIn}
 use Rattle.row_sound.specs.Written.{Writes, null, form}
-use Rattle.row_sound.proofs.Contents.{isForm, soundCell, soundSlot}
-use Rattle.row_sound.proofs.Laid.{soundPart, Parts, shape-at, slot-of, bit-of, laid-sound}
+use Rattle.row_sound.specs.Laid.{Parts, isForm, soundCell, soundPart, soundSlot}
+use Rattle.row_sound.proofs.Laid.{slot-of, bit-of, laid-sound}
 
 -- ---- a cell that was written is read
 
@@ -79,10 +79,22 @@ written-slot t (some b) slot e h = rw (h b refl) e
 
 -- ---- a good header
 
-pub good-frame : (limit : ℕ) (l : RowLayout) (p : Bool) (r : List ℕ) → length r ≤ limit → columnCount r ≡ l .«num_columns» → varlenField r % packedFlag ≡ l .«num_varlen_cols» → isPacked r ≡ p → minimumOf l p ≤ length r → frameOf limit l r ≡ Good p
-good-frame limit l p r a n v f m =
+pub good-frame : (w limit : ℕ) (ts : List DataType) (p : Bool) (r : List ℕ) → length r ≤ limit → columnCount r
+    ≡ length ts
+    → varlenField r % packedFlag ≡ varlens (map shapeOf ts) → isPacked r ≡ p → minimum w p (map shapeOf ts) ≤ length r
+    → frameOf w limit ts r ≡ Good p
+good-frame w limit ts p r a n v f m =
     let h : 4 ≤ length r = omega arith in
-    rw (le-ltb limit (length r) a, le-ltb (length r) 4 h, eq-eqb (columnCount r) (l .«num_columns») n, eq-eqb (varlenField r % packedFlag) (l .«num_varlen_cols») v, f, le-ltb (length r) (minimumOf l p) m)
+    rw (
+      le-ltb limit (length r) a,
+      le-ltb (length r) 4 h,
+      eq-eqb (columnCount r) (length ts) n,
+      eq-eqb
+          (varlenField r % packedFlag) (varlens (map shapeOf ts)) v,
+      f,
+      le-ltb (length r)
+          (minimum w p (map shapeOf ts)) m,
+    )
 
 -- ---- a packed row of such cells, whatever the slots of its null columns hold
 
@@ -142,14 +154,14 @@ module _ {ts : List DataType} {cs : List Cell} {slots : List (List ℕ)} (writte
     by-kind true v = rw (v, bit-is, of-rank i cells below (shape-at ts i ∙ rw v) .cell) (written-cell (typeAt ts i) cell holds)
     by-kind false v = rw (v, bit-is) (written-slot (typeAt ts i) cell _ holds (λ b e. slot-is b e v))
 
-  pub cells-sound-in : isSoundIn (layoutFor ts) true ts row ≡ true
+  pub cells-sound-in : isSoundIn offsetWidth true ts row ≡ true
   cells-sound-in = rw row-parts (laid-sound parts (λ i h. by-kind i h (isVarlen (typeAt ts i)) refl))
 
-  cells-long : minimumOf (layoutFor ts) true ≤ length row
+  cells-long : minimum offsetWidth true ss ≤ length row
   cells-long = rw (length-row offsetWidth head (length-header packedFlag ss) cells fit) (omega arith)
 
   -- its header is read back
-  pub cells-frame : (limit : ℕ) → length ts ≤ 256 → length row ≤ limit → frameOf limit (layoutFor ts) row ≡ Good true
+  pub cells-frame : (limit : ℕ) → length ts ≤ 256 → length row ≤ limit → frameOf offsetWidth limit ts row ≡ Good true
   unfolding lay
   cells-frame limit few short =
       let n : length ss ≡ length ts = length-map ts shapeOf in
@@ -160,4 +172,5 @@ module _ {ts : List DataType} {cs : List Cell} {slots : List (List ℕ)} (writte
       let columns : columnCount row ≡ length ss = rw cut (ap fromLe (take-append-le 2 head rest (omega (arith, four))) ∙ header-columns packedFlag ss (omega arith)) in
       let field : varlenField row ≡ varlens ss + packedFlag =
       rw cut (ap fromLe (ap (take 2) (drop-append-le 2 head rest (omega (arith, four))) ∙ take-append-le 2 (drop 2 head) rest (rw (length-drop, four) (omega arith))) ∙ header-varlens packedFlag ss (omega arith)) in
-      good-frame limit (layoutFor ts) true row short columns (rw field (omega arith)) (rw field (le-leb packedFlag (varlens ss + packedFlag) (omega arith))) cells-long
+      good-frame offsetWidth limit ts true row short (columns ∙ n) (rw field (omega arith))
+      (rw field (le-leb packedFlag (varlens ss + packedFlag) (omega arith))) cells-long

@@ -30,14 +30,11 @@ use Rattle.row_column.specs.declared.ColumnRead.{ColumnRead}
 use Rattle.row_column.specs.declared.ColumnRead.the-variants.{Value, Refused}
 use Rattle.row_column.specs.Column.{slotValue}
 use Rattle.row_sound.specs.Sound.{reads, zeroIfNull}
-use Rattle.row_sound.specs.Slots.{isValue}
 use Rattle.row_sound.specs.Written.{Writes, null, form}
 use Rattle.row_sound.specs.Reread.{Content, content, nullContent, writtenContent}
+use Rattle.row_sound.specs.Laid.{heldContent, heldValue, isForm, soundCell, soundSlot, isValue}
 
 -- ---- bytes that are a value, wherever they stand
-
-abbrev pub isForm : DataType → List ℕ → Bool
-isForm t bs = isValue (readSlot t 0 bs)
 
 reads-slot : (i : ℕ) (s : SlotRead) → reads (slotValue i s) ≡ isValue s
 reads-slot i (Slot.Value v) = refl
@@ -72,23 +69,6 @@ module _ (i at : ℕ) (r bs : List ℕ) (stand : take (length bs) (drop at r) �
   content-anywhere t = content-both (readSlot t at bs) (readSlot t 0 bs) (both at 0 bs t)
 
 -- ---- a column that holds a cell, by whether its bit is set
-
--- what it reads as, where the cell's bytes stand at `at`
-abbrev pub heldValue : DataType → ℕ → Bool → ℕ → Cell → ColumnRead
-heldValue t i marked at none = Value D.Null
-heldValue t i marked at (some b) = cond marked (Value D.Null) (slotValue i (readSlot t at b))
-
--- wherever they stand
-abbrev pub heldContent : DataType → ℕ → Bool → Cell → Content
-heldContent t i marked c = content (bytes c) (heldValue t i marked 0 c)
-
--- whether it is sound: a Varchar, a fixed column with its slot
-abbrev pub soundCell : DataType → Bool → Cell → Bool
-soundCell t marked none = marked
-soundCell t marked (some b) = cond marked false (isForm t b)
-
-abbrev pub soundSlot : DataType → Bool → List ℕ → Bool
-soundSlot t marked slot = cond marked true (isForm t slot)
 
 pub content-held : (t : DataType) (i at : ℕ) (r : List ℕ) (marked : Bool) (c : Cell) → ((b : List ℕ) → c ≡ some b → take (length b) (drop at r) ≡ b) → content r (heldValue t i marked at c) ≡ heldContent t i marked c
 content-held t i at r marked none h = refl

@@ -15,23 +15,25 @@ use Rattle.laws.proofs.Parts.{part-at, part-same}
 use Rattle.laws.proofs.Truths.{cases, same-or}
 use Rattle.row_format.specs.declared.Shape.{Shape}
 use Rattle.row_format.specs.declared.Shape.the-variants.{Fixed, Varlen}
-use Rattle.row_format.specs.Places.{rankOf, slotStart, bitmapSize, offsetWidth}
+use Rattle.row_format.specs.Places.{rankOf, slotStart, bitmapSize, minimum, offsetWidth}
 use Rattle.row_format.specs.Table.{Cell, bytes, payloads, lay}
-use Rattle.row_format.specs.Row.{nullBit, slotSize, FitsCell}
+use Rattle.row_format.specs.Row.{nullBit, slotSize}
 use Rattle.row_format.specs.Edit.{slotEdit, editedRow}
 use Rattle.row_format.proofs.Bitmap.{null-bit-le}
 use Rattle.row_format.proofs.Places.{rank-inside, slot-inside, slots-apart}
 use Rattle.row_format.proofs.Edit.{edit-fixed, edit-varlen}
-use Rattle.row_layout.specs.Layout.{minimumOf}
+use Rattle.row_format.specs.InnerRow.{FitsCell}
 use Rattle.datatype.specs.declared.DataType.{DataType}
 use Rattle.datatype.specs.Types.{sizeOf, alignmentOf, isVarlen, shapeOf}
-use Rattle.datatype.specs.Check.{typeAt, layoutFor}
+use Rattle.datatype.specs.Check.{typeAt}
 use Rattle.datatype.proofs.Again.{all-aligned}
+use Rattle.row_column.proofs.Walk.{shape-at}
 use Rattle.row_sound.specs.Sound.{isSoundIn}
 use Rattle.row_sound.specs.Written.{Writes}
 use Rattle.row_sound.specs.Reread.{columnContent, writtenContent, payloadOf, lengthIn, Reread}
-use Rattle.row_sound.proofs.Contents.{heldContent, null-held, written-content}
-use Rattle.row_sound.proofs.Laid.{heldPart, soundPart, Parts, shape-at, laid-length, content-lay, payload-lay, laid-sound, payload-length}
+use Rattle.row_sound.specs.Laid.{Parts, heldContent, heldPart, soundPart}
+use Rattle.row_sound.proofs.Contents.{null-held, written-content}
+use Rattle.row_sound.proofs.Laid.{laid-length, content-lay, payload-lay, laid-sound, payload-length}
 use Rattle.row_sound.proofs.Built.{none-some, writes-form, writes-fits, written-cell, written-slot}
 use Rattle.row_sound.proofs.PutBits.{bit-at-put, bit-at-kept}
 
@@ -209,7 +211,7 @@ module _ {p : Bool} {ts : List DataType} {head bits region : List ℕ} {ps : Lis
       by-kind false v = fixed-edited v
 
   module _ {r : List ℕ} (e : Edited r) where
-    pub edited-long : minimumOf (layoutFor ts) p ≤ length r
+    pub edited-long : minimum offsetWidth p ss ≤ length r
     edited-long = rw (e .row-is, laid-length (e .parts)) (omega arith)
 
     pub edited-head : take 4 r ≡ head
@@ -228,33 +230,33 @@ module _ {p : Bool} {ts : List DataType} {head bits region : List ℕ} {ps : Lis
     each-sound : (j : ℕ) → j < length ts → soundPart p ts newBits (e .new-region) (e .new-cells) j ≡ true
     each-sound j l = same-or i j (λ f. ap (soundPart p ts newBits (e .new-region) (e .new-cells)) (sym f) ∙ own-sound (isVarlen t) refl) (λ ne. other-sound j l ne ∙ sound j l)
 
-    pub edited-sound : isSoundIn (layoutFor ts) p ts r ≡ true
+    pub edited-sound : isSoundIn offsetWidth p ts r ≡ true
     edited-sound = rw (e .row-is) (laid-sound (e .parts) each-sound)
 
     -- ---- what is read of it
 
-    content-new : (j : ℕ) → j < length ts → columnContent ts p j r ≡ heldContent (typeAt ts j) j (eqb (bitAt j newBits) 1) (heldPart p ts (e .new-region) (e .new-cells) j)
+    content-new : (j : ℕ) → j < length ts → columnContent offsetWidth p ts j r ≡ heldContent (typeAt ts j) j (eqb (bitAt j newBits) 1) (heldPart p ts (e .new-region) (e .new-cells) j)
     content-new j l = rw (e .row-is) (content-lay (e .parts) j l)
 
-    others-content : (j : ℕ) → j < length ts → (i ≡ j → ⊥) → columnContent ts p j r ≡ columnContent ts p j row
+    others-content : (j : ℕ) → j < length ts → (i ≡ j → ⊥) → columnContent offsetWidth p ts j r ≡ columnContent offsetWidth p ts j row
     others-content j l ne = content-new j l ∙ rw (bit-kept j ne, e .others j l ne) (sym (content-lay q j l))
 
-    own-content : columnContent ts p i r ≡ writtenContent w
+    own-content : columnContent offsetWidth p ts i r ≡ writtenContent w
     own-content = content-new i h ∙ rw bit-new (by-cell c refl) ∙ written-content i w
       where
         by-cell : (d : Cell) → c ≡ d → heldContent t i (eqb (nullBit c) 1) (heldPart p ts (e .new-region) (e .new-cells) i) ≡ heldContent t i (eqb (nullBit c) 1) c
         by-cell none f = rw f (null-held t i (heldPart p ts (e .new-region) (e .new-cells) i))
         by-cell (some b) f = ap (heldContent t i (eqb (nullBit c) 1)) (e .own b f ∙ sym f)
 
-    payload-change : (x : Bool) → isVarlen t ≡ x → length r + length (payloadOf ts p i row) ≡ length row + length (payloadOf ts p i r)
+    payload-change : (x : Bool) → isVarlen t ≡ x → length r + length (payloadOf offsetWidth p ts i row) ≡ length row + length (payloadOf offsetWidth p ts i r)
     payload-change true v =
-        let old : length (payloadOf ts p i row) ≡ length (bytes (heldPart p ts region ps i)) = ap length (payload-lay q i h v (sound i h)) in
-        let new : length (payloadOf ts p i r) ≡ length (bytes c) = ap (λ (x : List ℕ). length (payloadOf ts p i x)) (e .row-is) ∙ ap length (payload-lay (e .parts) i h v (each-sound i h) ∙ ap bytes (e .own-varchar v)) in
+        let old : length (payloadOf offsetWidth p ts i row) ≡ length (bytes (heldPart p ts region ps i)) = ap length (payload-lay q i h v (sound i h)) in
+        let new : length (payloadOf offsetWidth p ts i r) ≡ length (bytes c) = ap (λ (x : List ℕ). length (payloadOf offsetWidth p ts i x)) (e .row-is) ∙ ap length (payload-lay (e .parts) i h v (each-sound i h) ∙ ap bytes (e .own-varchar v)) in
         ap (λ (n : ℕ). length r + n) old ∙ e .long-varchar v ∙ ap (λ (n : ℕ). length row + n) (sym new)
     payload-change false v = rw v (ap (λ (n : ℕ). n + 0) (e .long-fixed v))
 
-    long-new : length r ≡ lengthIn ts p r
-    long-new = subst (λ (x : List ℕ). length x ≡ lengthIn ts p x) (sym (e .row-is)) (payload-length (e .parts) each-sound)
+    long-new : length r ≡ lengthIn offsetWidth p ts r
+    long-new = subst (λ (x : List ℕ). length x ≡ lengthIn offsetWidth p ts x) (sym (e .row-is)) (payload-length (e .parts) each-sound)
 
-    pub reread : Reread ts p i (writtenContent w) row r
+    pub reread : Reread offsetWidth p ts i (writtenContent w) row r
     reread = record { own = own-content; others = others-content; long = long-new; change = payload-change (isVarlen t) refl }

@@ -1,5 +1,5 @@
 -- Which rows that are laid out of parts are sound: each column by its bit, its slot or its cell.
-use Prim.Native.Nat.{ℕ, zero, suc, _+_, _*_, _-_, _/_, _^_, _≤_, _<_}
+use Prim.Native.Nat.{ℕ, zero, suc, _+_, _*_, _-_, _/_, _≤_, _<_}
 use mathlib.Core.Path.{_≡_, refl, sym, ap, ap₂, _∙_}
 use mathlib.Core.Bool.{Bool, true, false, cond}
 use mathlib.Core.List.{List, [], _∷_, _++_, map, append-nil, append-assoc}
@@ -13,30 +13,28 @@ use lib.ListN.{length, getD, take, drop, length-append, length-drop, length-map,
 use lib.Seq.{drop-drop, drop-at, take-all, take-suc, take-append-le, drop-append-le, length-take-le}
 use Rattle.laws.specs.Bits.{bitAt}
 use Rattle.laws.specs.Bytes.{fromTable, entryAt}
-use Rattle.laws.proofs.Maps.{take-map, at-map}
 use Rattle.row_format.specs.declared.Shape.{Shape}
 use Rattle.row_format.specs.declared.Shape.the-variants.{Fixed, Varlen}
-use Rattle.row_format.specs.Places.{rankAfter, varlens, fixedSize, rankOf, slotStart, bitmapStart, bitmapSize, tableStart, fixedStart, offsetWidth}
-use Rattle.row_format.specs.Table.{Cell, bytes, payloads, offset, base, lay, firstOffset, rangeEnd, rangeBytes}
+use Rattle.row_format.specs.Places.{rankAfter, varlens, rankOf, slotStart, bitmapStart, tableStart, fixedStart, slotPlace, minimum, offsetWidth}
+use Rattle.row_format.specs.Table.{Cell, bytes, payloads, offset, base, lay, firstOffset, rangeEnd}
 use Rattle.row_format.specs.Row.{slotSize}
 use Rattle.row_format.proofs.Places.{through-next, slot-inside, rank-inside}
 use Rattle.row_format.proofs.Table.{payloads-append, length-lay, past-table, table-read, first-offsets, place, entry-lay, end-lay, range-lay}
-use Rattle.row_layout.specs.declared.RowLayout.{RowLayout}
-use Rattle.row_layout.specs.Layout.{layoutOf, sizeIn, minimumOf}
-use Rattle.row_layout.specs.Range.{rangeOf}
-use Rattle.row_layout.proofs.Columns.{layout-slot}
+use Rattle.row_format.specs.InnerTable.{rangeBytes}
+use Rattle.row_layout.specs.Range.{varlenRange}
 use Rattle.datatype.specs.declared.DataType.{DataType}
-use Rattle.datatype.specs.declared.DataType.the-variants as T
 use Rattle.datatype.specs.Types.{sizeOf, alignmentOf, isVarlen, shapeOf}
-use Rattle.datatype.specs.Check.{typeAt, layoutFor, layoutBefore}
+use Rattle.datatype.specs.Check.{typeAt}
 use Rattle.datatype.proofs.Again.{all-aligned}
 use Rattle.value.specs.declared.DataValue.the-variants as D
 use Rattle.row_column.specs.declared.ColumnRead.the-variants.{Value}
 use Rattle.row_column.specs.Column.{readBytes, varlenValue, columnValue}
-use Rattle.row_sound.specs.Sound.{reads, zeroIfNull, offsetSound, soundColumn, firstPayload, isSoundIn}
+use Rattle.row_column.proofs.Walk.{shape-at}
+use Rattle.row_sound.specs.Sound.{reads, zeroIfNull, soundColumn, firstPayload, isSoundIn}
 use Rattle.row_sound.specs.Reread.{Content, content, columnContent, payloadOf, payloadBytes, lengthIn}
+use Rattle.row_sound.specs.Laid.{Parts, heldContent, heldPart, heldPlace, heldValue, soundCell, soundPart, soundSlot}
 use Rattle.row_sound.proofs.Columns.{columns-sound}
-use Rattle.row_sound.proofs.Contents.{heldValue, heldContent, soundCell, soundSlot, reads-content, content-held, cell-sound, slot-sound, sound-payload}
+use Rattle.row_sound.proofs.Contents.{reads-content, content-held, cell-sound, slot-sound, sound-payload}
 
 -- ---- a column of a row, by the places of its bytes
 
@@ -44,7 +42,7 @@ use Rattle.row_sound.proofs.Contents.{heldValue, heldContent, soundCell
 module _ (t : DataType) (i table v k at : ℕ) (r : List ℕ) (pos : 0 < at) where
   varchar-value : (null : Bool) (c : Cell) → entryAt offsetWidth table k r ≡ offset c at → rangeEnd offsetWidth table v k r ≡ at + length (bytes c) → at + length (bytes c) ≤ length r
       → ((b : List ℕ) → c ≡ some b → take (length b) (drop at r) ≡ b)
-      → cond null (Value D.Null) (varlenValue t i r (rangeOf table v k r)) ≡ heldValue t i null at c
+      → cond null (Value D.Null) (varlenValue t i r (varlenRange offsetWidth table v k r)) ≡ heldValue t i null at c
   varchar-value true none o e l h = refl
   varchar-value false none o e l h = rw o
   varchar-value true (some b) o e l h = refl
@@ -62,41 +60,11 @@ slot-value t i at r slot false e =
 
 -- ---- a row that is laid out of a header, a bitmap, a region of fixed columns and the cells of Varchars
 
--- its column i: a Varchar's cell, a fixed column's slot
-abbrev pub heldPart : Bool → List DataType → List ℕ → List Cell → ℕ → Cell
-heldPart p ts region ps i = cond (isVarlen (typeAt ts i)) (getD ps (rankOf (map shapeOf ts) i) none) (some (take (sizeOf (typeAt ts i)) (drop (slotStart p (map shapeOf ts) i) region)))
-
--- where it stands
-abbrev pub heldPlace : Bool → List DataType → List Cell → ℕ → ℕ
-heldPlace p ts ps i =
-    cond (isVarlen (typeAt ts i)) (minimumOf (layoutFor ts) p + length (payloads (take (rankOf (map shapeOf ts) i) ps)))
-    (fixedStart offsetWidth (length (map shapeOf ts)) (varlens (map shapeOf ts)) + slotStart p (map shapeOf ts) i)
-
--- whether it is sound
-abbrev pub soundPart : Bool → List DataType → List ℕ → List ℕ → List Cell → ℕ → Bool
-soundPart p ts bits region ps i =
-    cond (isVarlen (typeAt ts i)) (soundCell (typeAt ts i) (eqb (bitAt i bits) 1) (heldPart p ts region ps i)) (soundSlot (typeAt ts i) (eqb (bitAt i bits) 1) (bytes (heldPart p ts region ps i)))
-
 -- a payload lies among the payloads
 payload-inside : (ps : List Cell) (k : ℕ) → k < length ps → length (payloads (take k ps)) + length (bytes (getD ps k none)) ≤ length (payloads ps)
 payload-inside [] k h = absurd (omega arith)
 payload-inside (c ∷ ps) zero h = rw length-append (omega arith)
 payload-inside (c ∷ ps) (suc k) h = rw (length-append, length-append) (omega (arith, payload-inside ps k (omega arith)))
-
--- parts of the sizes that the columns ask
-pub record Parts (p : Bool) (ts : List DataType) (head bits region : List ℕ) (ps : List Cell) : Type 0 where
-  pub four : length head ≡ 4
-  pub bitmap : length bits ≡ bitmapSize (length (map shapeOf ts))
-  pub fixed : length region ≡ fixedSize p (map shapeOf ts)
-  pub cells : length ps ≡ varlens (map shapeOf ts)
-  pub fits : length (lay offsetWidth (head ++ bits) region ps) < 256 ^ offsetWidth
-
-pub shape-at : (ts : List DataType) (i : ℕ) → getD (map shapeOf ts) i Varlen ≡ shapeOf (typeAt ts i)
-shape-at ts i = at-map shapeOf i ts (T.Varchar 0)
-
-pub size-in : (ss : List Shape) (p : Bool) → sizeIn (layoutOf ss) p ≡ fixedSize p ss
-size-in ss true = refl
-size-in ss false = refl
 
 module _ {p : Bool} {ts : List DataType} {head bits region : List ℕ} {ps : List Cell} (q : Parts p ts head bits region ps) where
   abbrev ss : List Shape
@@ -111,10 +79,10 @@ module _ {p : Bool} {ts : List DataType} {head bits region : List ℕ} {ps : Lis
   pos : 0 < length (head ++ bits)
   pos = omega (arith, length-front)
 
-  base-is : base offsetWidth (head ++ bits) region ps ≡ minimumOf (layoutFor ts) p
-  base-is = rw (length-front, q .cells, q .fixed, size-in ss p)
+  base-is : base offsetWidth (head ++ bits) region ps ≡ minimum offsetWidth p (map shapeOf ts)
+  base-is = rw (length-front, q .cells, q .fixed)
 
-  pub laid-length : length row ≡ minimumOf (layoutFor ts) p + length (payloads ps)
+  pub laid-length : length row ≡ minimum offsetWidth p (map shapeOf ts) + length (payloads ps)
   laid-length = length-lay offsetWidth (head ++ bits) region ps ∙ ap (λ (n : ℕ). n + length (payloads ps)) base-is
 
   pub bit-of : (i : ℕ) → i < length ts → bitAt i (drop bitmapStart row) ≡ bitAt i bits
@@ -136,8 +104,8 @@ module _ {p : Bool} {ts : List DataType} {head bits region : List ℕ} {ps : Lis
     below : i < length ss
     below = rw (length-map ts shapeOf) h
 
-    before : layoutBefore ts i ≡ layoutOf (take i ss)
-    before = ap layoutOf (sym (take-map shapeOf i ts))
+    columns : length ts ≡ length ss
+    columns = sym (length-map ts shapeOf)
 
     abbrev null : Bool
     null = eqb (bitAt i bits) 1
@@ -151,7 +119,7 @@ module _ {p : Bool} {ts : List DataType} {head bits region : List ℕ} {ps : Lis
       cell = getD ps k none
 
       abbrev at : ℕ
-      at = minimumOf (layoutFor ts) p + length (payloads (take k ps))
+      at = minimum offsetWidth p (map shapeOf ts) + length (payloads (take k ps))
 
       rank : k < length ps
       rank = rw (q .cells) (rank-inside ss i below (shape-at ts i ∙ rw v))
@@ -177,7 +145,7 @@ module _ {p : Bool} {ts : List DataType} {head bits region : List ℕ} {ps : Lis
           let is = ap₂ (λ (n m : ℕ). rangeBytes offsetWidth n m k row) (sym length-front) (sym (q .cells)) ∙ range-lay offsetWidth (head ++ bits) region pos ps k b rank e (q .fits) in
           rw (end, entry, e, size) at is
 
-      varchar-lay : cond (eqb (bitAt i (drop bitmapStart row)) 1) (Value D.Null) (varlenValue t i row (rangeOf (tableStart (length ss)) (varlens ss) k row)) ≡ heldValue t i null at cell
+      varchar-lay : cond (eqb (bitAt i (drop bitmapStart row)) 1) (Value D.Null) (varlenValue t i row (varlenRange offsetWidth (tableStart (length ss)) (varlens ss) k row)) ≡ heldValue t i null at cell
       varchar-lay = rw (bit-of i h) (varchar-value t i (tableStart (length ss)) (varlens ss) k at row (omega (arith, pos)) null cell entry end within payload)
 
       offset-lay : cond (reads (heldContent t i null cell .0)) (zeroIfNull (entryAt offsetWidth (tableStart (length ss)) k row) (eqb (bitAt i (drop bitmapStart row)) 1)) false ≡ soundCell t null cell
@@ -186,7 +154,7 @@ module _ {p : Bool} {ts : List DataType} {head bits region : List ℕ} {ps : Lis
     -- a fixed column
     module _ (v : isVarlen t ≡ false) where
       abbrev start : ℕ
-      start = fixedStart offsetWidth (length ss) (varlens ss) + slotStart p ss i
+      start = slotPlace offsetWidth p ss i
 
       abbrev slot : List ℕ
       slot = take (sizeOf t) (drop (slotStart p ss i) region)
@@ -207,12 +175,13 @@ module _ {p : Bool} {ts : List DataType} {head bits region : List ℕ} {ps : Lis
     held = heldPart p ts region ps i
 
     -- what is read of it
-    pub value-lay : columnValue (layoutFor ts) p (layoutBefore ts i) t row ≡ heldValue t i null (heldPlace p ts ps i) held
-    value-lay = ap (λ (b : RowLayout). columnValue (layoutFor ts) p b t row) before ∙ by-kind (isVarlen t) refl
+    pub value-lay : columnValue offsetWidth p ts i row ≡ heldValue t i null (heldPlace p ts ps i) held
+    value-lay = by-kind (isVarlen t) refl
       where
-        by-kind : (x : Bool) → isVarlen t ≡ x → columnValue (layoutFor ts) p (layoutOf (take i ss)) t row ≡ heldValue t i null (heldPlace p ts ps i) held
-        by-kind true v = rw (v, length-take-le i ss (omega (arith, below))) (varchar-lay v)
-        by-kind false v = rw (v, layout-slot ss i p (sizeOf t) (alignmentOf t) (shape-at ts i ∙ rw v), length-take-le i ss (omega (arith, below))) (fixed-lay v)
+        by-kind : (x : Bool) → isVarlen t ≡ x → columnValue offsetWidth p ts i row
+            ≡ heldValue t i null (heldPlace p ts ps i) held
+        by-kind true v = rw (v, columns) (varchar-lay v)
+        by-kind false v = rw v (fixed-lay v)
 
     -- the bytes stand in their place
     pub held-lay : (b : List ℕ) → held ≡ some b → take (length b) (drop (heldPlace p ts ps i) row) ≡ b
@@ -224,61 +193,77 @@ module _ {p : Bool} {ts : List DataType} {head bits region : List ℕ} {ps : Lis
             let is : slot v ≡ b = ap bytes (rw v at e) in
             rw v (rw (slot-size v, slot-in v) at (ap (λ (x : List ℕ). take (length x) (drop (start v) row)) (sym is)) ∙ is)
 
-    pub content-lay : columnContent ts p i row ≡ heldContent t i null held
+    pub content-lay : columnContent offsetWidth p ts i row ≡ heldContent t i null held
     content-lay = ap (content row) value-lay ∙ content-held t i (heldPlace p ts ps i) row null held held-lay
 
     -- a Varchar's payload
-    pub payload-lay : isVarlen t ≡ true → soundPart p ts bits region ps i ≡ true → payloadOf ts p i row ≡ bytes held
+    pub payload-lay : isVarlen t ≡ true → soundPart p ts bits region ps i ≡ true → payloadOf offsetWidth p ts i row ≡ bytes held
     payload-lay v s =
-        ap (λ (x : Bool). cond x (columnContent ts p i row .1) []) v
+        ap (λ (x : Bool). cond x (columnContent offsetWidth p ts i row .1) []) v
         ∙ ap (λ (x : Content). x .1) content-lay
         ∙ sound-payload t i null held v (sym (ap (λ (x : Bool). cond x (soundCell t null held) (soundSlot t null (bytes held))) v) ∙ s)
 
-    reads-lay : reads (columnValue (layoutFor ts) p (layoutBefore ts i) t row) ≡ reads (heldContent t i null held .0)
-    reads-lay = sym (reads-content row (columnValue (layoutFor ts) p (layoutBefore ts i) t row)) ∙ ap (λ (c : Content). reads (c .0)) content-lay
+    reads-lay : reads (columnValue offsetWidth p ts i row) ≡ reads (heldContent t i null held .0)
+    reads-lay =
+        sym (reads-content row (columnValue offsetWidth p ts i row)) ∙ ap (λ (c : Content). reads (c .0)) content-lay
 
-    pub column-lay : soundColumn (layoutFor ts) p (layoutBefore ts i) t row ≡ soundPart p ts bits region ps i
+    pub column-lay : soundColumn offsetWidth p ts i row ≡ soundPart p ts bits region ps i
     unfolding soundColumn
-    column-lay = ap (λ (x : Bool). cond x (cond (isVarlen t) (offsetSound (layoutFor ts) (layoutBefore ts i) row) true) false) reads-lay
-        ∙ ap (λ (b : RowLayout). cond (reads (heldContent t i null held .0)) (cond (isVarlen t) (offsetSound (layoutFor ts) b row) true) false) before ∙ by-kind (isVarlen t) refl
+    column-lay =
+        ap (λ (x : Bool). cond x (cond (isVarlen t) (offsetSound (length ts)) true) false) reads-lay
+        ∙ ap (λ (n : ℕ). cond (reads (heldContent t i null held .0))
+        (cond (isVarlen t) (offsetSound n) true) false) columns
+        ∙ by-kind (isVarlen t) refl
       where
-        by-kind : (x : Bool) → isVarlen t ≡ x → cond (reads (heldContent t i null held .0)) (cond (isVarlen t) (offsetSound (layoutFor ts) (layoutOf (take i ss)) row) true) false ≡ soundPart p ts bits region ps i
-        by-kind true v = rw (v, length-take-le i ss (omega (arith, below))) (offset-lay v)
+        offsetSound : ℕ → Bool
+        offsetSound n = zeroIfNull (entryAt offsetWidth (tableStart n) (rankOf ss i) row)
+            (eqb (bitAt i (drop bitmapStart row)) 1)
+
+        by-kind : (x : Bool) → isVarlen t ≡ x
+            → cond (reads (heldContent t i null held .0)) (cond (isVarlen t) (offsetSound (length ss)) true) false
+            ≡ soundPart p ts bits region ps i
+        by-kind true v = rw v (offset-lay v)
         by-kind false v = rw v (slot-sound t i null (slot v))
 
-  pub first-lay : firstPayload (layoutFor ts) row ≡ minimumOf (layoutFor ts) p
+  pub first-lay : firstPayload offsetWidth (tableStart (length ts)) (varlens ss) row
+      ≡ minimum offsetWidth p (map shapeOf ts)
   first-lay =
       let front : List ℕ = head ++ bits in
-      ap₂ (λ (n m : ℕ). firstOffset (fromTable offsetWidth m (drop n row)) (length row)) (sym length-front) (sym (q .cells))
+      ap₂ (λ (n m : ℕ). firstOffset (fromTable offsetWidth m (drop n row)) (length row))
+      (ap tableStart (sym (length-map ts shapeOf)) ∙ sym length-front) (sym (q .cells))
       ∙ rw (table-read offsetWidth front region ps (q .fits)) (first-offsets (length row) (base offsetWidth front region ps) ps (omega (arith, pos)) (sym (length-lay offsetWidth front region ps)))
       ∙ base-is
 
   -- the row is sound if each of its columns is
-  pub laid-sound : ((i : ℕ) → i < length ts → soundPart p ts bits region ps i ≡ true) → isSoundIn (layoutFor ts) p ts row ≡ true
+  pub laid-sound : ((i : ℕ) → i < length ts → soundPart p ts bits region ps i ≡ true) → isSoundIn offsetWidth p ts row
+      ≡ true
   laid-sound all =
-      rw (columns-sound (layoutFor ts) p row ts (λ i h. column-lay i h ∙ all i h)) (eq-eqb (firstPayload (layoutFor ts) row) (minimumOf (layoutFor ts) p) first-lay)
+      rw (columns-sound offsetWidth p ts row (λ i h. column-lay i h ∙ all i h))
+      (eq-eqb (firstPayload offsetWidth (tableStart (length ts)) (varlens ss) row)
+      (minimum offsetWidth p ss) first-lay)
 
   -- its length, by the payloads that are read
   module _ (all : (i : ℕ) → i < length ts → soundPart p ts bits region ps i ≡ true) where
-    payload-next : (n : ℕ) → n < length ts → (x : Bool) → isVarlen (typeAt ts n) ≡ x → length (payloads (take (rankOf ss n) ps)) + length (payloadOf ts p n row) ≡ length (payloads (take (rankOf ss (suc n)) ps))
+    payload-next : (n : ℕ) → n < length ts → (x : Bool) → isVarlen (typeAt ts n) ≡ x → length (payloads (take (rankOf ss n) ps)) + length (payloadOf offsetWidth p ts n row) ≡ length (payloads (take (rankOf ss (suc n)) ps))
     payload-next n l true v =
         let k : ℕ = rankOf ss n in
         let next : rankOf ss (suc n) ≡ suc k = through-next rankAfter ss n 0 (below n l) ∙ rw (shape-at ts n, v) (add-one k) in
-        let own : payloadOf ts p n row ≡ bytes (getD ps k none) = payload-lay n l v (all n l) ∙ ap (λ (y : Bool). bytes (cond y (getD ps k none) (some (take (sizeOf (typeAt ts n)) (drop (slotStart p ss n) region))))) v in
+        let own : payloadOf offsetWidth p ts n row ≡ bytes (getD ps k none) = payload-lay n l v (all n l) ∙ ap (λ (y : Bool). bytes (cond y (getD ps k none) (some (take (sizeOf (typeAt ts n)) (drop (slotStart p ss n) region))))) v in
         let cut : length (payloads (take (suc k) ps)) ≡ length (payloads (take k ps)) + length (bytes (getD ps k none)) = rw (take-suc ps k none (rank n l v), payloads-append, length-append, append-nil) in
         ap (λ (m : ℕ). length (payloads (take k ps)) + m) (ap length own) ∙ sym (ap (λ (m : ℕ). length (payloads (take m ps))) next ∙ cut)
     payload-next n l false v =
         let k : ℕ = rankOf ss n in
         let next : rankOf ss (suc n) ≡ k = through-next rankAfter ss n 0 (below n l) ∙ rw (shape-at ts n, v) in
-        let own : payloadOf ts p n row ≡ [] = ap (λ (y : Bool). cond y (columnContent ts p n row .1) []) v in
+        let own : payloadOf offsetWidth p ts n row ≡ [] = ap (λ (y : Bool). cond y (columnContent offsetWidth p ts n row .1) []) v in
         ap (λ (m : ℕ). length (payloads (take k ps)) + m) (ap length own) ∙ add-zero (length (payloads (take k ps))) ∙ sym (ap (λ (m : ℕ). length (payloads (take m ps))) next)
 
-    payloads-to : (n : ℕ) → n ≤ length ts → payloadBytes ts p row n ≡ length (payloads (take (rankOf ss n) ps))
+    payloads-to : (n : ℕ) → n ≤ length ts → payloadBytes offsetWidth p ts row n ≡ length (payloads (take (rankOf ss n) ps))
     payloads-to zero l = refl
-    payloads-to (suc n) l = ap (λ (m : ℕ). m + length (payloadOf ts p n row)) (payloads-to n (omega arith)) ∙ payload-next n l (isVarlen (typeAt ts n)) refl
+    payloads-to (suc n) l = ap (λ (m : ℕ). m + length (payloadOf offsetWidth p ts n row)) (payloads-to n (omega arith)) ∙ payload-next n l (isVarlen (typeAt ts n)) refl
 
-    pub payload-length : length row ≡ lengthIn ts p row
+    pub payload-length : length row ≡ lengthIn offsetWidth p ts row
     payload-length =
         let n : length ts ≡ length ss = sym (length-map ts shapeOf) in
         let every : take (rankOf ss (length ts)) ps ≡ ps = rw (n, take-all (length ss) ss (omega arith), ← q .cells) (take-all (length ps) ps (omega arith)) in
-        laid-length ∙ ap (λ (m : ℕ). minimumOf (layoutFor ts) p + m) (sym (payloads-to (length ts) (omega arith) ∙ ap (λ (cs : List Cell). length (payloads cs)) every))
+        laid-length ∙ ap (λ (m : ℕ). minimum offsetWidth p (map shapeOf ts) + m)
+        (sym (payloads-to (length ts) (omega arith) ∙ ap (λ (cs : List Cell). length (payloads cs)) every))

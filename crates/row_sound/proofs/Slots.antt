@@ -18,7 +18,7 @@ use Rattle.row_layout.specs.declared.RowLayout.{RowLayout}
 use Rattle.row_layout.specs.declared.VarlenRange.{VarlenRange}
 use Rattle.row_layout.specs.declared.VarlenRange.the-variants as Range
 use Rattle.row_layout.specs.Layout.{sizeIn}
-use Rattle.row_layout.specs.Range.{partOf, rangeOf}
+use Rattle.row_layout.specs.Range.{partOf, varlenRange}
 use Rattle.datatype.specs.declared.DataType.{DataType}
 use Rattle.datatype.specs.declared.DataType.the-variants.{Char, Character, Varchar}
 use Rattle.datatype.specs.Types.{sizeOf, alignmentOf, isVarlen}
@@ -29,13 +29,16 @@ use Rattle.stored_form.specs.declared.SlotRead.the-variants as Slot
 use Rattle.stored_form.specs.Read.{valueIf, readSlot}
 use Rattle.row_column.specs.declared.ColumnRead.{ColumnRead}
 use Rattle.row_column.specs.declared.ColumnRead.the-variants.{Value}
-use Rattle.row_column.specs.Column.{slotValue, varlenValue, slotPlace, Reachable}
-use Rattle.row_sound.specs.Sound.{reads, soundColumn}
-use Rattle.row_sound.specs.Slots.{isValue, rangeSound}
+use Rattle.row_column.specs.Column.{slotValue, varlenValue}
+use Rattle.row_column.specs.InnerWalk.{walkedPlace, Reachable}
+use Rattle.row_sound.specs.Sound.{reads}
+use Rattle.row_sound.specs.InnerWalk.{walkedSound}
+use Rattle.row_sound.specs.InnerSlots.{rangeSound}
+use Rattle.row_sound.specs.Laid.{isValue}
 
 -- whether the bit of the column after those of layout b is set
-abbrev pub nullBit : RowLayout → List ℕ → Bool
-nullBit b r = eqb (bitAt (b .«num_columns») (drop bitmapStart r)) 1
+abbrev pub markedNull : RowLayout → List ℕ → Bool
+markedNull b r = eqb (bitAt (b .«num_columns») (drop bitmapStart r)) 1
 
 pub value-if : (t : Bool) (v : DataValue) → t ≡ isValue (valueIf t v)
 value-if true v = refl
@@ -61,24 +64,30 @@ text-cases false true i v = refl
 text-cases false false i v = refl
 
 module _ (l : RowLayout) (p : Bool) (b : RowLayout) (r : List ℕ) where
-  fixed-sound : (t : DataType) → isVarlen t ≡ false → soundColumn l p b t r ≡ cond (nullBit b r) true (isValue (readSlot t (slotPlace l p b t) (take (sizeOf t) (drop (slotPlace l p b t) r))))
-  unfolding soundColumn
+  fixed-sound : (t : DataType) → isVarlen t ≡ false → walkedSound l p b t r
+      ≡ cond (markedNull b r) true (isValue
+      (readSlot t (walkedPlace l p b t) (take (sizeOf t) (drop (walkedPlace l p b t) r))))
+  unfolding walkedSound
   fixed-sound t v =
-      rw (v, so-many (slotPlace l p b t) (sizeOf t)) (fixed-cases (nullBit b r) (b .«num_columns») (readSlot t (slotPlace l p b t) (take (sizeOf t) (drop (slotPlace l p b t) r))))
+      rw (v, so-many (walkedPlace l p b t) (sizeOf t))
+      (fixed-cases (markedNull b r) (b .«num_columns»)
+      (readSlot t (walkedPlace l p b t) (take (sizeOf t) (drop (walkedPlace l p b t) r))))
 
-  pub null-sound : (t : DataType) → isVarlen t ≡ false → nullBit b r ≡ true → true ≡ soundColumn l p b t r
+  pub null-sound : (t : DataType) → isVarlen t ≡ false → markedNull b r ≡ true → true ≡ walkedSound l p b t r
   null-sound t v e = sym (fixed-sound t v ∙ rw e)
 
   -- of a type that any bytes are a value of
-  pub any-sound : (t : DataType) → isVarlen t ≡ false → ((a : ℕ) (bs : List ℕ) → true ≡ isValue (readSlot t a bs)) → true ≡ soundColumn l p b t r
-  any-sound t v f = either-way (nullBit b r) (f (slotPlace l p b t) (take (sizeOf t) (drop (slotPlace l p b t) r))) ∙ sym (fixed-sound t v)
+  pub any-sound : (t : DataType) → isVarlen t ≡ false → ((a : ℕ) (bs : List ℕ) → true ≡ isValue (readSlot t a bs)) → true ≡ walkedSound l p b t r
+  any-sound t v f = either-way (markedNull b r)
+      (f (walkedPlace l p b t) (take (sizeOf t) (drop (walkedPlace l p b t) r))) ∙ sym (fixed-sound t v)
 
   -- not null, with a slot of z bytes at a
-  pub slot-told : (t : DataType) → isVarlen t ≡ false → {z : ℕ} → sizeOf t ≡ z → nullBit b r ≡ false → {a : ℕ} → a ≡ slotPlace l p b t → {q : Bool} → q ≡ isValue (readSlot t a (take z (drop a r))) → q ≡ soundColumn l p b t r
+  pub slot-told : (t : DataType) → isVarlen t ≡ false → {z : ℕ} → sizeOf t ≡ z → markedNull b r ≡ false → {a : ℕ} → a
+      ≡ walkedPlace l p b t → {q : Bool} → q ≡ isValue (readSlot t a (take z (drop a r))) → q ≡ walkedSound l p b t r
   slot-told t v e f h g = rw (h, ← e) at g ∙ sym (fixed-sound t v ∙ rw f)
 
   -- where it stands
-  pub place-is : (t : DataType) {z : ℕ} → alignmentOf t ≡ z → {f s : ℕ} → f ≡ fixedStart offsetWidth (l .«num_columns») (l .«num_varlen_cols») → s ≡ startAt p z (sizeIn b p) → f + s ≡ slotPlace l p b t
+  pub place-is : (t : DataType) {z : ℕ} → alignmentOf t ≡ z → {f s : ℕ} → f ≡ fixedStart offsetWidth (l .«num_columns») (l .«num_varlen_cols») → s ≡ startAt p z (sizeIn b p) → f + s ≡ walkedPlace l p b t
   place-is t e g h = rw (g, h, e)
 
   -- Character is stored as Char is
@@ -113,10 +122,15 @@ module _ (l : RowLayout) (p : Bool) (b : RowLayout) (r : List ℕ) where
   offsetOf = entryAt offsetWidth (tableStart (l .«num_columns»)) (b .«num_varlen_cols») r
 
   abbrev rangeIn : VarlenRange
-  rangeIn = rangeOf (tableStart (l .«num_columns»)) (l .«num_varlen_cols») (b .«num_varlen_cols») r
+  rangeIn = varlenRange offsetWidth (tableStart (l .«num_columns»)) (l .«num_varlen_cols») (b .«num_varlen_cols») r
 
-  pub varchar-told : (n : ℕ) → soundColumn l p b (Varchar n) r ≡ cond (nullBit b r) (eqb offsetOf 0) (rangeSound n r rangeIn)
-  unfolding soundColumn
+  pub varchar-told : (n : ℕ) → walkedSound l p b (Varchar n) r
+      ≡ cond (markedNull b r) (eqb offsetOf 0) (rangeSound n r rangeIn)
+  unfolding walkedSound
   varchar-told n =
       let i : ℕ = b .«num_columns» in
-      varchar-cases (nullBit b r) (eqb offsetOf 0) (varlenValue (Varchar n) i r rangeIn) (rangeSound n r rangeIn) (range-cases n i (eqb offsetOf 0) (partOf (length r) offsetOf (rangeEnd offsetWidth (tableStart (l .«num_columns»)) (l .«num_varlen_cols») (b .«num_varlen_cols») r)) (part-same n i offsetOf (rangeEnd offsetWidth (tableStart (l .«num_columns»)) (l .«num_varlen_cols») (b .«num_varlen_cols») r)))
+      varchar-cases (markedNull b r) (eqb offsetOf 0) (varlenValue (Varchar n) i r rangeIn) (rangeSound n r rangeIn)
+      (range-cases n i (eqb offsetOf 0) (partOf (length r) offsetOf
+      (rangeEnd offsetWidth (tableStart (l .«num_columns»)) (l .«num_varlen_cols») (b .«num_varlen_cols») r))
+      (part-same n i offsetOf (rangeEnd offsetWidth (tableStart (l .«num_columns»)) (l .«num_varlen_cols»)
+      (b .«num_varlen_cols») r)))

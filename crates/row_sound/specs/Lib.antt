@@ -1,4 +1,7 @@
 pub mod Sound
+pub mod InnerWalk
 pub mod Written
 pub mod Reread
-pub mod Slots
+pub mod InnerSlots
+pub mod Laid
+pub mod InnerSound

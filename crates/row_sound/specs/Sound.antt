@@ -1,21 +1,19 @@
--- 01: "A row is sound when all columns read without refusal, each Varchar has offset 0 exactly if it is null, and the first non-zero offset is the minimum
--- length (with none, the row has that length)." A row that is not sound is not edited (15). Null is the bitmap's bit alone. The bits past the last column
--- are not looked at.
-use Prim.Native.Nat.{ℕ}
+-- 01: "A row is sound when all columns read without refusal, each Varchar has offset 0 exactly if it is null, and the
+-- first non-zero offset is the minimum length (with none, the row has that length)." A row that is not sound is not
+-- edited (15). Null is the bitmap's bit alone. "Bitmap bits past the last column are not looked at."
+use Prim.Native.Nat.{ℕ, zero, suc}
 use mathlib.Core.Bool.{Bool, true, false, cond, not}
-use mathlib.Core.List.{List, [], _∷_}
+use mathlib.Core.List.{List, map}
 use mathlib.Core.Path.{_≡_}
 use lib.Dec.{eqb}
 use lib.ListN.{length, drop}
 use Rattle.laws.specs.Bits.{bitAt}
 use Rattle.laws.specs.Bytes.{fromTable, entryAt}
-use Rattle.row_format.specs.Places.{bitmapStart, tableStart, offsetWidth}
+use Rattle.row_format.specs.Places.{varlens, rankOf, bitmapStart, tableStart, minimum}
 use Rattle.row_format.specs.Table.{firstOffset}
-use Rattle.row_layout.specs.declared.RowLayout.{RowLayout}
-use Rattle.row_layout.specs.Layout.{noColumns, withColumn, minimumOf}
 use Rattle.datatype.specs.declared.DataType.{DataType}
 use Rattle.datatype.specs.Types.{isVarlen, shapeOf}
-use Rattle.datatype.specs.Check.{layoutFor}
+use Rattle.datatype.specs.Check.{typeAt}
 use Rattle.row_column.specs.declared.ColumnRead.{ColumnRead}
 use Rattle.row_column.specs.declared.ColumnRead.the-variants.{Value, Refused}
 use Rattle.row_column.specs.declared.Frame.the-variants.{Good}
@@ -24,7 +22,7 @@ use Rattle.row_column.specs.Column.{columnValue}
 use Rattle.row_sound.specs.declared.Soundness.{Soundness}
 use Rattle.row_sound.specs.declared.Soundness.the-variants.{Sound, NotSound}
 
--- ---- a column: the one of type t that comes after those of layout b, in a row r with layout l, packed or padded
+-- ---- a column
 
 -- "all columns read without refusal"
 abbrev pub reads : ColumnRead → Bool
@@ -35,40 +33,41 @@ reads (Refused e) = false
 abbrev pub zeroIfNull : ℕ → Bool → Bool
 zeroIfNull o null = cond null (eqb o 0) (not (eqb o 0))
 
-abbrev pub offsetSound : RowLayout → RowLayout → List ℕ → Bool
-offsetSound l b r = zeroIfNull (entryAt offsetWidth (tableStart (l .«num_columns»)) (b .«num_varlen_cols») r) (eqb (bitAt (b .«num_columns») (drop bitmapStart r)) 1)
+-- a column of type t that reads as c, its offset o if it is a Varchar, and whether its bit is set
+abbrev pub soundWith : DataType → ColumnRead → ℕ → Bool → Bool
+soundWith t c o null = cond (reads c) (cond (isVarlen t) (zeroIfNull o null) true) false
 
-unfoldable pub soundColumn : RowLayout → Bool → RowLayout → DataType → List ℕ → Bool
-soundColumn l p b t r = cond (reads (columnValue l p b t r)) (cond (isVarlen t) (offsetSound l b r) true) false
+-- column i of a row r of columns ts, packed or padded, with offsets of w bytes
+unfoldable pub soundColumn : ℕ → Bool → List DataType → ℕ → List ℕ → Bool
+soundColumn w p ts i r =
+    soundWith (typeAt ts i) (columnValue w p ts i r)
+    (entryAt w (tableStart (length ts)) (rankOf (map shapeOf ts) i) r) (eqb (bitAt i (drop bitmapStart r)) 1)
 
--- the columns of types ts that come after those of layout b
-abbrev pub soundFrom : RowLayout → Bool → List ℕ → RowLayout → List DataType → Bool
-soundFrom l p r b [] = true
-soundFrom l p r b (t ∷ ts) = cond (soundColumn l p b t r) (soundFrom l p r (withColumn b (shapeOf t)) ts) false
+-- column i and the n columns from it on
+abbrev pub soundFrom : ℕ → Bool → List DataType → List ℕ → ℕ → ℕ → Bool
+soundFrom w p ts r i zero = true
+soundFrom w p ts r i (suc n) = cond (soundColumn w p ts i r) (soundFrom w p ts r (suc i) n) false
 
 -- ---- a row
 
--- the first non-zero offset, else the row's length
-abbrev pub firstPayload : RowLayout → List ℕ → ℕ
-firstPayload l r = firstOffset (fromTable offsetWidth (l .«num_varlen_cols») (drop (tableStart (l .«num_columns»)) r)) (length r)
+-- "the first non-zero offset", else the row's length, in a row with a table of v offsets of w bytes at byte `table`
+abbrev pub firstPayload : ℕ → ℕ → ℕ → List ℕ → ℕ
+firstPayload w table v r = firstOffset (fromTable w v (drop table r)) (length r)
 
 -- behind its header
-abbrev pub isSoundIn : RowLayout → Bool → List DataType → List ℕ → Bool
-isSoundIn l p ts r = cond (soundFrom l p r noColumns ts) (eqb (firstPayload l r) (minimumOf l p)) false
-
--- "15 row to be edited is not sound": whatever refuses its header refuses the row
-abbrev pub isSound : ℕ → List DataType → List ℕ → Bool
-isSound limit ts r = onFrame (frameOf limit (layoutFor ts) r) (λ e. false) (λ p. isSoundIn (layoutFor ts) p ts r)
+abbrev pub isSoundIn : ℕ → Bool → List DataType → List ℕ → Bool
+isSoundIn w p ts r =
+    cond (soundFrom w p ts r 0 (length ts))
+    (eqb (firstPayload w (tableStart (length ts)) (varlens (map shapeOf ts)) r) (minimum w p (map shapeOf ts))) false
 
 -- what a call that edits is told: sound, and the row's own flag
-abbrev pub soundIn : RowLayout → Bool → List DataType → List ℕ → Soundness
-soundIn l p ts r = cond (isSoundIn l p ts r) (Sound p) NotSound
+abbrev pub soundIn : ℕ → Bool → List DataType → List ℕ → Soundness
+soundIn w p ts r = cond (isSoundIn w p ts r) (Sound p) NotSound
 
-abbrev pub soundness : ℕ → List DataType → List ℕ → Soundness
-soundness limit ts r = onFrame (frameOf limit (layoutFor ts) r) (λ e. NotSound) (λ p. soundIn (layoutFor ts) p ts r)
+abbrev pub soundness : ℕ → ℕ → List DataType → List ℕ → Soundness
+soundness w limit ts r = onFrame (frameOf w limit ts r) (λ e. NotSound) (λ p. soundIn w p ts r)
 
--- ---- for the proofs: a sound row, packed or padded as p says
-
-pub record SoundRow (limit : ℕ) (ts : List DataType) (p : Bool) (r : List ℕ) : Type 0 where
-  pub frame : frameOf limit (layoutFor ts) r ≡ Good p
-  pub sound : isSoundIn (layoutFor ts) p ts r ≡ true
+-- a sound row, packed or padded as p says
+pub record SoundRow (w limit : ℕ) (ts : List DataType) (p : Bool) (r : List ℕ) : Type 0 where
+  pub frame : frameOf w limit ts r ≡ Good p
+  pub sound : isSoundIn w p ts r ≡ true

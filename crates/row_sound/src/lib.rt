@@ -1,6 +1,7 @@
 // Whether a row may be edited. The Rust has no such test: on other rows its edits may panic, or leave bytes that belong to no column.
 use datatype::DataType;
 use datatype::Record;
+use datatype::schema_kinds;
 use row_column::ColumnRead;
 use row_column::Frame;
 use row_layout::RowLayout;
@@ -16,18 +17,20 @@ ghost use Rattle.laws.specs.Bytes.{fromLe};
 ghost use Rattle.text.specs.Rfc3629.{isText};
 ghost use Rattle.temporal.specs.Time.{timeOf};
 ghost use Rattle.row_format.specs.Places.{fixedStart, offsetWidth, rowLimit};
-ghost use Rattle.row_layout.specs.Layout.{Bounded, noColumns};
-ghost use Rattle.row_layout.specs.Range.{rangeOf};
+ghost use Rattle.row_layout.specs.Range.{varlenRange};
+ghost use Rattle.row_layout.specs.InnerLayout.{Bounded, noColumns};
 ghost use Rattle.datatype.specs.declared.DataType.the-variants.{Char, Varchar};
 ghost use Rattle.datatype.specs.Types.{isVarlen};
-ghost use Rattle.datatype.specs.Schema.{kindOf, recordAt};
-ghost use Rattle.datatype.specs.Steps.{plainSize, plainType, typeIn};
-ghost use Rattle.datatype.specs.Check.{typesIn, Accepted};
+ghost use Rattle.datatype.specs.Schema.{columnKind, columnRecordAt};
+ghost use Rattle.datatype.specs.InnerSteps.{plainSize, plainType, typeIn};
+ghost use Rattle.datatype.specs.Check.{typesIn};
+ghost use Rattle.datatype.specs.InnerCheck.{Accepted};
 ghost use Rattle.stored_form.specs.Read.{timed, readSlot};
-ghost use Rattle.row_column.specs.Frame.{Framed};
-ghost use Rattle.row_column.specs.Column.{slotPlace, Reachable};
-ghost use Rattle.row_sound.specs.Sound.{soundColumn, soundFrom, firstPayload, soundIn, soundness};
-ghost use Rattle.row_sound.specs.Slots.{isValue, rangeSound, Recorded};
+ghost use Rattle.row_column.specs.InnerWalk.{Framed, walkedPlace, Reachable};
+ghost use Rattle.row_sound.specs.Sound.{soundness};
+ghost use Rattle.row_sound.specs.InnerWalk.{walkedSound, walkedColumns, walkedFirst, walkedSoundness};
+ghost use Rattle.row_sound.specs.InnerSlots.{rangeSound, Recorded};
+ghost use Rattle.row_sound.specs.Laid.{isValue};
 
 // A sound row is packed or padded.
 pub enum Soundness {
@@ -48,18 +51,18 @@ fn time_sound(row: &[u8], start: usize) -> bool
 
 // Whether the bytes at `start` are a value of a kind that no body follows. Any bytes are a number or a truth.
 fn slot_sound(kind: u8, row: &[u8], start: usize) -> bool
-    requires { ⌜ (0 < plainSize (kindOf kind)) × (start + plainSize (kindOf kind) ≤ length (now row)) ⌝ }
-    ensures { λ r. ⌜ r ≡ isValue (readSlot (plainType (kindOf kind)) start (take (plainSize (kindOf kind)) (drop start (now (row .entry))))) ⌝ }
+    requires { ⌜ (0 < plainSize (columnKind kind)) × (start + plainSize (columnKind kind) ≤ length (now row)) ⌝ }
+    ensures { λ r. ⌜ r ≡ isValue (readSlot (plainType (columnKind kind)) start (take (plainSize (columnKind kind)) (drop start (now (row .entry))))) ⌝ }
 {
     match kind {
-        12 => temporal::is_date(endian::read_i32(row, start)),
-        13 => time_sound(row, start),
-        15 => temporal::is_timestamp(endian::read_i64(row, start)),
+        schema_kinds::DATE => temporal::is_date(endian::read_i32(row, start)),
+        schema_kinds::TIME => time_sound(row, start),
+        schema_kinds::TIMESTAMP => temporal::is_timestamp(endian::read_i64(row, start)),
         _ => true,
     }
 }
 
-// A column of such a kind, of `size` bytes. Its slot is looked at only where it could be no value.
+// A column of such a kind, of `size` bytes. Its slot is looked at only where it could be no value: from Date on.
 fn plain_sound(
     kind: u8,
     size: usize,
@@ -68,13 +71,13 @@ fn plain_sound(
     before: RowLayout,
     row: &[u8],
 ) -> bool
-    requires { ⌜ (size ≡ plainSize (kindOf kind)) × ((0 < size) × ((size ≤ 8) × Reachable layout packed before (plainType (kindOf kind)) (now row))) ⌝ }
-    ensures { λ r. ⌜ r ≡ soundColumn layout packed before (plainType (kindOf kind)) (now (row .entry)) ⌝ }
+    requires { ⌜ (size ≡ plainSize (columnKind kind)) × ((0 < size) × ((size ≤ 8) × Reachable layout packed before (plainType (columnKind kind)) (now row))) ⌝ }
+    ensures { λ r. ⌜ r ≡ walkedSound layout packed before (plainType (columnKind kind)) (now (row .entry)) ⌝ }
 {
-    if kind < 12 {
+    if kind < schema_kinds::DATE {
         return true;
     }
-    if null_bitmap::bit_is_set(&row[4..], before.num_columns) {
+    if null_bitmap::column_bit_is_set(row, before.num_columns) {
         return true;
     }
     let start = layout.fixed_data_start() + before.slot_start(packed, size);
@@ -84,7 +87,7 @@ fn plain_sound(
 // The range of a Varchar(n) that is not null.
 fn range_sound(n: usize, row: &[u8], table: usize, varlens: usize, rank: usize) -> bool
     requires { ⌜ (rank < varlens) × (table + varlens * offsetWidth ≤ length (now row)) ⌝ }
-    ensures { λ r. ⌜ r ≡ rangeSound n (now (row .entry)) (rangeOf table varlens rank (now (row .entry))) ⌝ }
+    ensures { λ r. ⌜ r ≡ rangeSound n (now (row .entry)) (varlenRange offsetWidth table varlens rank (now (row .entry))) ⌝ }
 {
     match row_layout::varlen_range(row, table, varlens, rank) {
         VarlenRange::Null => false,
@@ -101,11 +104,11 @@ fn range_sound(n: usize, row: &[u8], table: usize, varlens: usize, rank: usize) 
 // A Varchar: the offset of a null is 0, and another has a range.
 fn varchar_sound(n: u16, layout: RowLayout, packed: bool, before: RowLayout, row: &[u8]) -> bool
     requires { ⌜ Reachable layout packed before (Varchar n) (now row) ⌝ }
-    ensures { λ r. ⌜ r ≡ soundColumn layout packed before (Varchar n) (now (row .entry)) ⌝ }
+    ensures { λ r. ⌜ r ≡ walkedSound layout packed before (Varchar n) (now (row .entry)) ⌝ }
 {
     let table = layout.varlen_table_offset();
     let rank = before.num_varlen_cols;
-    if null_bitmap::bit_is_set(&row[4..], before.num_columns) {
+    if null_bitmap::column_bit_is_set(row, before.num_columns) {
         let offset = row_layout::offset_at(row, table, rank);
         return offset == 0;
     }
@@ -115,7 +118,7 @@ fn varchar_sound(n: u16, layout: RowLayout, packed: bool, before: RowLayout, row
 // The slot of a Char(n).
 fn char_sound(n: u16, layout: RowLayout, packed: bool, before: RowLayout, row: &[u8]) -> bool
     requires { ⌜ Reachable layout packed before (Char n) (now row) ⌝ }
-    ensures { λ r. ⌜ r ≡ isText (take n (drop (slotPlace layout packed before (Char n)) (now (row .entry)))) ⌝ }
+    ensures { λ r. ⌜ r ≡ isText (take n (drop (walkedPlace layout packed before (Char n)) (now (row .entry)))) ⌝ }
 {
     let start = layout.fixed_data_start() + before.slot_start(packed, 1);
     text::is_valid(&row[start..start + n as usize])
@@ -130,7 +133,7 @@ fn column_sound(
     row: &[u8],
 ) -> bool
     requires { ⌜ Reachable layout packed before ty (now row) × (isVarlen ty ≡ false) ⌝ }
-    ensures { λ r. ⌜ r ≡ soundColumn layout packed before ty (now (row .entry)) ⌝ }
+    ensures { λ r. ⌜ r ≡ walkedSound layout packed before ty (now (row .entry)) ⌝ }
 {
     match row_column::read_column(layout, packed, before, ty, row) {
         ColumnRead::Refused(_) => false,
@@ -146,8 +149,8 @@ fn record_sound(
     before: RowLayout,
     row: &[u8],
 ) -> bool
-    requires { ⌜ Recorded (now schema) at × (Reachable layout packed before (typeIn (recordAt (now schema) at)) (now row) × (isVarlen (typeIn (recordAt (now schema) at)) ≡ false)) ⌝ }
-    ensures { λ r. ⌜ r ≡ soundColumn layout packed before (typeIn (recordAt (now (schema .entry)) at)) (now (row .entry)) ⌝ }
+    requires { ⌜ Recorded (now schema) at × (Reachable layout packed before (typeIn (columnRecordAt (now schema) at)) (now row) × (isVarlen (typeIn (columnRecordAt (now schema) at)) ≡ false)) ⌝ }
+    ensures { λ r. ⌜ r ≡ walkedSound layout packed before (typeIn (columnRecordAt (now (schema .entry)) at)) (now (row .entry)) ⌝ }
 {
     match datatype::record_at(schema, at) {
         Record::Refused(_) => false,
@@ -165,20 +168,20 @@ fn body_sound(
     before: RowLayout,
     row: &[u8],
 ) -> bool
-    requires { ⌜ (kind ≡ getD (now schema) at 0) × ((plainSize (kindOf kind) ≡ 0) × (Recorded (now schema) at × Reachable layout packed before (typeIn (recordAt (now schema) at)) (now row))) ⌝ }
-    ensures { λ r. ⌜ r ≡ soundColumn layout packed before (typeIn (recordAt (now (schema .entry)) at)) (now (row .entry)) ⌝ }
+    requires { ⌜ (kind ≡ getD (now schema) at 0) × ((plainSize (columnKind kind) ≡ 0) × (Recorded (now schema) at × Reachable layout packed before (typeIn (columnRecordAt (now schema) at)) (now row))) ⌝ }
+    ensures { λ r. ⌜ r ≡ walkedSound layout packed before (typeIn (columnRecordAt (now (schema .entry)) at)) (now (row .entry)) ⌝ }
 {
     let n = endian::read_u16(schema, at + 1);
-    if kind == 11 {
+    if kind == schema_kinds::VARCHAR {
         return varchar_sound(n, layout, packed, before, row);
     }
-    if null_bitmap::bit_is_set(&row[4..], before.num_columns) {
+    if null_bitmap::column_bit_is_set(row, before.num_columns) {
         return true;
     }
     match kind {
-        9 => char_sound(n, layout, packed, before, row),
-        10 => char_sound(n, layout, packed, before, row),
-        14 => true,
+        schema_kinds::CHAR => char_sound(n, layout, packed, before, row),
+        schema_kinds::CHARACTER => char_sound(n, layout, packed, before, row),
+        schema_kinds::BIT => true,
         _ => record_sound(schema, at, layout, packed, before, row),
     }
 }
@@ -192,8 +195,8 @@ fn kind_sound(
     before: RowLayout,
     row: &[u8],
 ) -> bool
-    requires { ⌜ Recorded (now schema) at × Reachable layout packed before (typeIn (recordAt (now schema) at)) (now row) ⌝ }
-    ensures { λ r. ⌜ r ≡ soundColumn layout packed before (typeIn (recordAt (now (schema .entry)) at)) (now (row .entry)) ⌝ }
+    requires { ⌜ Recorded (now schema) at × Reachable layout packed before (typeIn (columnRecordAt (now schema) at)) (now row) ⌝ }
+    ensures { λ r. ⌜ r ≡ walkedSound layout packed before (typeIn (columnRecordAt (now (schema .entry)) at)) (now (row .entry)) ⌝ }
 {
     let kind = schema[at];
     let size = datatype::plain_size(kind);
@@ -206,7 +209,7 @@ fn kind_sound(
 // All columns. The schema was checked, so that no record of it is refused here.
 fn columns_sound(schema: &[u8], layout: RowLayout, packed: bool, row: &[u8]) -> bool
     requires { ⌜ Framed (now schema) layout packed (now row) ⌝ }
-    ensures { λ r. ⌜ r ≡ soundFrom layout packed (now (row .entry)) noColumns (typesIn (now (schema .entry))) ⌝ }
+    ensures { λ r. ⌜ r ≡ walkedColumns layout packed (now (row .entry)) noColumns (typesIn (now (schema .entry))) ⌝ }
 {
     let mut before = RowLayout::new();
     let mut at = 0;
@@ -224,7 +227,7 @@ fn columns_sound(schema: &[u8], layout: RowLayout, packed: bool, row: &[u8]) -> 
 // The first offset that is not 0, else the row's length.
 fn first_payload(layout: RowLayout, row: &[u8]) -> usize
     requires { ⌜ Bounded layout × (fixedStart offsetWidth (layout .«num_columns») (layout .«num_varlen_cols») ≤ length (now row)) ⌝ }
-    ensures { λ r. ⌜ r ≡ firstPayload layout (now (row .entry)) ⌝ }
+    ensures { λ r. ⌜ r ≡ walkedFirst layout (now (row .entry)) ⌝ }
 {
     let varlens = layout.num_varlen_cols;
     if varlens == 0 {
@@ -241,7 +244,7 @@ fn first_payload(layout: RowLayout, row: &[u8]) -> usize
 // The row's header is good.
 fn row_sound(schema: &[u8], layout: RowLayout, packed: bool, row: &[u8]) -> Soundness
     requires { ⌜ Framed (now schema) layout packed (now row) ⌝ }
-    ensures { λ r. ⌜ r ≡ soundIn layout packed (typesIn (now (schema .entry))) (now (row .entry)) ⌝ }
+    ensures { λ r. ⌜ r ≡ walkedSoundness layout packed (typesIn (now (schema .entry))) (now (row .entry)) ⌝ }
 {
     if columns_sound(schema, layout, packed, row) {
         if first_payload(layout, row) == layout.min_row_size(packed) {
@@ -254,7 +257,7 @@ fn row_sound(schema: &[u8], layout: RowLayout, packed: bool, row: &[u8]) -> Soun
 // Whether a row of a schema that was checked is sound.
 pub fn check_sound(schema: &[u8], layout: RowLayout, row: &[u8]) -> Soundness
     requires { ⌜ Accepted (now schema) layout ⌝ }
-    ensures { λ r. ⌜ r ≡ soundness rowLimit (typesIn (now (schema .entry))) (now (row .entry)) ⌝ }
+    ensures { λ r. ⌜ r ≡ soundness offsetWidth rowLimit (typesIn (now (schema .entry))) (now (row .entry)) ⌝ }
 {
     match row_column::check_frame(layout, row) {
         Frame::Refused(_) => Soundness::NotSound,

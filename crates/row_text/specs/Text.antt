@@ -5,9 +5,10 @@ use mathlib.Core.List.{List, []}
 use lib.Dec.{eqb, leb}
 use lib.ListN.{length}
 use Rattle.error.specs.declared.Refusal.the-variants.{NoSuchColumn, WrongKind}
+use Rattle.error.specs.Result.{onResult}
 use Rattle.datatype.specs.declared.DataType.{DataType}
 use Rattle.datatype.specs.Schema.{schemaOf}
-use Rattle.datatype.specs.Check.{onSchema, typeAt, layoutFor, layoutBefore}
+use Rattle.datatype.specs.Check.{typeAt}
 use Rattle.value.specs.Kinds.{valueKind}
 use Rattle.value.specs.Ranges.{rangeOf, part}
 use Rattle.row_column.specs.declared.ColumnRead.{ColumnRead}
@@ -27,22 +28,24 @@ textRead (Column.Value v) = Part (rangeOf v)
 textRead (Column.Refused e) = Refused e
 
 -- "It refuses as a read of that column"
-abbrev pub textInRow : ℕ → List DataType → List ℕ → ℕ → ColumnText
-textInRow limit ts r i = onFrame (frameOf limit (layoutFor ts) r) Refused (λ p. textRead (columnValue (layoutFor ts) p (layoutBefore ts i) (typeAt ts i) r))
+abbrev pub textInRow : ℕ → ℕ → List DataType → List ℕ → ℕ → ColumnText
+textInRow w limit ts r i = onFrame (frameOf w limit ts r) Refused (λ p. textRead (columnValue w p ts i r))
 
 -- "9 and 11 (not Char, Character or Varchar) come after 2"
-abbrev pub textOfColumn : ℕ → List DataType → List ℕ → ℕ → ColumnText
-textOfColumn limit ts r i = cond (leb (length ts) i) (Refused NoSuchColumn) (cond (holdsText (typeAt ts i)) (textInRow limit ts r i) (Refused (WrongKind i)))
+abbrev pub textOfColumn : ℕ → ℕ → List DataType → List ℕ → ℕ → ColumnText
+textOfColumn w limit ts r i =
+    cond (leb (length ts) i) (Refused NoSuchColumn)
+    (cond (holdsText (typeAt ts i)) (textInRow w limit ts r i) (Refused (WrongKind i)))
 
 abbrev pub textCall : ℕ → ℕ → List ℕ → List ℕ → ℕ → ColumnText
-textCall w limit schema r i = onSchema (schemaOf w limit schema) Refused (λ ts. textOfColumn limit ts r i)
+textCall w limit schema r i = onResult (schemaOf w limit schema) Refused (λ ts. textOfColumn w limit ts r i)
 
 -- "handed out as a part of the row"; "A null or a refusal gives the empty part"
 abbrev pub textPart : List ℕ → ColumnText → List ℕ
 textPart r (Part x) = part r x
 textPart r (Refused e) = []
 
--- for the proofs: a text lies in the row
+-- a text lies in the row: what the call ensures besides, so that the part can be taken
 abbrev pub PartIn : ℕ → ColumnText → Type 0
 PartIn n (Part x) = x .start + x .length ≤ n
 PartIn n (Refused e) = Unit {0}

@@ -6,12 +6,14 @@ use row_column::ColumnRead;
 use row_column::Frame;
 use row_layout::RowLayout;
 use value::TextRange;
+use value::value_kinds;
 ghost use mathlib.Core.Path.{_≡_};
 ghost use Prim.Native.Nat.{_<_};
 ghost use lib.ListN.{length};
 ghost use Rattle.row_format.specs.Places.{offsetWidth, rowLimit};
-ghost use Rattle.datatype.specs.Check.{typesIn, Accepted};
-ghost use Rattle.row_column.specs.Column.{Found, InRow};
+ghost use Rattle.datatype.specs.Check.{typesIn};
+ghost use Rattle.datatype.specs.InnerCheck.{Accepted};
+ghost use Rattle.row_column.specs.InnerWalk.{Found, InRow};
 ghost use Rattle.row_text.specs.Text.{holdsText, textRead, textInRow, textOfColumn, textCall, textPart, PartIn};
 
 pub enum ColumnText {
@@ -24,10 +26,10 @@ fn holds_text(ty: DataType) -> bool
     ensures { λ r. ⌜ r ≡ holdsText ty ⌝ }
 {
     let kind = value::value_kind(ty);
-    if kind == 8 {
+    if kind == value_kinds::CHAR {
         return true;
     }
-    kind == 9
+    kind == value_kinds::VARCHAR
 }
 
 fn text_read(column: ColumnRead, row: &[u8]) -> ColumnText
@@ -48,7 +50,7 @@ fn text_in_row(
     found: row_column::Column,
 ) -> ColumnText
     requires { ⌜ Accepted (now schema) layout × ((column < length (typesIn (now schema))) × Found (now schema) column found) ⌝ }
-    ensures { λ r. ⌜ (r ≡ textInRow rowLimit (typesIn (now (schema .entry))) (now (row .entry)) column) × PartIn (length (now (row .entry))) r ⌝ }
+    ensures { λ r. ⌜ (r ≡ textInRow offsetWidth rowLimit (typesIn (now (schema .entry))) (now (row .entry)) column) × PartIn (length (now (row .entry))) r ⌝ }
 {
     match row_column::check_frame(layout, row) {
         Frame::Refused(e) => ColumnText::Refused(e),
@@ -62,7 +64,7 @@ fn text_in_row(
 
 fn text_of_column(schema: &[u8], layout: RowLayout, row: &[u8], column: usize) -> ColumnText
     requires { ⌜ Accepted (now schema) layout ⌝ }
-    ensures { λ r. ⌜ (r ≡ textOfColumn rowLimit (typesIn (now (schema .entry))) (now (row .entry)) column) × PartIn (length (now (row .entry))) r ⌝ }
+    ensures { λ r. ⌜ (r ≡ textOfColumn offsetWidth rowLimit (typesIn (now (schema .entry))) (now (row .entry)) column) × PartIn (length (now (row .entry))) r ⌝ }
 {
     if layout.num_columns <= column {
         return ColumnText::Refused(Refusal::NoSuchColumn);

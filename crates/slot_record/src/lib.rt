@@ -1,26 +1,28 @@
 // A column's bytes written as a value record, by kinds and without a value in between. `from_bytes` and then `write_value_record` do the same,
 // but pass the value through memory.
+use datatype::schema_kinds;
 use error::Answer;
 use error::Refusal;
 use temporal::TimeOfDay;
 use value::TextRange;
+use value::value_kinds;
 ghost use mathlib.Core.Path.{_≡_};
 ghost use Prim.Native.Nat.{ℕ, _+_, _-_, _≤_};
 ghost use lib.ListN.{length, take, drop};
 ghost use Rattle.datatype.specs.declared.DataType.the-variants.{Bool as BoolType, Date as DateType, Time as TimeType, Timestamp as TimestampType, Char as CharType, Varchar as VarcharType};
-ghost use Rattle.datatype.specs.Schema.{kindOf};
-ghost use Rattle.datatype.specs.Steps.{plainSize, plainType};
+ghost use Rattle.datatype.specs.Schema.{columnKind};
+ghost use Rattle.datatype.specs.InnerSteps.{plainSize, plainType};
 ghost use Rattle.stored_form.specs.Read.{readSlot};
-ghost use Rattle.slot_record.specs.Record.{recorded};
+ghost use Rattle.slot_record.specs.InnerRecord.{recorded};
 
 fn bool_record(bytes: &[u8], out: &mut [u8], at: usize) -> Answer
     requires { ⌜ (length (now bytes) ≡ 1) × (at + 18 ≤ length (now out)) ⌝ }
     ensures { λ r. ⌜ (r, now (out .exit)) ≡ recorded (now (out .entry)) at 0 (readSlot BoolType 0 (now (bytes .entry))) ⌝ }
 {
     if bytes[0] == 0 {
-        return Answer::Done(value_list::write_8(out, at, 7, 0));
+        return Answer::Done(value_list::write_8(out, at, value_kinds::BOOL, 0));
     }
-    Answer::Done(value_list::write_8(out, at, 7, 1))
+    Answer::Done(value_list::write_8(out, at, value_kinds::BOOL, 1))
 }
 
 fn date_record(i: usize, bytes: &[u8], out: &mut [u8], at: usize) -> Answer
@@ -29,7 +31,12 @@ fn date_record(i: usize, bytes: &[u8], out: &mut [u8], at: usize) -> Answer
 {
     let days = endian::read_i32(bytes, 0);
     if temporal::is_date(days) {
-        return Answer::Done(value_list::write_32(out, at, 10, endian::read_u32(bytes, 0)));
+        return Answer::Done(value_list::write_32(
+            out,
+            at,
+            value_kinds::DATE,
+            endian::read_u32(bytes, 0),
+        ));
     }
     Answer::Refused(Refusal::NoValue(i))
 }
@@ -42,7 +49,7 @@ fn time_record(i: usize, bytes: &[u8], out: &mut [u8], at: usize) -> Answer
         TimeOfDay::Micros(micros) => Answer::Done(value_list::write_64(
             out,
             at,
-            11,
+            value_kinds::TIME,
             signed::cast_unsigned_64(micros),
         )),
         TimeOfDay::OutOfRange => Answer::Refused(Refusal::NoValue(i)),
@@ -55,25 +62,55 @@ fn timestamp_record(i: usize, bytes: &[u8], out: &mut [u8], at: usize) -> Answer
 {
     let micros = endian::read_i64(bytes, 0);
     if temporal::is_timestamp(micros) {
-        return Answer::Done(value_list::write_64(out, at, 13, endian::read_u64(bytes, 0)));
+        return Answer::Done(value_list::write_64(
+            out,
+            at,
+            value_kinds::TIMESTAMP,
+            endian::read_u64(bytes, 0),
+        ));
     }
     Answer::Refused(Refusal::NoValue(i))
 }
 
 // A column of a kind without a body, wherever its bytes stand. The numbers have one kind as types and as values.
 pub fn plain_record(kind: u8, i: usize, bytes: &[u8], out: &mut [u8], at: usize) -> Answer
-    requires { ⌜ (plainSize (kindOf kind) ≡ 0 → ⊥) × ((length (now bytes) ≡ plainSize (kindOf kind)) × (at + 18 ≤ length (now out))) ⌝ }
-    ensures { λ r. ⌜ ((start : ℕ) → (r, now (out .exit)) ≡ recorded (now (out .entry)) at i (readSlot (plainType (kindOf kind)) start (now (bytes .entry)))) ⌝ }
+    requires { ⌜ (plainSize (columnKind kind) ≡ 0 → ⊥) × ((length (now bytes) ≡ plainSize (columnKind kind)) × (at + 18 ≤ length (now out))) ⌝ }
+    ensures { λ r. ⌜ ((start : ℕ) → (r, now (out .exit)) ≡ recorded (now (out .entry)) at i (readSlot (plainType (columnKind kind)) start (now (bytes .entry)))) ⌝ }
 {
     match kind {
-        1 => Answer::Done(value_list::write_16(out, at, 1, endian::read_u16(bytes, 0))),
-        2 => Answer::Done(value_list::write_32(out, at, 2, endian::read_u32(bytes, 0))),
-        3 => Answer::Done(value_list::write_64(out, at, 3, endian::read_u64(bytes, 0))),
-        4 => Answer::Done(value_list::write_32(out, at, 4, endian::read_u32(bytes, 0))),
-        5 => Answer::Done(value_list::write_64(out, at, 5, endian::read_u64(bytes, 0))),
-        8 => bool_record(bytes, out, at),
-        12 => date_record(i, bytes, out, at),
-        13 => time_record(i, bytes, out, at),
+        schema_kinds::SMALL_INT => Answer::Done(value_list::write_16(
+            out,
+            at,
+            value_kinds::SMALL_INT,
+            endian::read_u16(bytes, 0),
+        )),
+        schema_kinds::INT => Answer::Done(value_list::write_32(
+            out,
+            at,
+            value_kinds::INT,
+            endian::read_u32(bytes, 0),
+        )),
+        schema_kinds::BIG_INT => Answer::Done(value_list::write_64(
+            out,
+            at,
+            value_kinds::BIG_INT,
+            endian::read_u64(bytes, 0),
+        )),
+        schema_kinds::REAL => Answer::Done(value_list::write_32(
+            out,
+            at,
+            value_kinds::REAL,
+            endian::read_u32(bytes, 0),
+        )),
+        schema_kinds::DOUBLE_PRECISION => Answer::Done(value_list::write_64(
+            out,
+            at,
+            value_kinds::DOUBLE_PRECISION,
+            endian::read_u64(bytes, 0),
+        )),
+        schema_kinds::BOOL => bool_record(bytes, out, at),
+        schema_kinds::DATE => date_record(i, bytes, out, at),
+        schema_kinds::TIME => time_record(i, bytes, out, at),
         _ => timestamp_record(i, bytes, out, at),
     }
 }
@@ -92,7 +129,12 @@ pub fn char_record(
 {
     if text::is_valid(&row[start..end]) {
         let length = end - start;
-        return Answer::Done(value_list::write_range(out, at, 8, TextRange { start, length }));
+        return Answer::Done(value_list::write_range(
+            out,
+            at,
+            value_kinds::CHAR,
+            TextRange { start, length },
+        ));
     }
     Answer::Refused(Refusal::NoValue(i))
 }
@@ -115,7 +157,12 @@ pub fn varchar_record(
         return Answer::Refused(Refusal::NoValue(i));
     }
     if text::is_valid(&row[start..end]) {
-        return Answer::Done(value_list::write_range(out, at, 9, TextRange { start, length }));
+        return Answer::Done(value_list::write_range(
+            out,
+            at,
+            value_kinds::VARCHAR,
+            TextRange { start, length },
+        ));
     }
     Answer::Refused(Refusal::NoValue(i))
 }

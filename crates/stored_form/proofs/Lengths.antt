@@ -9,7 +9,7 @@ use lib.Dec.{leb}
 use lib.ListN.{length, replicate, length-append, length-replicate}
 use Rattle.laws.proofs.Truths.{both}
 use Rattle.text.specs.Rfc3629.{isText}
-use Rattle.bit_utils.specs.Bits.{bytesFor, unpackBits}
+use Rattle.bit_utils.specs.Bits.{bytesFor}
 use Rattle.bit_utils.proofs.Packing.{length-packed}
 use Rattle.numeric.proofs.Packing.{length-encode}
 use Rattle.datatype.specs.declared.DataType.{DataType}
@@ -55,7 +55,7 @@ of-matched t v x (character n r) e = length-char n x e
 of-matched t v x (varchar n r) e = refl
 of-matched t v x (date z) e = refl
 of-matched t v x (time z) e = refl
-of-matched t v x (bit n r) e = length-packed (bytesFor n) (unpackBits n x)
+of-matched t v x (bit n r) e = length-packed (bytesFor n) _
 of-matched t v x (timestamp z) e = refl
 
 pub length-stored : (t : DataType) (v : DataValue) (x : List ℕ) → matches t v ≡ true → suits t v x ≡ true → length (storedForm t v x) ≡ cond (isVarlen t) (length x) (sizeOf t)

@@ -30,7 +30,7 @@ pub data Matched : DataType → DataValue → Type 0 where
   timestamp : (z : ℤ) → Matched T.Timestamp (D.Timestamp z)
 
 -- a value and its kind
-data Kinded : DataValue → ℕ → Type 0 where
+pub data Kinded : DataValue → ℕ → Type 0 where
   null : Kinded D.Null 0
   smallint : (z : ℤ) → Kinded (D.SmallInt z) 1
   int : (z : ℤ) → Kinded (D.Int z) 2
@@ -46,7 +46,7 @@ data Kinded : DataValue → ℕ → Type 0 where
   bit : (r : TextRange) → Kinded (D.Bit r) 12
   timestamp : (z : ℤ) → Kinded (D.Timestamp z) 13
 
-kinded : (v : DataValue) → Kinded v (kindOf v)
+pub kinded : (v : DataValue) → Kinded v (kindOf v)
 kinded D.Null = null
 kinded (D.SmallInt z) = Kinded.smallint z
 kinded (D.Int z) = Kinded.int z

@@ -14,7 +14,7 @@ use Rattle.laws.proofs.Bytes.{from-to}
 use Rattle.numeric.specs.Decimal.{halves}
 use Rattle.numeric.proofs.Digits.{upper-half, lower-half}
 use Rattle.value.specs.declared.NumericValue.{NumericValue}
-use Rattle.stored_form.specs.Number.{isNegative, magnitude, numberOf}
+use Rattle.stored_form.specs.Number.{isNegative, magnitude, numericOf}
 
 -- a number of n bytes
 module _ (w : Width) (n : ℕ) (s : 2 ^ bits w ≡ 256 ^ n) where
@@ -44,21 +44,21 @@ module _ (h low : ℕ) (l : low < 2 ^ 64) where
   other = omega arith
 
 -- its sign and its magnitude give the number back
-halves-back : (h : ℤ) (low s : ℕ) → low < 2 ^ 64 → numberOf (isNegative h) (magnitude h low) s ≡ record { high = h; low = low; scale = s }
+halves-back : (h : ℤ) (low s : ℕ) → low < 2 ^ 64 → numericOf (isNegative h) (magnitude h low) s ≡ record { high = h; low = low; scale = s }
 halves-back (pos h) low s l = rw (upper-half h low l, lower-half h low l)
 halves-back (negsuc h) low s l =
     let m : ℕ = 2 ^ 64 - 1 - low in
     rw (less h low l, upper-half h m (other h low l), lower-half h m (other h low l), twice h low l)
 
 pub number-back : (n : NumericValue) (s : ℕ) → n .low < 2 ^ 64 → n .scale ≡ s
-    → (let m = magnitude (n .high) (n .low) in numberOf (isNegative (n .high)) (halves (m / 2 ^ 64) (m % 2 ^ 64)) s) ≡ n
+    → (let m = magnitude (n .high) (n .low) in numericOf (isNegative (n .high)) (halves (m / 2 ^ 64) (m % 2 ^ 64)) s) ≡ n
 number-back n s l e =
     let m : ℕ = magnitude (n .high) (n .low) in
     let whole : halves (m / 2 ^ 64) (m % 2 ^ 64) ≡ m = omega arith in
-    ap (λ (k : ℕ). numberOf (isNegative (n .high)) k s) whole ∙ rw (← e) (halves-back (n .high) (n .low) (n .scale) l)
+    ap (λ (k : ℕ). numericOf (isNegative (n .high)) k s) whole ∙ rw (← e) (halves-back (n .high) (n .low) (n .scale) l)
 
 -- its upper half is a machine's number if that of the magnitude can be signed
-pub number-fits : (negative : Bool) (m s : ℕ) → m / 2 ^ 64 < 2 ^ 63 → SFits w64 (numberOf negative m s .high)
+pub number-fits : (negative : Bool) (m s : ℕ) → m / 2 ^ 64 < 2 ^ 63 → SFits w64 (numericOf negative m s .high)
 number-fits false m s h = record { sfits = h }
 number-fits true zero s h = record { sfits = omega arith }
 number-fits true (suc m) s h = record { sfits = omega arith }

@@ -1,8 +1,9 @@
--- A stored value is read back, and its text is what was stored.
+-- A stored value is read back, and its text is what was stored; of a Bit the n bits are those that were given.
 use Prim.Native.Nat.{ℕ, _-_, _^_}
 use mathlib.Core.Path.{_≡_, refl, sym, ap, _∙_}
 use mathlib.Core.Bool.{Bool, true, false, cond, false≢true}
 use mathlib.Core.List.{List, _++_}
+use native.Mathlib.Omega.{arith}
 use borrow.Author.Tests.{eqb-true, ltb-true, le-ltb}
 use lib.Dec.{eqb, ltb}
 use lib.IntN.{ℤ}
@@ -17,10 +18,13 @@ use Rattle.temporal.specs.Time.{timeOf}
 use Rattle.temporal.proofs.Counts.{time-read}
 use Rattle.bit_utils.specs.Bits.{bytesFor, unpackBits}
 use Rattle.bit_utils.proofs.Packing.{length-packed}
+use Rattle.bit_utils.proofs.Unpacking.{bits-back}
 use Rattle.numeric.specs.Packed.{encodeBcd, decodeBcd}
 use Rattle.numeric.proofs.RoundTrip.{decode-encode}
 use Rattle.datatype.specs.declared.DataType.{DataType}
+use Rattle.datatype.specs.declared.DataType.the-variants as T
 use Rattle.value.specs.declared.NumericValue.{NumericValue}
+use Rattle.value.specs.declared.TextRange.{TextRange}
 use Rattle.value.specs.declared.DataValue.{DataValue}
 use Rattle.value.specs.declared.DataValue.the-variants as D
 use Rattle.value.specs.Kinds.{matches}
@@ -69,7 +73,7 @@ of-matched t v x start (character n r) e f = char-back n start x e
 of-matched t v x start (varchar n r) e f = rw (le-ltb n (length x) (fits-length n x e), fits-valid n x e)
 of-matched t v x start (date z) e f = tested isDate D.Date _ z (signed-back w32 4 refl z f) e
 of-matched t v x start (time z) e f = ap (λ (y : ℤ). timed (timeOf y)) (signed-back w64 8 refl z f) ∙ ap timed (time-read z e)
-of-matched t v x start (bit n r) e f = ap (λ (k : ℕ). Value (D.Bit (record { start = start; length = k }))) (length-packed (bytesFor n) (unpackBits n x))
+of-matched t v x start (bit n r) e f = ap (λ (k : ℕ). Value (D.Bit (record { start = start; length = k }))) (length-packed (bytesFor n) _)
 of-matched t v x start (timestamp z) e f = tested isTimestamp D.Timestamp _ z (signed-back w64 8 refl z f) e
 
 pub read-stored : (t : DataType) (v : DataValue) (x : List ℕ) (start : ℕ) → matches t v ≡ true → suits t v x ≡ true → Sized v → readSlot t start (storedForm t v x) ≡ Value (readBack t start v x)
@@ -91,7 +95,7 @@ range-matched t v x start (character n r) e f = ap (λ (k : ℕ). record { start
 range-matched t v x start (varchar n r) e f = refl
 range-matched t v x start (date z) e f = absurd (false≢true f)
 range-matched t v x start (time z) e f = absurd (false≢true f)
-range-matched t v x start (bit n r) e f = ap (λ (k : ℕ). record { start = start; length = k }) (sym (length-packed (bytesFor n) (unpackBits n x)))
+range-matched t v x start (bit n r) e f = ap (λ (k : ℕ). record { start = start; length = k }) (sym (length-packed (bytesFor n) _))
 range-matched t v x start (timestamp z) e f = absurd (false≢true f)
 
 -- in any row with the slot at `start`
@@ -99,3 +103,15 @@ pub text-stored : (t : DataType) (v : DataValue) (x us vs : List ℕ) (start : �
     → textOf (us ++ (storedForm t v x ++ vs)) (readBack t start v x) ≡ storedForm t v x
 text-stored t v x us vs start m e h l =
     ap (part (us ++ (storedForm t v x ++ vs))) (range-matched t v x start (matched t v m) e h) ∙ part-at us (storedForm t v x) vs start l
+
+-- ---- the bits of a Bit
+
+module _ (n : ℕ) (r : TextRange) (x : List ℕ) (e : suits (T.Bit n) (D.Bit r) x ≡ true) where
+  pub bits-form : unpackBits n (storedForm (T.Bit n) (D.Bit r) x) ≡ unpackBits n x
+  bits-form = let l = eqb-true (length x) (bytesFor n) e in bits-back n x (omega arith)
+
+  pub bits-stored : (us vs : List ℕ) (start : ℕ) → length us ≡ start
+      → unpackBits n (textOf (us ++ (storedForm (T.Bit n) (D.Bit r) x ++ vs)) (readBack (T.Bit n) start (D.Bit r) x))
+      ≡ unpackBits n x
+  bits-stored us vs start l =
+      ap (unpackBits n) (text-stored (T.Bit n) (D.Bit r) x us vs start refl e refl l) ∙ bits-form

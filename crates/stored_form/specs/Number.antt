@@ -14,7 +14,7 @@ magnitude (pos h) low = h * 2 ^ 64 + low
 magnitude (negsuc h) low = suc h * 2 ^ 64 - low
 
 -- the number of a sign and a magnitude
-abbrev pub numberOf : Bool → ℕ → ℕ → NumericValue
-numberOf false m s = record { high = pos (m / 2 ^ 64); low = m % 2 ^ 64; scale = s }
-numberOf true zero s = record { high = pos 0; low = 0; scale = s }
-numberOf true (suc m) s = record { high = negsuc (m / 2 ^ 64); low = 2 ^ 64 - 1 - m % 2 ^ 64; scale = s }
+abbrev pub numericOf : Bool → ℕ → ℕ → NumericValue
+numericOf false m s = record { high = pos (m / 2 ^ 64); low = m % 2 ^ 64; scale = s }
+numericOf true zero s = record { high = pos 0; low = 0; scale = s }
+numericOf true (suc m) s = record { high = negsuc (m / 2 ^ 64); low = 2 ^ 64 - 1 - m % 2 ^ 64; scale = s }

@@ -24,7 +24,7 @@ use Rattle.value.specs.declared.DataValue.{DataValue}
 use Rattle.value.specs.declared.DataValue.the-variants as D
 use Rattle.stored_form.specs.declared.SlotRead.{SlotRead}
 use Rattle.stored_form.specs.declared.SlotRead.the-variants.{Value, NoValue}
-use Rattle.stored_form.specs.Number.{numberOf}
+use Rattle.stored_form.specs.Number.{numericOf}
 
 -- a value if the bytes are one
 abbrev pub valueIf : Bool → DataValue → SlotRead
@@ -35,7 +35,7 @@ abbrev pub twosComplement : List ℕ → NumericValue
 twosComplement bs = record { high = toZ w64 (fromLe (take 8 (drop 8 bs))); low = fromLe (take 8 bs); scale = getD bs 16 0 }
 
 abbrev pub decoded : ℕ → List ℕ → Decoded → SlotRead
-decoded s bs (Bcd.Value negative high low) = Value (D.Numeric (numberOf negative (halves high low) s))
+decoded s bs (Bcd.Value negative high low) = Value (D.Numeric (numericOf negative (halves high low) s))
 decoded s bs Bcd.Broken = valueIf (eqb (length bs) 17) (D.Numeric (twosComplement bs))
 
 abbrev pub timed : TimeOfDay → SlotRead

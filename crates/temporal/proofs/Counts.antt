@@ -11,17 +11,17 @@ use mir.Syntax.{Width, w64}
 use mir.Val.{SFits, Fits, toZ, ofZ}
 use mir.ValLaws.{toZ-ofZ, toZ-pos}
 use borrow.Author.Tests.{le-leb, lt-leb, le-ltb, leb-true}
-use Rattle.temporal.specs.Ranges.{within, isTime}
+use Rattle.temporal.specs.Ranges.{between, isTime}
 use Rattle.temporal.specs.Time.{modZ, timeOf}
 use Rattle.temporal.specs.declared.TimeOfDay.the-variants.{Micros, OutOfRange}
 
 -- ---- ranges
 
 module _ (w : Width) (z : ℤ) (f : SFits w z) (low high : ℤ) where
-  pub under : ltZ (toZ w (ofZ w z)) low ≡ true → false ≡ within low high z
+  pub under : ltZ (toZ w (ofZ w z)) low ≡ true → false ≡ between low high z
   under h = let k : ltZ z low ≡ true = rw (toZ-ofZ w z f) at h in rw k
 
-  pub not-under : ltZ (toZ w (ofZ w z)) low ≡ false → leZ (toZ w (ofZ w z)) high ≡ within low high z
+  pub not-under : ltZ (toZ w (ofZ w z)) low ≡ false → leZ (toZ w (ofZ w z)) high ≡ between low high z
   not-under h = let k : ltZ z low ≡ false = rw (toZ-ofZ w z f) at h in rw (k, toZ-ofZ w z f)
 
 -- ---- the low 32 bits are the number modulo 2 ^ 32

@@ -11,8 +11,8 @@ use lib.ListN.{length, getD, drop, replicate, List·getD-eq-default}
 use lib.Seq.{paste, take-length, getD-drop}
 use borrow.Author.Tests.{leb-true, leb-false, le-leb}
 use Rattle.text.specs.Rfc3629.{isText}
-use Rattle.text.specs.Each.{Each}
-use Rattle.text.specs.Follow.{pending, follows, followsAt, padded, isAscii}
+use Rattle.text.specs.InnerEach.{Each}
+use Rattle.text.specs.InnerFollow.{pending, follows, followsAt, padded, isAscii}
 use Rattle.laws.proofs.Truths.{cases, same, or-none, and-left, and-right}
 use Rattle.text.proofs.Laws.{each-join, getD-zeros, getD-append-zeros}
 use Rattle.text.proofs.Follow.{Complete, after-complete, chain, chain-text}

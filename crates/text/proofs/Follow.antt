@@ -5,8 +5,8 @@ use mathlib.Core.Bool.{Bool, true, false, _&&_, or-false, or-true, and-true, Boo
 use mathlib.Core.List.{List, [], _∷_}
 use native.Mathlib.Omega.{arith}
 use borrow.Author.Tests.{le-leb, lt-leb}
-use Rattle.text.specs.Rfc3629.{Range, within, _to_, utf8-tail, utf8-char, octets, given, isText}
-use Rattle.text.specs.Follow.{begins, pending, isBounded, inBounds, follows}
+use Rattle.text.specs.Rfc3629.{Range, within, _to_, utf8-tail, utf8-char, octets, isGiven, isText}
+use Rattle.text.specs.InnerFollow.{begins, pending, isBounded, inBounds, follows}
 use Rattle.text.proofs.Laws.{is-first, is-second, is-neither, upper, lower}
 use Rattle.text.proofs.Grammar.{Between, inside, given-if, Rests, given-begin, starts-char}
 
@@ -143,7 +143,7 @@ unfoldable pub chain : ℕ → ℕ → ℕ → List ℕ → Bool
 chain x y z [] = follows x y z 0
 chain x y z (d ∷ s) = follows x y z d && chain y z d s
 
-chain-octets : (s : List ℕ) (ranges : List Range) (x y z : ℕ) → Due ranges x y z → given (octets s ranges) ≡ chain x y z s
+chain-octets : (s : List ℕ) (ranges : List Range) (x y z : ℕ) → Due ranges x y z → isGiven (octets s ranges) ≡ chain x y z s
 unfolding octets chain
 chain-octets [] [] x y z k = sym (after-complete x y z k 0)
 chain-octets [] (r ∷ rest) x y z k = sym (k .1 0 ∙ k .0)

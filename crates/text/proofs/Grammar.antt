@@ -7,8 +7,8 @@ use mathlib.Core.Option.{Option, none, some}
 use native.Mathlib.Omega.{arith}
 use lib.Dec.{leb, leb·zero}
 use borrow.Author.Tests.{leb-true}
-use Rattle.text.specs.Rfc3629.{Range, Form, within, _to_, utf8-char, more, orElse, begin, given}
-use Rattle.text.specs.Follow.{begins}
+use Rattle.text.specs.Rfc3629.{Range, Form, within, _to_, utf8-char, more, orNext, begin, isGiven}
+use Rattle.text.specs.InnerFollow.{begins}
 use Rattle.laws.proofs.Truths.{and-left, and-right}
 use Rattle.text.proofs.Laws.{joined}
 
@@ -21,15 +21,15 @@ inside lo hi b e = record { low = leb-true lo b (and-left (leb lo b) (leb b hi) 
 
 -- ---- whether there is a number
 
-pub given-more : (x : Option ℕ) → given (more x) ≡ given x
+pub given-more : (x : Option ℕ) → isGiven (more x) ≡ isGiven x
 given-more none = refl
 given-more (some n) = refl
 
-pub given-or : (x y : Option ℕ) → given (orElse x y) ≡ (given x || given y)
+pub given-or : (x y : Option ℕ) → isGiven (orNext x y) ≡ (isGiven x || isGiven y)
 given-or none y = refl
 given-or (some n) y = refl
 
-pub given-if : (t : Bool) (x : Option ℕ) (c : Bool) → (t ≡ true → given x ≡ c) → given (cond t x none) ≡ (t && c)
+pub given-if : (t : Bool) (x : Option ℕ) (c : Bool) → (t ≡ true → isGiven x ≡ c) → isGiven (cond t x none) ≡ (t && c)
 given-if true x c h = h refl
 given-if false x c h = refl
 
@@ -48,7 +48,7 @@ Rests P ([] ∷ forms) b = Rests P forms b
 Rests P ((lo to hi ∷ rest) ∷ forms) b = (Between lo hi b → P rest) × Rests P forms b
 
 pub given-begin : {P : List Range → Type 0} (forms : List Form) (b : ℕ) (go : List Range → Option ℕ) (c : Bool) → Rests P forms b
-    → ((rest : List Range) → P rest → given (go rest) ≡ c) → given (begin forms b go) ≡ (starts forms b && c)
+    → ((rest : List Range) → P rest → isGiven (go rest) ≡ c) → isGiven (begin forms b go) ≡ (starts forms b && c)
 given-begin [] b go c k f = refl
 given-begin ([] ∷ forms) b go c k f = given-begin forms b go c k f
 given-begin ((lo to hi ∷ rest) ∷ forms) b go c k f =

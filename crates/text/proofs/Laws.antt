@@ -4,12 +4,13 @@ use mathlib.Core.Path.{_≡_, refl, sym, _∙_}
 use mathlib.Core.Bool.{Bool, true, false, not, cond, _&&_, _||_, and-true, and-false, and-self, or-false, false≢true}
 use mathlib.Core.List.{List, [], _∷_, _++_}
 use mathlib.Core.Logic.{_↔_}
+use mathlib.Core.Option.{none, some}
 use native.Mathlib.Omega.{arith}
 use lib.Dec.{leb, eqb}
 use lib.ListN.{getD, replicate}
 use borrow.Author.Tests.{le-leb, lt-leb, eq-eqb, ne-eqb}
 use Rattle.laws.proofs.Truths.{and-left, and-right, same, cases}
-use Rattle.text.specs.Each.{Each}
+use Rattle.text.specs.InnerEach.{Each}
 
 -- ---- truth values
 
@@ -22,6 +23,13 @@ pub refuted : {P : Type 0} {t x : Bool} → (x ≡ true) ↔ P → (t ≡ true �
 refuted f g e = same (λ h. absurd (false≢true h)) (λ h. sym e ∙ f .1 (g h))
 
 -- ---- numbers
+
+-- a number that may not be there
+pub none-some : {P : Type 0} {n : ℕ} → none ≡ some n → P
+none-some e = let z : _≡_ {A = ℕ} 0 1 = cc in absurd (omega arith)
+
+pub some-same : {m n : ℕ} → some m ≡ some n → m ≡ n
+some-same e = cc
 
 -- a number against what a test picks of two: the first of them, the second, and neither
 pub is-first : (t : Bool) (p q : ℕ) → (p ≡ q → ⊥) → eqb p (cond t p q) ≡ t

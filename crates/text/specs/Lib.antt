@@ -1,3 +1,5 @@
 pub mod Rfc3629
-pub mod Each
-pub mod Follow
+pub mod Characters
+pub mod InnerEach
+pub mod InnerFollow
+pub mod InnerCharacters

@@ -57,16 +57,16 @@ more none = none
 more (some n) = some (suc n)
 
 -- of two alternatives the first that gives a number
-abbrev pub orElse : Option ℕ → Option ℕ → Option ℕ
-orElse none y = y
-orElse (some n) y = some n
+abbrev pub orNext : Option ℕ → Option ℕ → Option ℕ
+orNext none y = y
+orNext (some n) y = some n
 
 -- A character that begins with the byte b, in the first of the forms that gives a number: b lies in the form's first range,
 -- and `go` counts the characters that begin after b, where a byte in each of the form's other ranges is to come first.
 abbrev pub begin : List Form → ℕ → (List Range → Option ℕ) → Option ℕ
 begin [] b go = none
 begin ([] ∷ forms) b go = begin forms b go
-begin ((r ∷ rest) ∷ forms) b go = orElse (cond (within r b) (more (go rest)) none) (begin forms b go)
+begin ((r ∷ rest) ∷ forms) b go = orNext (cond (within r b) (more (go rest)) none) (begin forms b go)
 
 -- UTF8-octets = *( UTF8-char ): the number of characters that begin in s, where a byte in each of the given ranges is to
 -- come first, the rest of a character that began before s
@@ -81,10 +81,10 @@ abbrev pub codePoints : List ℕ → Option ℕ
 codePoints s = octets s []
 
 -- there is a number
-abbrev pub given : Option ℕ → Bool
-given none = false
-given (some n) = true
+abbrev pub isGiven : Option ℕ → Bool
+isGiven none = false
+isGiven (some n) = true
 
 -- s is valid text
 abbrev pub isText : List ℕ → Bool
-isText s = given (codePoints s)
+isText s = isGiven (codePoints s)

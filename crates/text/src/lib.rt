@@ -10,8 +10,8 @@ ghost use mathlib.Core.Logic.{_↔_};
 ghost use Prim.Native.Nat.{_+_, _<_, _≤_};
 ghost use lib.ListN.{length};
 ghost use Rattle.text.specs.Rfc3629.{isText};
-ghost use Rattle.text.specs.Each.{Each};
-ghost use Rattle.text.specs.Follow.{isBounded, follows, followsAt, padded, isAscii, Checked};
+ghost use Rattle.text.specs.InnerEach.{Each};
+ghost use Rattle.text.specs.InnerFollow.{isBounded, follows, followsAt, padded, isAscii, Checked};
 
 // Whether the bytes are valid text.
 pub fn is_valid(s: &[u8]) -> bool

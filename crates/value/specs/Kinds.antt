@@ -7,7 +7,9 @@ use Rattle.datatype.specs.declared.DataType.the-variants as T
 use Rattle.value.specs.declared.DataValue.{DataValue}
 use Rattle.value.specs.declared.DataValue.the-variants as D
 
--- "0 null", "1 SmallInt", "2 Int", .., "13 Timestamp"
+-- "Value kinds and body lengths: 0 null 0; 1 SmallInt 2; 2 Int 4; 3 BigInt 8; 4 Real 4; 5 DoublePrecision 8; 6 Numeric
+-- 17 [..]; 7 Bool 1 [..]; 8 Char, 9 Varchar and 12 Bit 4 [..]; 10 Date 4; 11 Time 8; 13 Timestamp 8": the kinds here,
+-- the lengths in value_list/specs/Records
 abbrev pub kindOf : DataValue → ℕ
 kindOf D.Null = 0
 kindOf (D.SmallInt x) = 1

@@ -1,8 +1,13 @@
 // value.rs: the values of columns. A text or a bit string is a range of bytes in an area that is lent beside the value.
+pub mod value_kinds;
+
 use datatype::DataType;
+use datatype::schema_kinds;
 ghost use mathlib.Core.Path.{_≡_};
+ghost use Rattle.datatype.specs.Schema.{columnKind};
 ghost use Rattle.value.specs.Kinds.{kindOf, valueKind, matches};
 ghost use Rattle.value.specs.Ranges.{rangeOf};
+ghost use Rattle.value.specs.InnerKinds.{heldKind};
 
 // An unscaled number of 128 bits in two halves, and its scale.
 pub struct NumericValue {
@@ -40,20 +45,20 @@ impl DataValue {
         ensures { λ r. ⌜ r ≡ kindOf self ⌝ }
     {
         match self {
-            DataValue::Null => 0,
-            DataValue::SmallInt(_) => 1,
-            DataValue::Int(_) => 2,
-            DataValue::BigInt(_) => 3,
-            DataValue::Real(_) => 4,
-            DataValue::DoublePrecision(_) => 5,
-            DataValue::Numeric(_) => 6,
-            DataValue::Bool(_) => 7,
-            DataValue::Char(_) => 8,
-            DataValue::Varchar(_) => 9,
-            DataValue::Date(_) => 10,
-            DataValue::Time(_) => 11,
-            DataValue::Bit(_) => 12,
-            DataValue::Timestamp(_) => 13,
+            DataValue::Null => value_kinds::NULL,
+            DataValue::SmallInt(_) => value_kinds::SMALL_INT,
+            DataValue::Int(_) => value_kinds::INT,
+            DataValue::BigInt(_) => value_kinds::BIG_INT,
+            DataValue::Real(_) => value_kinds::REAL,
+            DataValue::DoublePrecision(_) => value_kinds::DOUBLE_PRECISION,
+            DataValue::Numeric(_) => value_kinds::NUMERIC,
+            DataValue::Bool(_) => value_kinds::BOOL,
+            DataValue::Char(_) => value_kinds::CHAR,
+            DataValue::Varchar(_) => value_kinds::VARCHAR,
+            DataValue::Date(_) => value_kinds::DATE,
+            DataValue::Time(_) => value_kinds::TIME,
+            DataValue::Bit(_) => value_kinds::BIT,
+            DataValue::Timestamp(_) => value_kinds::TIMESTAMP,
         }
     }
 
@@ -118,27 +123,51 @@ pub fn value_kind(ty: DataType) -> u8
     ensures { λ r. ⌜ r ≡ valueKind ty ⌝ }
 {
     match ty {
-        DataType::SmallInt => 1,
-        DataType::Int => 2,
-        DataType::BigInt => 3,
-        DataType::Real => 4,
-        DataType::DoublePrecision => 5,
+        DataType::SmallInt => value_kinds::SMALL_INT,
+        DataType::Int => value_kinds::INT,
+        DataType::BigInt => value_kinds::BIG_INT,
+        DataType::Real => value_kinds::REAL,
+        DataType::DoublePrecision => value_kinds::DOUBLE_PRECISION,
         DataType::Numeric {
             precision: _,
             scale: _,
-        } => 6,
+        } => value_kinds::NUMERIC,
         DataType::Decimal {
             precision: _,
             scale: _,
-        } => 6,
-        DataType::Bool => 7,
-        DataType::Char(_) => 8,
-        DataType::Character(_) => 8,
-        DataType::Varchar(_) => 9,
-        DataType::Date => 10,
-        DataType::Time => 11,
-        DataType::Bit(_) => 12,
-        DataType::Timestamp => 13,
+        } => value_kinds::NUMERIC,
+        DataType::Bool => value_kinds::BOOL,
+        DataType::Char(_) => value_kinds::CHAR,
+        DataType::Character(_) => value_kinds::CHAR,
+        DataType::Varchar(_) => value_kinds::VARCHAR,
+        DataType::Date => value_kinds::DATE,
+        DataType::Time => value_kinds::TIME,
+        DataType::Bit(_) => value_kinds::BIT,
+        DataType::Timestamp => value_kinds::TIMESTAMP,
+    }
+}
+
+// The same by the kind of the column's record; that of null for no kind.
+pub fn held_kind(kind: u8) -> u8
+    ensures { λ r. ⌜ r ≡ heldKind (columnKind kind) ⌝ }
+{
+    match kind {
+        schema_kinds::SMALL_INT => value_kinds::SMALL_INT,
+        schema_kinds::INT => value_kinds::INT,
+        schema_kinds::BIG_INT => value_kinds::BIG_INT,
+        schema_kinds::REAL => value_kinds::REAL,
+        schema_kinds::DOUBLE_PRECISION => value_kinds::DOUBLE_PRECISION,
+        schema_kinds::NUMERIC => value_kinds::NUMERIC,
+        schema_kinds::DECIMAL => value_kinds::NUMERIC,
+        schema_kinds::BOOL => value_kinds::BOOL,
+        schema_kinds::CHAR => value_kinds::CHAR,
+        schema_kinds::CHARACTER => value_kinds::CHAR,
+        schema_kinds::VARCHAR => value_kinds::VARCHAR,
+        schema_kinds::DATE => value_kinds::DATE,
+        schema_kinds::TIME => value_kinds::TIME,
+        schema_kinds::BIT => value_kinds::BIT,
+        schema_kinds::TIMESTAMP => value_kinds::TIMESTAMP,
+        _ => value_kinds::NULL,
     }
 }
 

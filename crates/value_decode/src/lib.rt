@@ -22,13 +22,13 @@ ghost use Rattle.numeric.specs.Packed.{decodeBcd};
 ghost use Rattle.datatype.specs.Types.{sizeOf, isVarlen, precisionOf};
 ghost use Rattle.value.specs.declared.DataValue.the-variants.{Bool as BoolValue, Char as CharValue, Varchar as VarcharValue, Date as DateValue, Timestamp as TimestampValue, Numeric as NumericNumber};
 ghost use Rattle.stored_form.specs.declared.SlotRead.the-variants.{Value as Read, NoValue};
-ghost use Rattle.stored_form.specs.Number.{numberOf};
+ghost use Rattle.stored_form.specs.Number.{numericOf};
 ghost use Rattle.stored_form.specs.Read.{valueIf, twosComplement, decoded, timed, whole, readSlot};
 
 // The number below zero of a magnitude: the complement of one less.
 fn negated(high: u64, low: u64, scale: u8) -> NumericValue
     requires { ⌜ high < 2 ^ 63 ⌝ }
-    ensures { λ r. ⌜ r ≡ numberOf true (halves high low) scale ⌝ }
+    ensures { λ r. ⌜ r ≡ numericOf true (halves high low) scale ⌝ }
 {
     if low == 0 {
         if high == 0 {
@@ -53,7 +53,7 @@ fn negated(high: u64, low: u64, scale: u8) -> NumericValue
 
 fn numeric_from(negative: bool, high: u64, low: u64, scale: u8) -> NumericValue
     requires { ⌜ high < 2 ^ 63 ⌝ }
-    ensures { λ r. ⌜ r ≡ numberOf negative (halves high low) scale ⌝ }
+    ensures { λ r. ⌜ r ≡ numericOf negative (halves high low) scale ⌝ }
 {
     if negative {
         return negated(high, low, scale);

@@ -87,13 +87,13 @@ fn suits_text(ty: DataType, value: DataValue, text: &[u8]) -> bool
     }
 }
 
-fn in_area(start: usize, length: usize, area: usize) -> bool
-    ensures { λ r. ⌜ r ≡ leb (start + length) area ⌝ }
+fn in_area(start: usize, size: usize, area: usize) -> bool
+    ensures { λ r. ⌜ r ≡ leb (start + size) area ⌝ }
 {
     if area < start {
         return false;
     }
-    length <= area - start
+    size <= area - start
 }
 
 // Whether the type holds the value, whose text is in the area.

@@ -10,34 +10,36 @@ use lib.Dec.{eqb, ltb}
 use lib.ListN.{length}
 use Rattle.error.specs.declared.Refusal.{Refusal}
 use Rattle.error.specs.declared.Refusal.the-variants.{BadValueList}
+use Rattle.error.specs.Result.{ok, refused, before}
 use Rattle.row_format.specs.Places.{rowLimit}
 use Rattle.value.specs.declared.DataValue.{DataValue}
 use Rattle.value_list.specs.declared.ListCheck.{ListCheck}
 use Rattle.value_list.specs.declared.ListCheck.the-variants as Check
-use Rattle.value_list.specs.Lists.{Values, values, refused, before, records, valuesOf, judged, checked, answer}
-use Rattle.value_list.specs.Sizes.{sizeAt}
+use Rattle.value_list.specs.Lists.{Values, records, valuesOf, judged, checked}
+use Rattle.value_list.specs.InnerSizes.{sizeAt}
 use Rattle.value_list.proofs.Sizes.{Whole, size-none}
+use Rattle.value_list.specs.InnerLists.{answer}
 
 -- the tests after the last record
 abbrev pub settled : ℕ → ℕ → ℕ → ℕ → ListCheck
 settled n area len count = cond (eqb count n) (cond (ltb rowLimit area) (Check.Refused (BadValueList 0)) Check.Good) (Check.Refused (BadValueList len))
 
 abbrev rest : ℕ → ℕ → ℕ → ℕ → Values → ListCheck
-rest n area len count (values vs) = settled n area len (count + length vs)
+rest n area len count (ok vs) = settled n area len (count + length vs)
 rest n area len count (refused r) = Check.Refused r
 
-answer-cond : (t u : Bool) (q r : Refusal) (vs : List DataValue) → cond t (cond u (Check.Refused q) Check.Good) (Check.Refused r) ≡ answer (cond t (cond u (refused q) (values vs)) (refused r))
+answer-cond : (t u : Bool) (q r : Refusal) (vs : List DataValue) → cond t (cond u (Check.Refused q) Check.Good) (Check.Refused r) ≡ answer (cond t (cond u (refused q) (ok vs)) (refused r))
 answer-cond true true q r vs = refl
 answer-cond true false q r vs = refl
 answer-cond false u q r vs = refl
 
 rest-all : (n area len : ℕ) (p : Values) → rest n area len 0 p ≡ answer (judged rowLimit n area len p)
-rest-all n area len (values vs) =
+rest-all n area len (ok vs) =
     ap (settled n area len) (zero-add (length vs)) ∙ answer-cond (eqb (length vs) n) (ltb rowLimit area) (BadValueList 0) (BadValueList len) vs
 rest-all n area len (refused r) = refl
 
 rest-before : (n area len count : ℕ) (v : DataValue) (p : Values) → rest n area len count (before v p) ≡ rest n area len (count + 1) p
-rest-before n area len count v (values vs) = ap (settled n area len) (omega arith)
+rest-before n area len count v (ok vs) = ap (settled n area len) (omega arith)
 rest-before n area len count v (refused r) = refl
 
 pub record Checking (s : List ℕ) (n area at count : ℕ) : Type 0 where

@@ -9,14 +9,16 @@ use lib.Dec.{eqb, ltb}
 use lib.ListN.{length, length-append}
 use Rattle.error.specs.declared.Refusal.{Refusal}
 use Rattle.error.specs.declared.Refusal.the-variants.{BadValueList}
+use Rattle.error.specs.Result.{ok, refused, before}
 use Rattle.laws.proofs.Bytes.{AllBytes}
 use Rattle.laws.proofs.Truths.{cases}
 use Rattle.value.specs.declared.DataValue.{DataValue}
 use Rattle.value_list.specs.declared.ValueRecord.{ValueRecord}
 use Rattle.value_list.specs.declared.ValueRecord.the-variants.{Value, Refused}
 use Rattle.value_list.specs.Records.{bodyOf, recordOf, recordAt}
-use Rattle.value_list.specs.Lists.{Values, values, refused, before, onRecord, records, valuesOf, judged, checked, listOf, AllSized}
+use Rattle.value_list.specs.Lists.{Values, onRecord, records, valuesOf, judged, checked, listOf}
 use Rattle.value_list.proofs.Records.{record-read, value-sized}
+use Rattle.value_list.specs.InnerLists.{AllSized}
 
 -- ---- written, then read
 
@@ -24,7 +26,7 @@ listOf-least : (vs : List DataValue) → length vs ≤ length (listOf vs)
 listOf-least [] = omega arith
 listOf-least (v ∷ vs) = let ih = listOf-least vs in rw (length-append (bodyOf v) (listOf vs)) (omega arith)
 
-records-read : (vs : List DataValue) → AllSized vs → (n : ℕ) → length vs ≤ n → (us : List ℕ) (at : ℕ) → length us ≡ at → records n (us ++ listOf vs) at ≡ values vs
+records-read : (vs : List DataValue) → AllSized vs → (n : ℕ) → length vs ≤ n → (us : List ℕ) (at : ℕ) → length us ≡ at → records n (us ++ listOf vs) at ≡ ok vs
 records-read [] f zero h us at e = refl
 records-read [] f (suc n) h us at e = rw (le-ltb at (length (us ++ [])) (rw length-append (omega arith)))
 records-read (v ∷ vs) f zero h us at e = absurd (omega arith)
@@ -33,24 +35,24 @@ records-read (v ∷ vs) f (suc n) h us at e =
     let next = at + length (recordOf v) in
     let more : at < length s = rw (length-append us (recordOf v ++ listOf vs)) (omega arith) in
     let past : length (us ++ recordOf v) ≡ next = length-append us (recordOf v) ∙ ap (λ (m : ℕ). m + length (recordOf v)) e in
-    let rest : records n s next ≡ values vs =
+    let rest : records n s next ≡ ok vs =
     ap (λ (l : List ℕ). records n l next) (sym (append-assoc us (recordOf v) (listOf vs))) ∙ records-read vs (f .1) n (omega arith) (us ++ recordOf v) next past in
     rw (lt-ltb at (length s) more) (ap (λ r. onRecord r (records n s)) (record-read us (listOf vs) at e v (f .0)) ∙ ap (before v) rest)
 
-pub values-read : (vs : List DataValue) → AllSized vs → valuesOf (listOf vs) ≡ values vs
+pub values-read : (vs : List DataValue) → AllSized vs → valuesOf (listOf vs) ≡ ok vs
 unfolding valuesOf
 values-read vs f = records-read vs f (length (listOf vs)) (listOf-least vs) [] 0 refl
 
 -- so a list of n values is taken beside any text area that is not too long
-pub list-checked : (limit n area : ℕ) (vs : List DataValue) → AllSized vs → length vs ≡ n → area ≤ limit → checked limit n area (listOf vs) ≡ values vs
+pub list-checked : (limit n area : ℕ) (vs : List DataValue) → AllSized vs → length vs ≡ n → area ≤ limit → checked limit n area (listOf vs) ≡ ok vs
 list-checked limit n area vs f e h = ap (judged limit n area (length (listOf vs))) (values-read vs f) ∙ rw (eq-eqb (length vs) n e, le-ltb limit area h)
 
 -- ---- what a list that is taken says
 
-refused-none : {r : Refusal} {vs : List DataValue} → refused r ≡ values vs → ⊥
+refused-none : {r : Refusal} {vs : List DataValue} → refused r ≡ ok vs → ⊥
 refused-none p = let z : _≡_ {A = ℕ} 0 1 = cc in omega arith
 
-empty-none : {v : DataValue} {vs : List DataValue} → values [] ≡ values (v ∷ vs) → ⊥
+empty-none : {v : DataValue} {vs : List DataValue} → ok [] ≡ ok (v ∷ vs) → ⊥
 empty-none p = let z : _≡_ {A = ℕ} 0 1 = cc in omega arith
 
 -- the first record of those from a place on
@@ -58,50 +60,50 @@ pub record First (n : ℕ) (s : List ℕ) (at : ℕ) (v : DataValue) (vs : List 
   pub next : ℕ
   pub within : at < length s
   pub first : recordAt s at ≡ Value v next
-  pub rest : records n s next ≡ values vs
+  pub rest : records n s next ≡ ok vs
 
-pub records-first : (n : ℕ) (s : List ℕ) (at : ℕ) {v : DataValue} {vs : List DataValue} → records (suc n) s at ≡ values (v ∷ vs) → First n s at v vs
+pub records-first : (n : ℕ) (s : List ℕ) (at : ℕ) {v : DataValue} {vs : List DataValue} → records (suc n) s at ≡ ok (v ∷ vs) → First n s at v vs
 records-first n s at {v} {vs} e =
     cases at (length s) (λ h. of-record (recordAt s at) refl h (rw (lt-ltb at (length s) h) at e))
     (λ h. absurd (empty-none (rw (le-ltb at (length s) h) at e)))
   where
-    of-rest : (u : DataValue) (next : ℕ) (q : Values) → records n s next ≡ q → recordAt s at ≡ Value u next → at < length s → before u q ≡ values (v ∷ vs) → First n s at v vs
-    of-rest u next (values us) f g h p =
+    of-rest : (u : DataValue) (next : ℕ) (q : Values) → records n s next ≡ q → recordAt s at ≡ Value u next → at < length s → before u q ≡ ok (v ∷ vs) → First n s at v vs
+    of-rest u next (ok us) f g h p =
         let head : u ≡ v = cc in
         let tail : us ≡ vs = cc in
-        record { next = next; within = h; first = rw head at g; rest = f ∙ ap values tail }
+        record { next = next; within = h; first = rw head at g; rest = f ∙ ap ok tail }
     of-rest u next (refused r) f g h p = absurd (refused-none p)
 
-    of-record : (q : ValueRecord) → recordAt s at ≡ q → at < length s → onRecord q (records n s) ≡ values (v ∷ vs) → First n s at v vs
+    of-record : (q : ValueRecord) → recordAt s at ≡ q → at < length s → onRecord q (records n s) ≡ ok (v ∷ vs) → First n s at v vs
     of-record (Value u next) g h p = of-rest u next (records n s next) refl g h p
     of-record (Refused r) g h p = absurd (refused-none p)
 
-records-sized : (n : ℕ) (s : List ℕ) (at : ℕ) (vs : List DataValue) → AllBytes s → records n s at ≡ values vs → AllSized vs
+records-sized : (n : ℕ) (s : List ℕ) (at : ℕ) (vs : List DataValue) → AllBytes s → records n s at ≡ ok vs → AllSized vs
 records-sized n s at [] a e = tt
 records-sized zero s at (v ∷ vs) a e = absurd (empty-none e)
 records-sized (suc n) s at (v ∷ vs) a e = let f = records-first n s at e in (value-sized s at a (f .first), records-sized n s (f .next) vs a (f .rest))
 
-pub values-sized : (s : List ℕ) {vs : List DataValue} → AllBytes s → valuesOf s ≡ values vs → AllSized vs
+pub values-sized : (s : List ℕ) {vs : List DataValue} → AllBytes s → valuesOf s ≡ ok vs → AllSized vs
 unfolding valuesOf
 values-sized s {vs} a e = records-sized (length s) s 0 vs a e
 
 -- a list that is taken has n values, and its text area is not too long
 pub record Taken (limit n area : ℕ) (s : List ℕ) (vs : List DataValue) : Type 0 where
-  pub all : valuesOf s ≡ values vs
+  pub all : valuesOf s ≡ ok vs
   pub count : length vs ≡ n
   pub short : area ≤ limit
 
-pub checked-taken : (limit n area : ℕ) (s : List ℕ) {vs : List DataValue} → checked limit n area s ≡ values vs → Taken limit n area s vs
+pub checked-taken : (limit n area : ℕ) (s : List ℕ) {vs : List DataValue} → checked limit n area s ≡ ok vs → Taken limit n area s vs
 checked-taken limit n area s {vs} e = of-values (valuesOf s) refl e
   where
-    judge : (us : List DataValue) → valuesOf s ≡ values us → (t u : Bool) → eqb (length us) n ≡ t → ltb limit area ≡ u
-        → cond t (cond u (refused (BadValueList 0)) (values us)) (refused (BadValueList (length s))) ≡ values vs → Taken limit n area s vs
+    judge : (us : List DataValue) → valuesOf s ≡ ok us → (t u : Bool) → eqb (length us) n ≡ t → ltb limit area ≡ u
+        → cond t (cond u (refused (BadValueList 0)) (ok us)) (refused (BadValueList (length s))) ≡ ok vs → Taken limit n area s vs
     judge us f true false c l p =
         let same : us ≡ vs = cc in
-        record { all = f ∙ ap values same; count = rw same at (eqb-true (length us) n c); short = ltb-false limit area l }
+        record { all = f ∙ ap ok same; count = rw same at (eqb-true (length us) n c); short = ltb-false limit area l }
     judge us f true true c l p = absurd (refused-none p)
     judge us f false u c l p = absurd (refused-none p)
 
-    of-values : (q : Values) → valuesOf s ≡ q → judged limit n area (length s) q ≡ values vs → Taken limit n area s vs
-    of-values (values us) f p = judge us f (eqb (length us) n) (ltb limit area) refl refl p
+    of-values : (q : Values) → valuesOf s ≡ q → judged limit n area (length s) q ≡ ok vs → Taken limit n area s vs
+    of-values (ok us) f p = judge us f (eqb (length us) n) (ltb limit area) refl refl p
     of-values (refused r) f p = absurd (refused-none p)

@@ -23,8 +23,9 @@ use Rattle.value.specs.declared.TextRange.{TextRange}
 use Rattle.value.specs.Kinds.{kindOf}
 use Rattle.value.specs.Ranges.{rangeOf as textRange}
 use Rattle.value_list.specs.declared.ValueRecord.the-variants.{Value, Refused}
-use Rattle.value_list.specs.Records.{bodyLength, numberAt, numericAt, rangeAt, valueAt, recordOfKind, recordAt, numericBytes, rangeBytes, bodyOf, recordOf, NarrowRange, SizedNumeric, Narrow, Sized}
+use Rattle.value_list.specs.Records.{bodyLength, numberAt, numericAt, rangeAt, valueAt, recordOfKind, recordAt, numericBytes, rangeBody, bodyOf, recordOf, NarrowRange, SizedNumeric, Sized}
 use Rattle.value_list.proofs.Sizes.{whole-of}
+use Rattle.value_list.specs.InnerRecords.{Narrow}
 
 -- ---- lengths and kinds
 
@@ -73,10 +74,10 @@ module _ (p q : List ℕ) (at : ℕ) (e : length p ≡ at) where
   unsigned-read : (w : Width) (n : ℕ) → 2 ^ bits w ≡ 256 ^ n → (x : ℕ) → Fits w x → numberAt n (p ++ (toLe n x ++ q)) at ≡ x
   unsigned-read w n s x f = from-at n x p q at e (rw s at (f .fits))
 
-range-read : (p q : List ℕ) (at : ℕ) → length p ≡ at → (r : TextRange) → NarrowRange r → rangeAt (p ++ (rangeBytes r ++ q)) at ≡ r
+range-read : (p q : List ℕ) (at : ℕ) → length p ≡ at → (r : TextRange) → NarrowRange r → rangeAt (p ++ (rangeBody r ++ q)) at ≡ r
 range-read p q at e r f =
-    let one : numberAt 2 (p ++ (rangeBytes r ++ q)) at ≡ r .start = from-at 2 (r .start) p (toLe 2 (r .length) ++ q) at e (f .start) in
-    let two : numberAt 2 (p ++ (rangeBytes r ++ q)) (at + 2) ≡ r .length =
+    let one : numberAt 2 (p ++ (rangeBody r ++ q)) at ≡ r .start = from-at 2 (r .start) p (toLe 2 (r .length) ++ q) at e (f .start) in
+    let two : numberAt 2 (p ++ (rangeBody r ++ q)) (at + 2) ≡ r .length =
     ap (λ (l : List ℕ). numberAt 2 l (at + 2)) (sym (append-assoc p (toLe 2 (r .start)) (toLe 2 (r .length) ++ q)))
     ∙ from-at 2 (r .length) (p ++ toLe 2 (r .start)) q (at + 2) (length-append p (toLe 2 (r .start)) ∙ ap (λ (n : ℕ). n + 2) e) (f .size) in
     rw (one, two)

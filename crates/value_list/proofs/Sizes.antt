@@ -9,7 +9,7 @@ use Rattle.error.specs.declared.Refusal.the-variants.{BadValueList}
 use Rattle.laws.proofs.Truths.{cases}
 use Rattle.value_list.specs.declared.ValueRecord.the-variants.{Value, Refused}
 use Rattle.value_list.specs.Records.{bodyLength, valueAt, recordOfKind, recordAt}
-use Rattle.value_list.specs.Sizes.{sizeOfKind, sizeAt}
+use Rattle.value_list.specs.InnerSizes.{sizeOfKind, sizeAt}
 
 -- a record that is whole
 pub record Whole (s : List ℕ) (at : ℕ) : Type 0 where

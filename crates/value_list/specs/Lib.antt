@@ -1,3 +1,5 @@
 pub mod Records
 pub mod Lists
-pub mod Sizes
+pub mod InnerSizes
+pub mod InnerLists
+pub mod InnerRecords

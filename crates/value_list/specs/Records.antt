@@ -81,8 +81,8 @@ recordAt s at = recordOfKind (getD s at 0) s at
 abbrev pub numericBytes : NumericValue → List ℕ
 numericBytes n = toLe 8 (n .low) ++ (toLe 8 (ofZ w64 (n .high)) ++ (n .scale ∷ []))
 
-abbrev pub rangeBytes : TextRange → List ℕ
-rangeBytes r = toLe 2 (r .start) ++ toLe 2 (r .length)
+abbrev pub rangeBody : TextRange → List ℕ
+rangeBody r = toLe 2 (r .start) ++ toLe 2 (r .length)
 
 abbrev pub bodyOf : DataValue → List ℕ
 bodyOf D.Null = []
@@ -93,11 +93,11 @@ bodyOf (D.Real x) = toLe 4 x
 bodyOf (D.DoublePrecision x) = toLe 8 x
 bodyOf (D.Numeric n) = numericBytes n
 bodyOf (D.Bool b) = b ∷ []
-bodyOf (D.Char r) = rangeBytes r
-bodyOf (D.Varchar r) = rangeBytes r
+bodyOf (D.Char r) = rangeBody r
+bodyOf (D.Varchar r) = rangeBody r
 bodyOf (D.Date x) = toLe 4 (ofZ w32 x)
 bodyOf (D.Time x) = toLe 8 (ofZ w64 x)
-bodyOf (D.Bit r) = rangeBytes r
+bodyOf (D.Bit r) = rangeBody r
 bodyOf (D.Timestamp x) = toLe 8 (ofZ w64 x)
 
 abbrev pub recordOf : DataValue → List ℕ
@@ -113,23 +113,6 @@ pub record SizedNumeric (n : NumericValue) : Type 0 where
   pub high : SFits w64 (n .high)
   pub low : Fits w64 (n .low)
   pub scale : Fits w8 (n .scale)
-
--- a value of the code whose range, if it has one, is narrow
-abbrev pub Narrow : DataValue → Type 0
-Narrow D.Null = Unit {0}
-Narrow (D.SmallInt x) = Unit {0}
-Narrow (D.Int x) = Unit {0}
-Narrow (D.BigInt x) = Unit {0}
-Narrow (D.Real x) = Unit {0}
-Narrow (D.DoublePrecision x) = Unit {0}
-Narrow (D.Numeric n) = Unit {0}
-Narrow (D.Bool b) = Unit {0}
-Narrow (D.Char r) = NarrowRange r
-Narrow (D.Varchar r) = NarrowRange r
-Narrow (D.Date x) = Unit {0}
-Narrow (D.Time x) = Unit {0}
-Narrow (D.Bit r) = NarrowRange r
-Narrow (D.Timestamp x) = Unit {0}
 
 abbrev pub Sized : DataValue → Type 0
 Sized D.Null = Unit {0}

@@ -1,8 +1,10 @@
 // The bytes of value lists: a record read, a record written, and the check of a whole list.
 use error::Refusal;
+use row_layout::RowLayout;
 use value::DataValue;
 use value::NumericValue;
 use value::TextRange;
+use value::value_kinds;
 ghost use mathlib.Core.Path.{_≡_};
 ghost use Prim.Native.Nat.{_+_, _<_, _≤_};
 ghost use mathlib.Core.List.{[], _∷_};
@@ -10,9 +12,11 @@ ghost use lib.ListN.{length};
 ghost use lib.Seq.{sets};
 ghost use Rattle.row_format.specs.Places.{rowLimit};
 ghost use Rattle.laws.specs.Bytes.{toLe};
-ghost use Rattle.value_list.specs.Records.{bodyLength, numericAt, rangeAt, valueAt, recordAt, numericBytes, rangeBytes, recordOf, NarrowRange, Narrow};
-ghost use Rattle.value_list.specs.Lists.{checked, answer};
-ghost use Rattle.value_list.specs.Sizes.{sizeAt};
+ghost use Rattle.value_list.specs.Records.{bodyLength, numericAt, rangeAt, valueAt, recordAt, numericBytes, rangeBody, recordOf, NarrowRange};
+ghost use Rattle.value_list.specs.Lists.{checked};
+ghost use Rattle.value_list.specs.InnerSizes.{sizeAt};
+ghost use Rattle.value_list.specs.InnerRecords.{Narrow};
+ghost use Rattle.value_list.specs.InnerLists.{answer};
 
 // What stands at a place of a value list.
 pub enum ValueRecord {
@@ -31,19 +35,19 @@ pub fn body_length(kind: u8) -> usize
     ensures { λ r. ⌜ (r ≡ bodyLength kind) × (r ≤ 17) ⌝ }
 {
     match kind {
-        1 => 2,
-        2 => 4,
-        3 => 8,
-        4 => 4,
-        5 => 8,
-        6 => 17,
-        7 => 1,
-        8 => 4,
-        9 => 4,
-        10 => 4,
-        11 => 8,
-        12 => 4,
-        13 => 8,
+        value_kinds::SMALL_INT => 2,
+        value_kinds::INT => 4,
+        value_kinds::BIG_INT => 8,
+        value_kinds::REAL => 4,
+        value_kinds::DOUBLE_PRECISION => 8,
+        value_kinds::NUMERIC => 17,
+        value_kinds::BOOL => 1,
+        value_kinds::CHAR => 4,
+        value_kinds::VARCHAR => 4,
+        value_kinds::DATE => 4,
+        value_kinds::TIME => 8,
+        value_kinds::BIT => 4,
+        value_kinds::TIMESTAMP => 8,
         _ => 0,
     }
 }
@@ -55,7 +59,7 @@ fn record_size(list: &[u8], at: usize) -> usize
     ensures { λ r. ⌜ r ≡ sizeAt (now (list .entry)) at ⌝ }
 {
     let kind = list[at];
-    if 13 < kind {
+    if value_kinds::TIMESTAMP < kind {
         return 0;
     }
     let body = body_length(kind);
@@ -103,19 +107,19 @@ fn value_at(list: &[u8], at: usize, kind: u8) -> DataValue
     ensures { λ r. ⌜ r ≡ valueAt kind (now (list .entry)) at ⌝ }
 {
     match kind {
-        1 => DataValue::SmallInt(endian::read_i16(list, at)),
-        2 => DataValue::Int(endian::read_i32(list, at)),
-        3 => DataValue::BigInt(endian::read_i64(list, at)),
-        4 => DataValue::Real(endian::read_u32(list, at)),
-        5 => DataValue::DoublePrecision(endian::read_u64(list, at)),
-        6 => DataValue::Numeric(numeric_at(list, at)),
-        7 => DataValue::Bool(list[at]),
-        8 => DataValue::Char(range_at(list, at)),
-        9 => DataValue::Varchar(range_at(list, at)),
-        10 => DataValue::Date(endian::read_i32(list, at)),
-        11 => DataValue::Time(endian::read_i64(list, at)),
-        12 => DataValue::Bit(range_at(list, at)),
-        13 => DataValue::Timestamp(endian::read_i64(list, at)),
+        value_kinds::SMALL_INT => DataValue::SmallInt(endian::read_i16(list, at)),
+        value_kinds::INT => DataValue::Int(endian::read_i32(list, at)),
+        value_kinds::BIG_INT => DataValue::BigInt(endian::read_i64(list, at)),
+        value_kinds::REAL => DataValue::Real(endian::read_u32(list, at)),
+        value_kinds::DOUBLE_PRECISION => DataValue::DoublePrecision(endian::read_u64(list, at)),
+        value_kinds::NUMERIC => DataValue::Numeric(numeric_at(list, at)),
+        value_kinds::BOOL => DataValue::Bool(list[at]),
+        value_kinds::CHAR => DataValue::Char(range_at(list, at)),
+        value_kinds::VARCHAR => DataValue::Varchar(range_at(list, at)),
+        value_kinds::DATE => DataValue::Date(endian::read_i32(list, at)),
+        value_kinds::TIME => DataValue::Time(endian::read_i64(list, at)),
+        value_kinds::BIT => DataValue::Bit(range_at(list, at)),
+        value_kinds::TIMESTAMP => DataValue::Timestamp(endian::read_i64(list, at)),
         _ => DataValue::Null,
     }
 }
@@ -149,7 +153,7 @@ pub fn check_values(list: &[u8], columns: usize, area: usize) -> ListCheck
     if count != columns {
         return ListCheck::Refused(Refusal::BadValueList(list.len()));
     }
-    if 65535 < area {
+    if RowLayout::ROW_LIMIT < area {
         return ListCheck::Refused(Refusal::BadValueList(0));
     }
     ListCheck::Good
@@ -167,7 +171,7 @@ pub fn write_null(out: &mut [u8], at: usize) -> usize
     requires { ⌜ at + 1 ≤ length (now out) ⌝ }
     ensures { λ r. ⌜ (r ≡ at + 1) × (now (out .exit) ≡ sets (now (out .entry)) at (0 ∷ [])) ⌝ }
 {
-    put(out, at, 0);
+    put(out, at, value_kinds::NULL);
     at + 1
 }
 
@@ -211,7 +215,7 @@ fn write_numeric(out: &mut [u8], at: usize, n: NumericValue) -> usize
     requires { ⌜ at + 18 ≤ length (now out) ⌝ }
     ensures { λ r. ⌜ (r ≡ at + 18) × (now (out .exit) ≡ sets (now (out .entry)) at (6 ∷ numericBytes n)) ⌝ }
 {
-    put(out, at, 6);
+    put(out, at, value_kinds::NUMERIC);
     endian::write_u64(out, at + 1, n.low);
     endian::write_i64(out, at + 9, n.high);
     put(out, at + 17, n.scale);
@@ -220,7 +224,7 @@ fn write_numeric(out: &mut [u8], at: usize, n: NumericValue) -> usize
 
 pub fn write_range(out: &mut [u8], at: usize, kind: u8, r: TextRange) -> usize
     requires { ⌜ (at + 5 ≤ length (now out)) × NarrowRange r ⌝ }
-    ensures { λ e. ⌜ (e ≡ at + 5) × (now (out .exit) ≡ sets (now (out .entry)) at (kind ∷ rangeBytes r)) ⌝ }
+    ensures { λ e. ⌜ (e ≡ at + 5) × (now (out .exit) ≡ sets (now (out .entry)) at (kind ∷ rangeBody r)) ⌝ }
 {
     put(out, at, kind);
     endian::write_u16(out, at + 1, r.start as u16);
@@ -235,18 +239,33 @@ pub fn write_value_record(out: &mut [u8], at: usize, v: DataValue) -> usize
 {
     match v {
         DataValue::Null => write_null(out, at),
-        DataValue::SmallInt(x) => write_16(out, at, 1, signed::cast_unsigned_16(x)),
-        DataValue::Int(x) => write_32(out, at, 2, signed::cast_unsigned_32(x)),
-        DataValue::BigInt(x) => write_64(out, at, 3, signed::cast_unsigned_64(x)),
-        DataValue::Real(x) => write_32(out, at, 4, x),
-        DataValue::DoublePrecision(x) => write_64(out, at, 5, x),
+        DataValue::SmallInt(x) => write_16(
+            out,
+            at,
+            value_kinds::SMALL_INT,
+            signed::cast_unsigned_16(x),
+        ),
+        DataValue::Int(x) => write_32(out, at, value_kinds::INT, signed::cast_unsigned_32(x)),
+        DataValue::BigInt(x) => write_64(
+            out,
+            at,
+            value_kinds::BIG_INT,
+            signed::cast_unsigned_64(x),
+        ),
+        DataValue::Real(x) => write_32(out, at, value_kinds::REAL, x),
+        DataValue::DoublePrecision(x) => write_64(out, at, value_kinds::DOUBLE_PRECISION, x),
         DataValue::Numeric(n) => write_numeric(out, at, n),
-        DataValue::Bool(b) => write_8(out, at, 7, b),
-        DataValue::Char(r) => write_range(out, at, 8, r),
-        DataValue::Varchar(r) => write_range(out, at, 9, r),
-        DataValue::Date(x) => write_32(out, at, 10, signed::cast_unsigned_32(x)),
-        DataValue::Time(x) => write_64(out, at, 11, signed::cast_unsigned_64(x)),
-        DataValue::Bit(r) => write_range(out, at, 12, r),
-        DataValue::Timestamp(x) => write_64(out, at, 13, signed::cast_unsigned_64(x)),
+        DataValue::Bool(b) => write_8(out, at, value_kinds::BOOL, b),
+        DataValue::Char(r) => write_range(out, at, value_kinds::CHAR, r),
+        DataValue::Varchar(r) => write_range(out, at, value_kinds::VARCHAR, r),
+        DataValue::Date(x) => write_32(out, at, value_kinds::DATE, signed::cast_unsigned_32(x)),
+        DataValue::Time(x) => write_64(out, at, value_kinds::TIME, signed::cast_unsigned_64(x)),
+        DataValue::Bit(r) => write_range(out, at, value_kinds::BIT, r),
+        DataValue::Timestamp(x) => write_64(
+            out,
+            at,
+            value_kinds::TIMESTAMP,
+            signed::cast_unsigned_64(x),
+        ),
     }
 }

@@ -1,6 +1,7 @@
+pub mod Fields
 pub mod Rows
-pub mod Widths
-pub mod Cases
+pub mod Equivalence
 pub mod Stored
-pub mod Read
 pub mod Equal
+pub mod Read
+pub mod ReadBack

@@ -1,25 +1,28 @@
--- A value read from a slot stands in its row, as `same_content` requires, and its numbers lie in their widths.
-use Prim.Native.Nat.{ℕ, _+_, _*_, _/_, _%_, _^_, _≤_, _<_}
-use mathlib.Core.Path.{_≡_, refl, sym, ap, _∙_, subst}
-use mathlib.Core.Bool.{Bool, true, false, cond, false≢true}
+-- A value read from a slot stands in its row, as `same_content` requires, and fits a record.
+use Prim.Native.Nat.{ℕ, zero, suc, _+_, _/_, _%_, _^_, _≤_, _<_}
+use mathlib.Core.Path.{_≡_, refl, subst}
+use mathlib.Core.Bool.{Bool, true, false, cond}
 use mathlib.Core.List.{List}
 use native.Mathlib.Omega.{arith}
 use lib.Dec.{eqb, leb, ltb}
-use lib.IntN.{ℤ}
-use lib.Ieee.{Format, binary32, binary64, top}
+use lib.IntN.{ℤ, pos}
+use lib.Signed.{ltZ, quotZ, remZ}
 use lib.ListN.{length, getD, take, drop}
 use lib.Seq.{take-all}
-use mir.Syntax.{w16, w32, w64}
-use mir.Val.{toZ}
+use mir.Syntax.{Width, w8, w16, w32, w64}
+use mir.Val.{bits, Fits, SFits, toZ}
 use mir.ValLaws.{toZ-fits}
-use borrow.Author.Tests.{le-leb, eq-eqb}
+use borrow.Author.Tests.{le-leb, leb-false, eq-eqb, eqb-true, eqb-false}
 use Rattle.laws.specs.Bytes.{fromLe}
 use Rattle.laws.proofs.Bytes.{AllBytes, from-part}
+use Rattle.laws.proofs.Truths.{by-cond}
 use Rattle.text.specs.Rfc3629.{isText}
 use Rattle.temporal.specs.declared.TimeOfDay.{TimeOfDay}
 use Rattle.temporal.specs.declared.TimeOfDay.the-variants.{Micros, OutOfRange}
 use Rattle.temporal.specs.Ranges.{isDate, isTimestamp}
-use Rattle.temporal.specs.Time.{timeOf}
+use Rattle.temporal.specs.Time.{modZ, timeOf}
+use Rattle.temporal.proofs.Counts.{count-signed}
+use Rattle.bit_utils.specs.Bits.{bytesFor}
 use Rattle.numeric.specs.declared.Decoded.{Decoded}
 use Rattle.numeric.specs.declared.Decoded.the-variants as Bcd
 use Rattle.numeric.specs.Decimal.{halves}
@@ -27,160 +30,188 @@ use Rattle.numeric.specs.Packed.{decodeBcd}
 use Rattle.numeric.proofs.Bounds.{by-number}
 use Rattle.datatype.specs.declared.DataType.{DataType}
 use Rattle.datatype.specs.declared.DataType.the-variants as T
-use Rattle.datatype.specs.Types.{sizeOf, isVarlen, precisionOf, lengthOf}
+use Rattle.datatype.specs.Types.{sizeOf, isVarlen, precisionOf, scaleOf, lengthOf}
 use Rattle.value.specs.declared.NumericValue.{NumericValue}
 use Rattle.value.specs.declared.DataValue.{DataValue}
 use Rattle.value.specs.declared.DataValue.the-variants as D
 use Rattle.value.specs.Kinds.{kindOf}
+use Rattle.value.specs.Ranges.{noText, rangeOf}
+use Rattle.value_list.specs.Records.{NarrowRange, SizedNumeric, Sized}
 use Rattle.stored_form.specs.declared.SlotRead.{SlotRead}
 use Rattle.stored_form.specs.declared.SlotRead.the-variants.{Value, NoValue}
-use Rattle.stored_form.specs.Number.{numberOf}
+use Rattle.stored_form.specs.Number.{numericOf}
 use Rattle.stored_form.specs.Read.{valueIf, twosComplement, decoded, timed, whole, readSlot}
 use Rattle.stored_form.proofs.Numbers.{number-fits}
-use Rattle.value_same.specs.Same.{wordOf, standsIn}
-use Rattle.value_same.proofs.Widths.{kindFor, UpperFits, InWidth}
+use Rattle.value_same.specs.InnerFields.{standsIn}
 
 -- ---- what holds of every value that a slot of type t can give
 
-Holds : (DataValue → Type 0) → SlotRead → Type 0
+abbrev Holds : (DataValue → Type 0) → SlotRead → Type 0
 Holds P (Value v) = P v
 Holds P NoValue = Unit {0}
 
 module _ (P : DataValue → Type 0) where
   if-holds : (b : Bool) (v : DataValue) → P v → Holds P (valueIf b v)
-  unfolding Holds
   if-holds true v e = e
   if-holds false v e = tt
 
-  numeric-holds : (s : ℕ) (bs : List ℕ) (d : Decoded) → ((m : NumericValue) → P (D.Numeric m)) → Holds P (decoded s bs d)
-  unfolding Holds
-  numeric-holds s bs (Bcd.Value negative high low) e = e (numberOf negative (halves high low) s)
-  numeric-holds s bs Bcd.Broken e = if-holds (eqb (length bs) 17) (D.Numeric (twosComplement bs)) (e (twosComplement bs))
+  numeric-holds : (s : ℕ) (bs : List ℕ) (d : Decoded) → ((m : NumericValue) → P (D.Numeric m))
+      → Holds P (decoded s bs d)
+  numeric-holds s bs (Bcd.Value negative high low) e = e (numericOf negative (halves high low) s)
+  numeric-holds s bs Bcd.Broken e =
+      if-holds (eqb (length bs) 17) (D.Numeric (twosComplement bs)) (e (twosComplement bs))
 
   time-holds : (d : TimeOfDay) → ((z : ℤ) → P (D.Time z)) → Holds P (timed d)
-  unfolding Holds
   time-holds (Micros z) e = e z
   time-holds OutOfRange e = tt
 
   short-holds : (b : Bool) (s : SlotRead) → Holds P s → Holds P (cond b NoValue s)
-  unfolding Holds
   short-holds true s e = tt
   short-holds false s e = e
 
   read-holds : (s : SlotRead) (v : DataValue) → Holds P s → s ≡ Value v → P v
-  unfolding Holds
   read-holds s v h e = subst (Holds P) e h
 
 -- ---- the row
 
+-- its range lies in the row; a Char's has n bytes, a Bit's those that n bits fill
+pub record Placed (t : DataType) (row : List ℕ) (v : DataValue) : Type 0 where
+  pub inside : rangeOf v .start + rangeOf v .length ≤ length row
+  pub chars : kindOf v ≡ 8 → rangeOf v .length ≡ lengthOf t
+  pub bits : kindOf v ≡ 12 → rangeOf v .length ≡ bytesFor (lengthOf t)
+
 module _ (start : ℕ) (bs row : List ℕ) (h : start + length bs ≤ length row) where
-  none : cond (leb 0 (length row)) true false ≡ true
-  none = ap (λ (b : Bool). cond b true false) (le-leb 0 (length row) (omega arith))
+  none : {t : DataType} (v : DataValue) → rangeOf v ≡ noText → eqb (kindOf v) 8 ≡ false → eqb (kindOf v) 12 ≡ false
+      → Placed t row v
+  none v e p q =
+      record {
+        inside = rw e (omega arith);
+        chars = λ k. absurd (eqb-false (kindOf v) 8 p k);
+        bits = λ k. absurd (eqb-false (kindOf v) 12 q k);
+      }
 
-  text : cond (leb (start + length bs) (length row)) true false ≡ true
-  text = ap (λ (b : Bool). cond b true false) (le-leb (start + length bs) (length row) h)
+  char : {t : DataType} → length bs ≡ lengthOf t → Placed t row (D.Char (whole start bs))
+  char l = record { inside = h; chars = λ _. l; bits = λ k. absurd (omega arith) }
 
-  Stands : DataType → DataValue → Type 0
-  Stands t v = standsIn (lengthOf t) v row ≡ true
-
-  slot-stands : (t : DataType) → (isVarlen t ≡ false → length bs ≡ sizeOf t) → Holds (Stands t) (readSlot t start bs)
-  unfolding Holds Stands
-  slot-stands T.SmallInt l = none
-  slot-stands T.Int l = none
-  slot-stands T.BigInt l = none
-  slot-stands T.Real l = none
-  slot-stands T.DoublePrecision l = none
-  slot-stands (T.Numeric p s) l = numeric-holds (Stands (T.Numeric p s)) s bs (decodeBcd p bs) (λ m. none)
-  slot-stands (T.Decimal p s) l = numeric-holds (Stands (T.Decimal p s)) s bs (decodeBcd p bs) (λ m. none)
-  slot-stands T.Bool l = none
-  slot-stands (T.Char n) l = if-holds (Stands (T.Char n)) (isText bs) (D.Char (whole start bs)) text
-  slot-stands (T.Character n) l = if-holds (Stands (T.Character n)) (isText bs) (D.Char (whole start bs)) text
-  slot-stands (T.Varchar n) l =
-      short-holds (Stands (T.Varchar n)) (ltb n (length bs)) (valueIf (isText bs) (D.Varchar (whole start bs)))
-      (if-holds (Stands (T.Varchar n)) (isText bs) (D.Varchar (whole start bs)) text)
-  slot-stands T.Date l = if-holds (Stands T.Date) (isDate (toZ w32 (fromLe bs))) (D.Date (toZ w32 (fromLe bs))) none
-  slot-stands T.Time l = time-holds (Stands T.Time) (timeOf (toZ w64 (fromLe bs))) (λ z. none)
-  slot-stands (T.Bit n) l = rw (le-leb (start + length bs) (length row) h, eq-eqb (length bs) (sizeOf (T.Bit n)) (l refl))
-  slot-stands T.Timestamp l = if-holds (Stands T.Timestamp) (isTimestamp (toZ w64 (fromLe bs))) (D.Timestamp (toZ w64 (fromLe bs))) none
+  slot-placed : (t : DataType) → (isVarlen t ≡ false → length bs ≡ sizeOf t)
+      → Holds (Placed t row) (readSlot t start bs)
+  slot-placed T.SmallInt l = none (D.SmallInt (toZ w16 (fromLe bs))) refl refl refl
+  slot-placed T.Int l = none (D.Int (toZ w32 (fromLe bs))) refl refl refl
+  slot-placed T.BigInt l = none (D.BigInt (toZ w64 (fromLe bs))) refl refl refl
+  slot-placed T.Real l = none (D.Real (fromLe bs)) refl refl refl
+  slot-placed T.DoublePrecision l = none (D.DoublePrecision (fromLe bs)) refl refl refl
+  slot-placed (T.Numeric p s) l =
+      numeric-holds (Placed (T.Numeric p s) row) s bs (decodeBcd p bs) (λ m. none (D.Numeric m) refl refl refl)
+  slot-placed (T.Decimal p s) l =
+      numeric-holds (Placed (T.Decimal p s) row) s bs (decodeBcd p bs) (λ m. none (D.Numeric m) refl refl refl)
+  slot-placed T.Bool l = none (D.Bool (cond (eqb (getD bs 0 0) 0) 0 1)) refl refl refl
+  slot-placed (T.Char n) l = if-holds (Placed (T.Char n) row) (isText bs) (D.Char (whole start bs)) (char (l refl))
+  slot-placed (T.Character n) l =
+      if-holds (Placed (T.Character n) row) (isText bs) (D.Char (whole start bs)) (char (l refl))
+  slot-placed (T.Varchar n) l =
+      short-holds (Placed (T.Varchar n) row) (ltb n (length bs)) (valueIf (isText bs) (D.Varchar (whole start bs)))
+      (if-holds (Placed (T.Varchar n) row) (isText bs) (D.Varchar (whole start bs))
+      (record { inside = h; chars = λ k. absurd (omega arith); bits = λ k. absurd (omega arith) }))
+  slot-placed T.Date l =
+      if-holds (Placed T.Date row) (isDate (toZ w32 (fromLe bs))) (D.Date (toZ w32 (fromLe bs)))
+      (none (D.Date (toZ w32 (fromLe bs))) refl refl refl)
+  slot-placed T.Time l =
+      time-holds (Placed T.Time row) (timeOf (toZ w64 (fromLe bs))) (λ z. none (D.Time z) refl refl refl)
+  slot-placed (T.Bit n) l = record { inside = h; chars = λ k. absurd (omega arith); bits = λ _. l refl }
+  slot-placed T.Timestamp l =
+      if-holds (Placed T.Timestamp row) (isTimestamp (toZ w64 (fromLe bs))) (D.Timestamp (toZ w64 (fromLe bs)))
+      (none (D.Timestamp (toZ w64 (fromLe bs))) refl refl refl)
 
   -- bs are the bytes of a column of type t, at `start` of the row
-  pub read-stands : (t : DataType) (v : DataValue) → (isVarlen t ≡ false → length bs ≡ sizeOf t) → readSlot t start bs ≡ Value v → standsIn (lengthOf t) v row ≡ true
-  unfolding Stands
-  read-stands t v l e = read-holds (Stands t) (readSlot t start bs) v (slot-stands t l) e
+  module _ (t : DataType) (v : DataValue)
+      (l : isVarlen t ≡ false → length bs ≡ sizeOf t) (e : readSlot t start bs ≡ Value v) where
+    pub read-placed : Placed t row v
+    read-placed = read-holds (Placed t row) (readSlot t start bs) v (slot-placed t l) e
 
--- ---- the patterns of floats
+    pub read-stands : standsIn (lengthOf t) v row ≡ true
+    read-stands =
+        rw (le-leb (rangeOf v .start + rangeOf v .length) (length row) (read-placed .inside))
+        (by-cond (λ b. b ≡ true) (eqb (kindOf v) 12) (eqb (rangeOf v .length) (bytesFor (lengthOf t))) true
+        (λ k. eq-eqb (rangeOf v .length) (bytesFor (lengthOf t)) (read-placed .bits (eqb-true (kindOf v) 12 k)))
+        (λ _. refl))
 
-Pattern : DataValue → Type 0
-Pattern v = (f : Format) → kindOf v ≡ kindFor f → wordOf v < 2 * top f
+-- ---- its numbers and its range fit a record
 
-plain : (v : DataValue) → eqb (kindOf v) 4 ≡ false → eqb (kindOf v) 5 ≡ false → Pattern v
-unfolding Pattern
-plain v p q binary32 e = absurd (false≢true (sym p ∙ eq-eqb (kindOf v) 4 e))
-plain v p q binary64 e = absurd (false≢true (sym q ∙ eq-eqb (kindOf v) 5 e))
+number-sized : (negative : Bool) (m s : ℕ) → m / 2 ^ 64 < 2 ^ 63 → s < 256 → SizedNumeric (numericOf negative m s)
+number-sized negative m s h k =
+    record { high = number-fits negative m s h; low = record { fits = low negative m }; scale = scaled negative m }
+  where
+    low : (negative : Bool) (m : ℕ) → numericOf negative m s .low < 2 ^ 64
+    low false m = omega arith
+    low true zero = omega arith
+    low true (suc m) = omega arith
+
+    scaled : (negative : Bool) (m : ℕ) → Fits w8 (numericOf negative m s .scale)
+    scaled false m = record { fits = k }
+    scaled true zero = record { fits = k }
+    scaled true (suc m) = record { fits = k }
+
+time-sized : (z : ℤ) → SFits w64 z → Holds Sized (timed (timeOf z))
+time-sized z f =
+    let r = remZ z (pos 1000000) in
+    let s = modZ (quotZ z (pos 1000000)) (2 ^ 32) in
+    by-cond (λ d. Holds Sized (timed d)) (ltZ r (pos 0)) OutOfRange _ (λ _. tt)
+    (λ h. by-cond (λ d. Holds Sized (timed d)) (leb 86400 s) OutOfRange _ (λ _. tt)
+    (λ k. count-signed z f r refl h s refl (leb-false 86400 s k)))
 
 module _ (start : ℕ) (bs : List ℕ) (a : AllBytes bs) where
-  real : length bs ≡ 4 → Pattern (D.Real (fromLe bs))
-  unfolding Pattern
-  real l binary32 e = let h = rw (take-all 4 bs (omega arith)) at (from-part 4 0 bs a) in omega arith
-  real l binary64 e = absurd (omega arith)
+  unsigned : (w : Width) (n : ℕ) → 2 ^ bits w ≡ 256 ^ n → length bs ≡ n → Fits w (fromLe bs)
+  unsigned w n s l =
+      let h = rw (take-all (length bs) bs (omega arith)) at (from-part (length bs) 0 bs a) in
+      record { fits = rw (s, ← l) h }
 
-  double : length bs ≡ 8 → Pattern (D.DoublePrecision (fromLe bs))
-  unfolding Pattern
-  double l binary32 e = absurd (omega arith)
-  double l binary64 e = let h = rw (take-all 8 bs (omega arith)) at (from-part 8 0 bs a) in omega arith
+  signed : (w : Width) (n : ℕ) → 2 ^ bits w ≡ 256 ^ n → length bs ≡ n → SFits w (toZ w (fromLe bs))
+  signed w n s l = toZ-fits w (fromLe bs) (unsigned w n s l)
 
-  slot-pattern : (t : DataType) → (isVarlen t ≡ false → length bs ≡ sizeOf t) → Holds Pattern (readSlot t start bs)
-  unfolding Holds
-  slot-pattern T.SmallInt l = plain (D.SmallInt (toZ w16 (fromLe bs))) refl refl
-  slot-pattern T.Int l = plain (D.Int (toZ w32 (fromLe bs))) refl refl
-  slot-pattern T.BigInt l = plain (D.BigInt (toZ w64 (fromLe bs))) refl refl
-  slot-pattern T.Real l = real (l refl)
-  slot-pattern T.DoublePrecision l = double (l refl)
-  slot-pattern (T.Numeric p s) l = numeric-holds Pattern s bs (decodeBcd p bs) (λ m. plain (D.Numeric m) refl refl)
-  slot-pattern (T.Decimal p s) l = numeric-holds Pattern s bs (decodeBcd p bs) (λ m. plain (D.Numeric m) refl refl)
-  slot-pattern T.Bool l = plain (D.Bool (cond (eqb (getD bs 0 0) 0) 0 1)) refl refl
-  slot-pattern (T.Char n) l = if-holds Pattern (isText bs) (D.Char (whole start bs)) (plain (D.Char (whole start bs)) refl refl)
-  slot-pattern (T.Character n) l = if-holds Pattern (isText bs) (D.Char (whole start bs)) (plain (D.Char (whole start bs)) refl refl)
-  slot-pattern (T.Varchar n) l =
-      short-holds Pattern (ltb n (length bs)) (valueIf (isText bs) (D.Varchar (whole start bs)))
-      (if-holds Pattern (isText bs) (D.Varchar (whole start bs)) (plain (D.Varchar (whole start bs)) refl refl))
-  slot-pattern T.Date l = if-holds Pattern (isDate (toZ w32 (fromLe bs))) (D.Date (toZ w32 (fromLe bs))) (plain (D.Date (toZ w32 (fromLe bs))) refl refl)
-  slot-pattern T.Time l = time-holds Pattern (timeOf (toZ w64 (fromLe bs))) (λ z. plain (D.Time z) refl refl)
-  slot-pattern (T.Bit n) l = plain (D.Bit (whole start bs)) refl refl
-  slot-pattern T.Timestamp l =
-      if-holds Pattern (isTimestamp (toZ w64 (fromLe bs))) (D.Timestamp (toZ w64 (fromLe bs))) (plain (D.Timestamp (toZ w64 (fromLe bs))) refl refl)
+  narrow : start + length bs ≤ 65535 → NarrowRange (whole start bs)
+  narrow h = record { start = omega arith; size = omega arith }
 
-  -- only the upper half of a Numeric is left
-  pub read-width : (t : DataType) (v : DataValue) → (isVarlen t ≡ false → length bs ≡ sizeOf t) → readSlot t start bs ≡ Value v → UpperFits v → InWidth v
-  unfolding Pattern
-  read-width t v l e u = record { pattern = read-holds Pattern (readSlot t start bs) v (slot-pattern t l) e; upper = u }
+  -- a part of at most eight bytes
+  part-fits : (at : ℕ) → Fits w64 (fromLe (take 8 (drop at bs)))
+  part-fits at = record { fits = from-part 8 at bs a }
 
-  -- ---- the upper half of a Numeric
+  twos-sized : SizedNumeric (twosComplement bs)
+  twos-sized =
+      record { high = toZ-fits w64 (fromLe (take 8 (drop 8 bs))) (part-fits 8); low = part-fits 0; scale = a 16 }
 
-  upper-holds : (p s : ℕ) → p ≤ 38 → Holds UpperFits (decoded s bs (decodeBcd p bs))
-  unfolding Holds
-  upper-holds p s h =
-      by-number (λ d. Holds UpperFits (decoded s bs d)) p bs h
-      (if-holds UpperFits (eqb (length bs) 17) (D.Numeric (twosComplement bs)) (toZ-fits w64 (fromLe (take 8 (drop 8 bs))) (record { fits = from-part 8 8 bs a })))
-      (λ negative x l. let whole : halves (x / 2 ^ 64) (x % 2 ^ 64) ≡ x = omega arith in rw whole (number-fits negative x s l))
+  numeric-sized : (p s : ℕ) → p ≤ 38 → s < 256 → Holds Sized (decoded s bs (decodeBcd p bs))
+  numeric-sized p s h k =
+      by-number (λ d. Holds Sized (decoded s bs d)) p bs h
+      (if-holds Sized (eqb (length bs) 17) (D.Numeric (twosComplement bs)) twos-sized)
+      (λ negative x l. let whole : halves (x / 2 ^ 64) (x % 2 ^ 64) ≡ x = omega arith in
+      rw whole (number-sized negative x s l k))
 
-  slot-upper : (t : DataType) → precisionOf t ≤ 38 → Holds UpperFits (readSlot t start bs)
-  unfolding Holds
-  slot-upper T.SmallInt h = tt
-  slot-upper T.Int h = tt
-  slot-upper T.BigInt h = tt
-  slot-upper T.Real h = tt
-  slot-upper T.DoublePrecision h = tt
-  slot-upper (T.Numeric p s) h = upper-holds p s h
-  slot-upper (T.Decimal p s) h = upper-holds p s h
-  slot-upper T.Bool h = tt
-  slot-upper (T.Char n) h = if-holds UpperFits (isText bs) (D.Char (whole start bs)) tt
-  slot-upper (T.Character n) h = if-holds UpperFits (isText bs) (D.Char (whole start bs)) tt
-  slot-upper (T.Varchar n) h = short-holds UpperFits (ltb n (length bs)) (valueIf (isText bs) (D.Varchar (whole start bs))) (if-holds UpperFits (isText bs) (D.Varchar (whole start bs)) tt)
-  slot-upper T.Date h = if-holds UpperFits (isDate (toZ w32 (fromLe bs))) (D.Date (toZ w32 (fromLe bs))) tt
-  slot-upper T.Time h = time-holds UpperFits (timeOf (toZ w64 (fromLe bs))) (λ z. tt)
-  slot-upper (T.Bit n) h = tt
-  slot-upper T.Timestamp h = if-holds UpperFits (isTimestamp (toZ w64 (fromLe bs))) (D.Timestamp (toZ w64 (fromLe bs))) tt
+  slot-sized : (t : DataType) → (isVarlen t ≡ false → length bs ≡ sizeOf t) → start + length bs ≤ 65535
+      → precisionOf t ≤ 38 → scaleOf t < 256 → Holds Sized (readSlot t start bs)
+  slot-sized T.SmallInt l n p s = signed w16 2 refl (l refl)
+  slot-sized T.Int l n p s = signed w32 4 refl (l refl)
+  slot-sized T.BigInt l n p s = signed w64 8 refl (l refl)
+  slot-sized T.Real l n p s = unsigned w32 4 refl (l refl)
+  slot-sized T.DoublePrecision l n p s = unsigned w64 8 refl (l refl)
+  slot-sized (T.Numeric q r) l n p s = numeric-sized q r p s
+  slot-sized (T.Decimal q r) l n p s = numeric-sized q r p s
+  slot-sized T.Bool l n p s =
+      by-cond (Fits w8) (eqb (getD bs 0 0) 0) 0 1 (λ _. record { fits = omega arith })
+      (λ _. record { fits = omega arith })
+  slot-sized (T.Char m) l n p s = if-holds Sized (isText bs) (D.Char (whole start bs)) (narrow n)
+  slot-sized (T.Character m) l n p s = if-holds Sized (isText bs) (D.Char (whole start bs)) (narrow n)
+  slot-sized (T.Varchar m) l n p s =
+      short-holds Sized (ltb m (length bs)) (valueIf (isText bs) (D.Varchar (whole start bs)))
+      (if-holds Sized (isText bs) (D.Varchar (whole start bs)) (narrow n))
+  slot-sized T.Date l n p s =
+      if-holds Sized (isDate (toZ w32 (fromLe bs))) (D.Date (toZ w32 (fromLe bs))) (signed w32 4 refl (l refl))
+  slot-sized T.Time l n p s = time-sized (toZ w64 (fromLe bs)) (signed w64 8 refl (l refl))
+  slot-sized (T.Bit m) l n p s = narrow n
+  slot-sized T.Timestamp l n p s =
+      if-holds Sized (isTimestamp (toZ w64 (fromLe bs))) (D.Timestamp (toZ w64 (fromLe bs)))
+      (signed w64 8 refl (l refl))
 
-  pub read-upper : (t : DataType) (v : DataValue) → precisionOf t ≤ 38 → readSlot t start bs ≡ Value v → UpperFits v
-  read-upper t v h e = read-holds UpperFits (readSlot t start bs) v (slot-upper t h) e
+  -- bs are the bytes of a column of type t, at `start` of a row that is not too long
+  pub read-sized : (t : DataType) (v : DataValue) → (isVarlen t ≡ false → length bs ≡ sizeOf t)
+      → start + length bs ≤ 65535 → precisionOf t ≤ 38 → scaleOf t < 256 → readSlot t start bs ≡ Value v → Sized v
+  read-sized t v l n p s e = read-holds Sized (readSlot t start bs) v (slot-sized t l n p s) e

@@ -1,105 +1,74 @@
 -- What the same content means for stored forms: they are equal, but for two NaNs and two zeros.
-use Prim.Native.Nat.{ℕ, _-_}
-use mathlib.Core.Path.{_≡_, refl, sym, ap, _∙_}
-use mathlib.Core.Bool.{true, cond}
-use mathlib.Core.List.{List, [], _∷_, _++_}
-use native.Mathlib.Omega.{arith}
+use Prim.Native.Nat.{ℕ}
+use mathlib.Core.Path.{_≡_, refl, sym, ap, _∙_, subst}
+use mathlib.Core.Bool.{true}
+use mathlib.Core.List.{List, [], _++_}
 use lib.Dec.{eqb}
-use lib.IntN.{ℤ}
-use lib.ListN.{length, replicate}
 use lib.Ieee.{Format, binary32, binary64}
-use mir.Syntax.{w64}
-use mir.Val.{toZ}
-use mir.ValLaws.{toZ-ofZ}
+use mir.Syntax.{w16, w32, w64}
+use mir.Val.{ofZ}
 use Rattle.laws.specs.Bytes.{toLe, fromLe}
-use Rattle.laws.proofs.Bytes.{from-to}
-use Rattle.float.specs.Same.{nanPattern, zeroPattern}
-use Rattle.float.proofs.ByBits.{Alike, nans, zeros, equal}
+use Rattle.laws.proofs.Same.{same-eq}
+use Rattle.laws.proofs.Truths.{both}
+use Rattle.float.specs.Same.{sameValue}
+use Rattle.float.proofs.ByBits.{value-alike}
 use Rattle.bit_utils.specs.Bits.{packBits, unpackBits}
-use Rattle.numeric.specs.Packed.{encodeBcd}
 use Rattle.datatype.specs.declared.DataType.{DataType}
-use Rattle.datatype.specs.Types.{precisionOf, lengthOf}
+use Rattle.datatype.specs.Types.{lengthOf}
 use Rattle.value.specs.declared.DataValue.{DataValue}
 use Rattle.value.specs.declared.DataValue.the-variants as D
 use Rattle.value.specs.Kinds.{kindOf}
-use Rattle.stored_form.specs.Number.{isNegative, magnitude}
+use Rattle.value_list.specs.Records.{bodyOf, recordOf, recordAt, Sized}
+use Rattle.value_list.proofs.Records.{record-read}
 use Rattle.stored_form.specs.Write.{storedForm}
-use Rattle.value_same.specs.declared.Content.{Content}
-use Rattle.value_same.specs.Same.{wordOf, contentOf, sameContent}
-use Rattle.value_same.proofs.Widths.{kindFor, InWidth}
-use Rattle.value_same.proofs.Cases.{SameCase, floats, bits, others, same-kinds, same-cases}
+use Rattle.stored_form.proofs.Matched.{Kinded, kinded}
+use Rattle.value_same.specs.Same.{sameOfKind, sameContent}
+use Rattle.value_same.specs.Stored.{kindFor, SameStored, equal-forms, alike-floats}
+use Rattle.value_same.proofs.Equivalence.{same-kinds, pattern}
 
--- ---- a stored form is that of a kind, a content and a text
+-- values whose records are equal: the record is read back
+record-same : (v w : DataValue) → Sized v → Sized w → recordOf v ≡ recordOf w → v ≡ w
+record-same v w f g e =
+    let p =
+    sym (record-read [] [] 0 refl v f) ∙ ap (λ (s : List ℕ). recordAt (s ++ []) 0) e ∙ record-read [] [] 0 refl w g in
+    cc
 
-sizeBy : ℕ → ℕ
-sizeBy k = cond (eqb k 1) 2 (cond (eqb k 2) 4 (cond (eqb k 4) 4 (cond (eqb k 10) 4 8)))
+module _ (t : DataType) (x y : List ℕ) where
+  floats : (f : Format) (v w : DataValue) → kindOf v ≡ kindFor f → kindOf w ≡ kindFor f
+      → storedForm t v x ≡ bodyOf v → storedForm t w y ≡ bodyOf w
+      → sameValue f (fromLe (bodyOf v)) (fromLe (bodyOf w)) ≡ true → SameStored t v x w y
+  floats f v w p q e g h =
+      alike-floats f p q
+      (rw (e, g) (value-alike f (fromLe (bodyOf v)) (fromLe (bodyOf w)) (pattern f v p) (pattern f w q) h))
 
-formOf : DataType → ℕ → Content → List ℕ → List ℕ
-formOf t k c x =
-    cond (eqb k 0) []
-    (cond (eqb k 6) (encodeBcd (precisionOf t) (isNegative (toZ w64 (c .upper))) (magnitude (toZ w64 (c .upper)) (c .word)))
-    (cond (eqb k 7) (c .word ∷ [])
-    (cond (eqb k 8) (x ++ replicate (lengthOf t - length x) 0x20)
-    (cond (eqb k 9) x
-    (cond (eqb k 12) (packBits (lengthOf t) (unpackBits (lengthOf t) x))
-    (toLe (sizeBy k) (c .word)))))))
+  of-kind : {k : ℕ} {v w : DataValue} → Kinded v k → Kinded w k → (k ≡ 6 → Sized v) → (k ≡ 6 → Sized w)
+      → sameOfKind k (lengthOf t) v x w y ≡ true → SameStored t v x w y
+  of-kind Kinded.null Kinded.null f g h = equal-forms refl
+  of-kind (Kinded.smallint a) (Kinded.smallint b) f g h =
+      equal-forms (same-eq (toLe 2 (ofZ w16 a)) (toLe 2 (ofZ w16 b)) h)
+  of-kind (Kinded.int a) (Kinded.int b) f g h = equal-forms (same-eq (toLe 4 (ofZ w32 a)) (toLe 4 (ofZ w32 b)) h)
+  of-kind (Kinded.bigint a) (Kinded.bigint b) f g h = equal-forms (same-eq (toLe 8 (ofZ w64 a)) (toLe 8 (ofZ w64 b)) h)
+  of-kind (Kinded.real a) (Kinded.real b) f g h = floats binary32 (D.Real a) (D.Real b) refl refl refl refl h
+  of-kind (Kinded.double a) (Kinded.double b) f g h =
+      floats binary64 (D.DoublePrecision a) (D.DoublePrecision b) refl refl refl refl h
+  of-kind (Kinded.numeric m) (Kinded.numeric o) f g h =
+      let e = same-eq (bodyOf (D.Numeric m)) (bodyOf (D.Numeric o)) h in
+      let n = record-same (D.Numeric m) (D.Numeric o) (f refl) (g refl) (rw e) in
+      equal-forms (ap (λ (v : DataValue). storedForm t v x) n)
+  of-kind (Kinded.bool a) (Kinded.bool b) f g h = equal-forms (same-eq (bodyOf (D.Bool a)) (bodyOf (D.Bool b)) h)
+  of-kind (Kinded.char p) (Kinded.char q) f g h = equal-forms (ap (storedForm t (D.Char p)) (same-eq x y h))
+  of-kind (Kinded.varchar p) (Kinded.varchar q) f g h = equal-forms (same-eq x y h)
+  of-kind (Kinded.date a) (Kinded.date b) f g h = equal-forms (same-eq (toLe 4 (ofZ w32 a)) (toLe 4 (ofZ w32 b)) h)
+  of-kind (Kinded.time a) (Kinded.time b) f g h = equal-forms (same-eq (toLe 8 (ofZ w64 a)) (toLe 8 (ofZ w64 b)) h)
+  of-kind (Kinded.bit p) (Kinded.bit q) f g h =
+      equal-forms (ap (packBits (lengthOf t)) (same-eq (unpackBits (lengthOf t) x) (unpackBits (lengthOf t) y) h))
+  of-kind (Kinded.timestamp a) (Kinded.timestamp b) f g h =
+      equal-forms (same-eq (toLe 8 (ofZ w64 a)) (toLe 8 (ofZ w64 b)) h)
 
-stored-by : (t : DataType) (v : DataValue) (x : List ℕ) → InWidth v → storedForm t v x ≡ formOf t (kindOf v) (contentOf v) x
-unfolding formOf sizeBy
-stored-by t D.Null x i = refl
-stored-by t (D.SmallInt z) x i = refl
-stored-by t (D.Int z) x i = refl
-stored-by t (D.BigInt z) x i = refl
-stored-by t (D.Real b) x i = refl
-stored-by t (D.DoublePrecision b) x i = refl
-stored-by t (D.Numeric n) x i = ap (λ (z : ℤ). encodeBcd (precisionOf t) (isNegative z) (magnitude z (n .low))) (sym (toZ-ofZ w64 (n .high) (i .upper)))
-stored-by t (D.Bool b) x i = refl
-stored-by t (D.Char r) x i = refl
-stored-by t (D.Varchar r) x i = refl
-stored-by t (D.Date z) x i = refl
-stored-by t (D.Time z) x i = refl
-stored-by t (D.Bit r) x i = refl
-stored-by t (D.Timestamp z) x i = refl
-
--- a float's is its bits, which are read back from it
-module _ (t : DataType) (v : DataValue) (x : List ℕ) (i : InWidth v) where
-  pub stored-bits : (f : Format) → kindOf v ≡ kindFor f → fromLe (storedForm t v x) ≡ wordOf v
-  unfolding formOf sizeBy
-  stored-bits binary32 e = rw (stored-by t v x i, e) (from-to 4 (wordOf v) (let h = i .pattern binary32 e in omega arith))
-  stored-bits binary64 e = rw (stored-by t v x i, e) (from-to 8 (wordOf v) (let h = i .pattern binary64 e in omega arith))
-
--- ---- the law
-
--- two stored forms of the same content are equal, or two NaNs of one format, or its two zeros
-pub data SameStored (t : DataType) (v : DataValue) (x : List ℕ) (w : DataValue) (y : List ℕ) : Type 0 where
-  equal-forms : storedForm t v x ≡ storedForm t w y → SameStored t v x w y
-  two-nans : (f : Format) → kindOf v ≡ kindFor f → kindOf w ≡ kindFor f
-      → nanPattern f (fromLe (storedForm t v x)) ≡ true → nanPattern f (fromLe (storedForm t w y)) ≡ true → SameStored t v x w y
-  two-zeros : (f : Format) → kindOf v ≡ kindFor f → kindOf w ≡ kindFor f
-      → zeroPattern f (fromLe (storedForm t v x)) ≡ true → zeroPattern f (fromLe (storedForm t w y)) ≡ true → SameStored t v x w y
-
-module _ (t : DataType) (v : DataValue) (x : List ℕ) (w : DataValue) (y : List ℕ) (i : InWidth v) (j : InWidth w) where
-  forms : formOf t (kindOf v) (contentOf v) x ≡ formOf t (kindOf w) (contentOf w) y → SameStored t v x w y
-  forms e = equal-forms (stored-by t v x i ∙ e ∙ sym (stored-by t w y j))
-
-  float-forms : (f : Format) → kindOf v ≡ kindFor f → kindOf w ≡ kindFor f → wordOf v ≡ wordOf w → formOf t (kindOf v) (contentOf v) x ≡ formOf t (kindOf w) (contentOf w) y
-  unfolding formOf sizeBy
-  float-forms binary32 p q e = rw (p, q, e)
-  float-forms binary64 p q e = rw (p, q, e)
-
-  bit-forms : kindOf v ≡ 12 → kindOf w ≡ 12 → unpackBits (lengthOf t) x ≡ unpackBits (lengthOf t) y → formOf t (kindOf v) (contentOf v) x ≡ formOf t (kindOf w) (contentOf w) y
-  unfolding formOf
-  bit-forms p q e = rw (p, q, e)
-
-  float-case : (f : Format) → kindOf v ≡ kindFor f → kindOf w ≡ kindFor f → Alike f (wordOf v) (wordOf w) → SameStored t v x w y
-  float-case f p q (nans a b) = two-nans f p q (rw (stored-bits t v x i f p) a) (rw (stored-bits t w y j f q) b)
-  float-case f p q (zeros a b) = two-zeros f p q (rw (stored-bits t v x i f p, a)) (rw (stored-bits t w y j f q, b))
-  float-case f p q (equal e) = forms (float-forms f p q e)
-
-  by-case : kindOf v ≡ kindOf w → SameCase (lengthOf t) v x w y → SameStored t v x w y
-  by-case k (floats f e a) = float-case f e (sym k ∙ e) a
-  by-case k (bits e b) = forms (bit-forms e (sym k ∙ e) b)
-  by-case k (others c e) = forms (ap (λ (k : ℕ). formOf t k (contentOf v) x) k ∙ ap (λ (c : Content). formOf t (kindOf w) c x) c ∙ ap (formOf t (kindOf w) (contentOf w)) e)
-
-  pub same-stored : sameContent (lengthOf t) v x w y ≡ true → SameStored t v x w y
-  same-stored h = by-case (same-kinds (lengthOf t) v x w y h) (same-cases (lengthOf t) v x w y i j h)
+  -- the bytes of a Numeric's record must hold it, those of others need not
+  pub same-stored : (v w : DataValue) → (kindOf v ≡ 6 → Sized v) → (kindOf w ≡ 6 → Sized w)
+      → sameContent (lengthOf t) v x w y ≡ true → SameStored t v x w y
+  same-stored v w f g h =
+      let e = same-kinds (lengthOf t) v x w y h in
+      of-kind (kinded v) (subst (Kinded w) (sym e) (kinded w)) f (λ k. g (sym e ∙ k))
+      (both (eqb (kindOf v) (kindOf w)) (sameOfKind (kindOf v) (lengthOf t) v x w y) h .1)

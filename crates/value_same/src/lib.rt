@@ -1,6 +1,7 @@
 // "Same content", which 01 adds to the Rust: whether two values of one type are the same.
 use datatype::DataType;
 use value::DataValue;
+use value::value_kinds;
 ghost use mathlib.Core.Path.{_≡_};
 ghost use mathlib.Core.Bool.{true};
 ghost use lib.ListN.{length};
@@ -8,7 +9,8 @@ ghost use Rattle.bit_utils.specs.Bits.{bytesFor};
 ghost use Rattle.datatype.specs.Types.{lengthOf};
 ghost use Rattle.value.specs.Kinds.{kindOf};
 ghost use Rattle.value.specs.Ranges.{textOf};
-ghost use Rattle.value_same.specs.Same.{wordOf, upperOf, scaleOf, contentOf, realOf, sameNumber, sameContent, standsIn};
+ghost use Rattle.value_same.specs.Same.{sameContent};
+ghost use Rattle.value_same.specs.InnerFields.{contentOf, realOf, sameNumber, sameByFields, standsIn};
 
 // A value's number by its bits, a Numeric's in two halves.
 pub struct Content {
@@ -18,7 +20,7 @@ pub struct Content {
 }
 
 fn word(v: DataValue) -> u64
-    ensures { λ r. ⌜ r ≡ wordOf v ⌝ }
+    ensures { λ r. ⌜ r ≡ contentOf v .word ⌝ }
 {
     match v {
         DataValue::Null => 0,
@@ -39,7 +41,7 @@ fn word(v: DataValue) -> u64
 }
 
 fn upper(v: DataValue) -> u64
-    ensures { λ r. ⌜ r ≡ upperOf v ⌝ }
+    ensures { λ r. ⌜ r ≡ contentOf v .upper ⌝ }
 {
     match v {
         DataValue::Null => 0,
@@ -60,7 +62,7 @@ fn upper(v: DataValue) -> u64
 }
 
 fn scale(v: DataValue) -> u8
-    ensures { λ r. ⌜ r ≡ scaleOf v ⌝ }
+    ensures { λ r. ⌜ r ≡ contentOf v .scale ⌝ }
 {
     match v {
         DataValue::Null => 0,
@@ -80,7 +82,7 @@ fn scale(v: DataValue) -> u8
     }
 }
 
-pub fn content_of(v: DataValue) -> Content
+fn content_of(v: DataValue) -> Content
     ensures { λ r. ⌜ r ≡ contentOf v ⌝ }
 {
     let low = word(v);
@@ -129,8 +131,9 @@ fn same_number(a: Content, b: Content) -> bool
 
 // Whether two values whose texts or packed bits are at hand are the same.
 fn same_value(ty: DataType, a: DataValue, x: &[u8], b: DataValue, y: &[u8]) -> bool
-    requires { ⌜ (kindOf a ≡ 12 → length (now x) ≡ bytesFor (lengthOf ty)) × (kindOf b ≡ 12 → length (now y) ≡ bytesFor (lengthOf ty)) ⌝ }
-    ensures { λ r. ⌜ r ≡ sameContent (lengthOf ty) a (now (x .entry)) b (now (y .entry)) ⌝ }
+    requires { ⌜ (kindOf a ≡ 12 → length (now x) ≡ bytesFor (lengthOf ty))
+        × (kindOf b ≡ 12 → length (now y) ≡ bytesFor (lengthOf ty)) ⌝ }
+    ensures { λ r. ⌜ r ≡ sameByFields (lengthOf ty) a (now (x .entry)) b (now (y .entry)) ⌝ }
 {
     let n = ty.declared_length() as usize;
     let kind = a.kind();
@@ -138,13 +141,13 @@ fn same_value(ty: DataType, a: DataValue, x: &[u8], b: DataValue, y: &[u8]) -> b
     if kind != other {
         return false;
     }
-    if kind == 4 {
+    if kind == value_kinds::REAL {
         return float::same_f32(real(a), real(b));
     }
-    if kind == 5 {
+    if kind == value_kinds::DOUBLE_PRECISION {
         return float::same_f64(word(a), word(b));
     }
-    if kind == 12 {
+    if kind == value_kinds::BIT {
         return bit_utils::same_bits(x, y, n);
     }
     if endian::same_bytes(x, y) {
@@ -156,7 +159,9 @@ fn same_value(ty: DataType, a: DataValue, x: &[u8], b: DataValue, y: &[u8]) -> b
 // Whether two values read from columns of type ty are the same, each with its row.
 pub fn same_content(ty: DataType, a: DataValue, row_a: &[u8], b: DataValue, row_b: &[u8]) -> bool
     requires { ⌜ (standsIn (lengthOf ty) a (now «row_a») ≡ true) × (standsIn (lengthOf ty) b (now «row_b») ≡ true) ⌝ }
-    ensures { λ r. ⌜ r ≡ sameContent (lengthOf ty) a (textOf (now («row_a» .entry)) a) b (textOf (now («row_b» .entry)) b) ⌝ }
+    ensures { λ r.
+        ⌜ r ≡ sameContent (lengthOf ty) a (textOf (now («row_a» .entry)) a)
+        b (textOf (now («row_b» .entry)) b) ⌝ }
 {
     let left = a.range();
     let right = b.range();

@@ -9,9 +9,8 @@ use Rattle.datatype.specs.Schema.{schemaOf}
 use Rattle.numeric.specs.Decimal.{digits}
 use Rattle.numeric.specs.Packed.{encodeBcd}
 use Rattle.text.specs.Rfc3629.{octets}
-use Rattle.worked.specs.Cases.{Holds, columns, S, row, table}
+use Rattle.worked.specs.Cases.{AllHold, columns, S, row, table}
 
-pub worked : Holds table
+pub worked : AllHold table
 unfolding table row S columns schemaOf rowWith lay rangeEnd rangeStart varlenEdit editedRow valuesOf soundColumn header octets digits encodeBcd
-worked =
-    (refl, (refl, (refl, (refl, (refl, (refl, (refl, (refl, (refl, (refl, (refl, (refl, (refl, (refl, (refl, (refl, (refl, (refl, (refl, (refl, tt))))))))))))))))))))
+worked = refl

@@ -1,6 +1,8 @@
-// Worked cases that are run and not proved: RFC 3629's own examples, and limits of schemas from document 01.
+// Worked cases that are run and not proved: RFC 3629's own examples, case 10 and limits of schemas from document 01.
 // What each gives is written on a line; the file `stdout` has what it must be.
 use datatype::SchemaCheck;
+use error::Answer;
+use error::Refusal;
 use libc::STDOUT_FILENO;
 
 fn say(words: &[u8]) {
@@ -42,6 +44,13 @@ fn rfc3629() {
     say_text(b"no bytes", b"");
 }
 
+fn say_refusal(r: Refusal) {
+    say(b": refused, number ");
+    io::print_decimal(STDOUT_FILENO, r.number() as u64);
+    say(b" place ");
+    io::print_decimal(STDOUT_FILENO, r.place() as u64);
+}
+
 fn say_schema(name: &[u8], schema: &[u8]) {
     say(name);
     match datatype::check_schema(schema) {
@@ -49,14 +58,57 @@ fn say_schema(name: &[u8], schema: &[u8]) {
             say(b": columns ");
             io::print_decimal(STDOUT_FILENO, layout.num_columns as u64);
         }
-        SchemaCheck::Refused(r) => {
-            say(b": refused, number ");
-            io::print_decimal(STDOUT_FILENO, r.number() as u64);
-            say(b" place ");
-            io::print_decimal(STDOUT_FILENO, r.place() as u64);
-        }
+        SchemaCheck::Refused(r) => say_refusal(r),
     }
     say(b"\n");
+}
+
+fn say_build(name: &[u8], schema: &[u8], values: &[u8], text: &[u8]) {
+    let mut out = [0u8; 65536];
+    say(name);
+    match row_build::serialize_nullable_typed_row(schema, values, text, &mut out) {
+        Answer::Done(n) => {
+            say(b": bytes ");
+            io::print_decimal(STDOUT_FILENO, n as u64);
+        }
+        Answer::Refused(r) => say_refusal(r),
+    }
+    say(b"\n");
+}
+
+// Case 10: "ABCDE" fits S, "ABCDEF" gives 12.
+fn texts() {
+    let s = b"\x02\x0B\x05\x00\x01";
+    say_build(
+        b"S of 1, ABCDE, null",
+        s,
+        b"\x02\x01\x00\x00\x00\x09\x00\x00\x05\x00\x00",
+        b"ABCDEF",
+    );
+    say_build(
+        b"S of 1, ABCDEF, null",
+        s,
+        b"\x02\x01\x00\x00\x00\x09\x00\x00\x06\x00\x00",
+        b"ABCDEF",
+    );
+}
+
+// Case 10: a row of 65,535 bytes passes, one more gives 13. Before the text of a Varchar stand 7 bytes.
+fn rows() {
+    let text = [0x41u8; 65529];
+    let varchar = b"\x0B\xFF\xFF";
+    say_build(
+        b"Varchar(65535) of 65,528 bytes",
+        varchar,
+        b"\x09\x00\x00\xF8\xFF",
+        &text,
+    );
+    say_build(
+        b"Varchar(65535) of 65,529 bytes",
+        varchar,
+        b"\x09\x00\x00\xF9\xFF",
+        &text,
+    );
 }
 
 // Case 10: 256 columns pass, 257 give 2.
@@ -77,4 +129,6 @@ fn schemas() {
 fn main() {
     rfc3629();
     schemas();
+    texts();
+    rows();
 }

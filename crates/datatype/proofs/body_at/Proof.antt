@@ -1,7 +1,7 @@
 use borrow.Author.Needs.{needs}
 use native.Mathlib.Omega.{arith}
 use denote.Ref.{now}
-use borrow.Author.Tests.{ne-eqb}
+use Rattle.datatype.proofs.KindTable.{bodied, no-kind}
 use Rattle.datatype.proofs.Records.{cut, there}
 use Rattle.laws.proofs.Tests.{by-tests}
 use Rattle.datatype.proofs.body_at.Statement.{statement}
@@ -13,7 +13,7 @@ sub-if1 c = search needs
 returns : tie.Need-returns
 returns c =
     let a = c .before .before .args in
-    cut (now (a .schema)) (a .at) (a .kind) (omega arith)
+    cut (now (a .schema)) (a .at) (bodied (a .kind) (c .before .before .pre .1)) (omega arith)
 
 add-precision : tie.Need-add-precision
 add-precision c = search needs
@@ -85,7 +85,8 @@ returns-9 c =
 returns-10 : tie.Need-returns-10
 returns-10 c =
     let r = c .match .rest in
-    simp (ne-eqb _ 6 (r .0 .0 .0 .0 .0 .1), ne-eqb _ 7 (r .0 .0 .0 .0 .1), ne-eqb _ 9 (r .0 .0 .0 .1), ne-eqb _ 10 (r .0 .0 .1), ne-eqb _ 11 (r .0 .1), ne-eqb _ 14 (r .1))
+    let b = c .before .before .before .before .before .before in
+    rw (no-kind (b .args .kind) (b .pre .1) (r .0 .0 .0 .0 .0 .1) (r .0 .0 .0 .0 .1) (r .0 .0 .0 .1) (r .0 .0 .1) (r .0 .1) (r .1))
 
 pub body-at-spec : {M : Type 1} → statement M
 body-at-spec =

@@ -4,7 +4,7 @@ use mathlib.Core.Path.{sym, _∙_}
 use denote.Ref.{now}
 use Prim.Native.Nat.{_-_}
 use Rattle.datatype.proofs.Walk.{Walking, walk-start, walk-end, walk-over, walk-bad, walk-more}
-use Rattle.datatype.proofs.Plain.{plain-record, body-record, plain-added}
+use Rattle.datatype.proofs.Plain.{plain-record, plain-added}
 use borrow.Author.Needs.{needs}
 use Rattle.datatype.proofs.check_schema.Tie as tie
 use Rattle.datatype.proofs.body_at.Reads as body-at-reads
@@ -49,7 +49,7 @@ loop-again c =
     rw added (walk-more (l .inv) (c .before .before .before .before .before .before .loop-test .taken) (c .before .before .before .before .if1 .left) (plain-record s (l .at) (λ e. c .before .if2 .taken (c .before .before .plain-size .ensures .0 ∙ e))) (rw added at (c .with-column .ensures .1)))
 
 body-at-requires : tie.Need-body-at-requires Inv-loop μ-loop
-body-at-requires c κs = search needs
+body-at-requires c κs = (search needs, sym (c .before .plain-size .ensures .0) ∙ c .if2 .left)
 
 enum-known-r : tie.Need-enum-known-r Inv-loop μ-loop
 enum-known-r c = search needs
@@ -57,7 +57,7 @@ enum-known-r c = search needs
 returns-2 : tie.Need-returns-2 Inv-loop μ-loop
 returns-2 c =
     let l = c .before .before .before .before .before .before .before .before .before .before .loop in
-    (walk-bad (l .inv) (c .before .before .before .before .before .before .before .before .before .loop-test .taken) (c .before .before .before .before .before .before .before .if1 .left) (sym (body-record (now (c .before .before .before .before .before .before .before .before .before .before .before .before .before .args .schema)) (l .at) (sym (c .before .before .before .before .before .plain-size .ensures .0) ∙ c .before .before .before .before .if2 .left)) ∙ sym (c .before .before .before .body-at .ensures) ∙ c .before .r .given .1), tt)
+    (walk-bad (l .inv) (c .before .before .before .before .before .before .before .before .before .loop-test .taken) (c .before .before .before .before .before .before .before .if1 .left) (sym (c .before .before .before .body-at .ensures) ∙ c .before .r .given .1), tt)
 
 enum-known-t : tie.Need-enum-known-t Inv-loop μ-loop
 enum-known-t c = search needs
@@ -75,7 +75,7 @@ loop-again-2 : tie.Need-loop-again-2 Inv-loop μ-loop
 loop-again-2 c =
     let l = c .before .before .before .before .before .before .before .before .before .before .before .before .loop in
     let e = rw (c .before .shape .ensures .0) at (c .with-column2 .ensures .0) in
-    let r = sym (body-record (now (c .before .before .before .before .before .before .before .before .before .before .before .before .before .before .before .args .schema)) (l .at) (sym (c .before .before .before .before .before .before .before .plain-size .ensures .0) ∙ c .before .before .before .before .before .before .if2 .left)) ∙ sym (c .before .before .before .before .before .body-at .ensures) ∙ c .before .before .before .t .given .1 in
+    let r = sym (c .before .before .before .before .before .body-at .ensures) ∙ c .before .before .before .t .given .1 in
     rw e (walk-more (l .inv) (c .before .before .before .before .before .before .before .before .before .before .before .loop-test .taken) (c .before .before .before .before .before .before .before .before .before .if1 .left) r (rw e at (c .with-column2 .ensures .1)))
 
 finish-requires : tie.Need-finish-requires Inv-loop μ-loop

@@ -50,7 +50,10 @@ add-t14 : tie.Need-add-t14
 add-t14 c = search needs
 
 body-shape-requires : tie.Need-body-shape-requires
-body-shape-requires c κs = let a = c .before .before .before .before .before .before .args in known-body (now (a .schema)) (a .at) (a .before) (c .before .before .before .before .before .before .pre .0 .good) (sym (c .before .before .before .plain-size .ensures .0) ∙ c .before .before .if1 .left)
+body-shape-requires c κs =
+    let b = c .before .before .before .before .before .before in
+    let body = sym (c .before .before .before .plain-size .ensures .0) ∙ c .before .before .if1 .left in
+    (body, known-body (now (b .args .schema)) (b .args .at) (b .args .before) (b .pre .0 .good) body)
 
 with-column-requires-2 : tie.Need-with-column-requires-2
 with-column-requires-2 c κs = search needs

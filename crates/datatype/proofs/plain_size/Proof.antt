@@ -1,8 +1,7 @@
 use Rattle.datatype.proofs.plain_size.Statement.{statement}
 use native.Mathlib.Omega.{arith}
-use borrow.Author.Tests.{ne-eqb}
-use mathlib.Core.Path.{_∙_}
-use Rattle.datatype.proofs.Plain.{bodied-size}
+use mathlib.Core.Path.{sym}
+use Rattle.datatype.proofs.KindTable.{not-plain}
 use Rattle.datatype.proofs.plain_size.Tie as tie
 
 returns : tie.Need-returns
@@ -35,8 +34,8 @@ returns-9 c = (rw (c .match .keys9), omega arith)
 returns-10 : tie.Need-returns-10
 returns-10 c =
     let r = c .match .rest in (
-      bodied-size (c .before .args .kind)
-          ∙ simp (ne-eqb _ 1 (r .0 .0 .0 .0 .0 .0 .0 .0 .1), ne-eqb _ 2 (r .0 .0 .0 .0 .0 .0 .0 .1), ne-eqb _ 3 (r .0 .0 .0 .0 .0 .0 .1), ne-eqb _ 4 (r .0 .0 .0 .0 .0 .1), ne-eqb _ 5 (r .0 .0 .0 .0 .1), ne-eqb _ 8 (r .0 .0 .0 .1), ne-eqb _ 12 (r .0 .0 .1), ne-eqb _ 13 (r .0 .1), ne-eqb _ 15 (r .1)),
+      sym (not-plain (c .before .args .kind) (r .0 .0 .0 .0 .0 .0 .0 .0 .1) (r .0 .0 .0 .0 .0 .0 .0 .1)
+          (r .0 .0 .0 .0 .0 .0 .1) (r .0 .0 .0 .0 .0 .1) (r .0 .0 .0 .0 .1) (r .0 .0 .0 .1) (r .0 .0 .1) (r .0 .1) (r .1)),
       omega arith,
     )
 

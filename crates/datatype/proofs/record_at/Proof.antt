@@ -1,6 +1,5 @@
 use borrow.Author.Needs.{needs}
-use mathlib.Core.Path.{_∙_}
-use borrow.Author.Tests.{ne-eqb}
+use Rattle.datatype.proofs.KindTable.{not-plain}
 use Rattle.datatype.proofs.record_at.Statement.{statement}
 use Rattle.datatype.proofs.record_at.Tie as tie
 
@@ -11,7 +10,12 @@ add-next : tie.Need-add-next
 add-next c = search needs
 
 body-at-requires : tie.Need-body-at-requires
-body-at-requires c κs = search needs
+body-at-requires c κs =
+    let r = c .match .rest in (
+      search needs,
+      not-plain _ (r .0 .0 .0 .0 .0 .0 .0 .0 .1) (r .0 .0 .0 .0 .0 .0 .0 .1) (r .0 .0 .0 .0 .0 .0 .1)
+          (r .0 .0 .0 .0 .0 .1) (r .0 .0 .0 .0 .1) (r .0 .0 .0 .1) (r .0 .0 .1) (r .0 .1) (r .1),
+    )
 
 returns : tie.Need-returns
 returns c = rw (c .match .keys1)
@@ -41,10 +45,7 @@ returns-9 : tie.Need-returns-9
 returns-9 c = rw (c .match .keys9)
 
 returns-10 : tie.Need-returns-10
-returns-10 c =
-    let r = c .before .match .rest in
-    c .body-at .ensures
-    ∙ simp (ne-eqb _ 1 (r .0 .0 .0 .0 .0 .0 .0 .0 .1), ne-eqb _ 2 (r .0 .0 .0 .0 .0 .0 .0 .1), ne-eqb _ 3 (r .0 .0 .0 .0 .0 .0 .1), ne-eqb _ 4 (r .0 .0 .0 .0 .0 .1), ne-eqb _ 5 (r .0 .0 .0 .0 .1), ne-eqb _ 8 (r .0 .0 .0 .1), ne-eqb _ 12 (r .0 .0 .1), ne-eqb _ 13 (r .0 .1), ne-eqb _ 15 (r .1))
+returns-10 c = c .body-at .ensures
 
 pub record-at-spec : {M : Type 1} → statement M
 record-at-spec =

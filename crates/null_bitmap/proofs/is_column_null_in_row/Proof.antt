@@ -1,15 +1,18 @@
 use borrow.Author.Needs.{needs}
-use denote.Ref.{now}
 use Rattle.laws.proofs.Tests.{by-tests}
-use Rattle.laws.proofs.Parts.{part-all}
 use Rattle.null_bitmap.proofs.is_column_null_in_row.Statement.{statement}
 use Rattle.null_bitmap.proofs.is_column_null_in_row.Tie as tie
 
 returns : tie.Need-returns
 returns c = search by-tests
 
+bitmap-offset-requires : tie.Need-bitmap-offset-requires
+bitmap-offset-requires c κs = search needs
+
 returns-2 : tie.Need-returns-2
-returns-2 c = search by-tests
+returns-2 c =
+    let short = rw (c .before .bitmap-offset .ensures) at (c .if2 .taken) in
+    search by-tests
 
 read-u16-requires : tie.Need-read-u16-requires
 read-u16-requires c κs = search needs
@@ -18,7 +21,9 @@ cast-n : tie.Need-cast-n
 cast-n c = search needs
 
 returns-3 : tie.Need-returns-3
-returns-3 c = rw (← c .before .read-u16 .ensures) (search by-tests)
+returns-3 c =
+    let long = rw (c .before .before .before .bitmap-offset .ensures) at (c .before .before .if2 .left) in
+    rw (← c .before .read-u16 .ensures) (search by-tests)
 
 add-if4 : tie.Need-add-if4
 add-if4 c = search needs
@@ -27,30 +32,27 @@ add-if4-2 : tie.Need-add-if4-2
 add-if4-2 c = search needs
 
 returns-4 : tie.Need-returns-4
-returns-4 c = rw (← c .before .before .read-u16 .ensures) (search by-tests)
+returns-4 c =
+    let long = rw (c .before .before .before .before .bitmap-offset .ensures) at (c .before .before .before .if2 .left) in
+    let cut = rw (c .before .before .before .before .bitmap-offset .ensures) at (c .if4 .taken) in
+    rw (← c .before .before .read-u16 .ensures) (search by-tests)
 
-sub-bit-is-set : tie.Need-sub-bit-is-set
-sub-bit-is-set c = search needs
-
-part-bit-is-set-start : tie.Need-part-bit-is-set-start
-part-bit-is-set-start c = search needs
-
-part-bit-is-set-end : tie.Need-part-bit-is-set-end
-part-bit-is-set-end c = search needs
-
-bit-is-set-requires : tie.Need-bit-is-set-requires
-bit-is-set-requires c κs = search needs
+column-bit-is-set-requires : tie.Need-column-bit-is-set-requires
+column-bit-is-set-requires c κs = search needs
 
 returns-5 : tie.Need-returns-5
 returns-5 c =
-    let r = now (c .before .before .before .before .before .before .before .before .args .row) in
-    rw (c .bit-is-set .ensures, part-all r 4, ← c .before .before .before .before .read-u16 .ensures) (search by-tests)
+    let b = c .before .before .before .before .before in
+    let long = rw (b .bitmap-offset .ensures) at (c .before .before .before .before .if2 .left) in
+    let whole = rw (b .bitmap-offset .ensures) at (c .before .if4 .left) in
+    rw (c .column-bit-is-set .ensures, ← c .before .before .before .read-u16 .ensures) (search by-tests)
 
 pub is-column-null-in-row-spec : {M : Type 1} → statement M
 is-column-null-in-row-spec =
     tie.close
     (tie.spec
     returns
+    bitmap-offset-requires
     returns-2
     read-u16-requires
     cast-n
@@ -58,8 +60,5 @@ is-column-null-in-row-spec =
     add-if4
     add-if4-2
     returns-4
-    sub-bit-is-set
-    part-bit-is-set-start
-    part-bit-is-set-end
-    bit-is-set-requires
+    column-bit-is-set-requires
     returns-5)

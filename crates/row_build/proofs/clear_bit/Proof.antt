@@ -4,6 +4,9 @@ use Rattle.row_build.proofs.clear_bit.Tie as tie
 use Rattle.row_build.proofs.Bits.{bit-cleared}
 use denote.Ref.{now}
 
+bitmap-offset-requires : tie.Need-bitmap-offset-requires
+bitmap-offset-requires c κs = search needs
+
 sub-clear-null : tie.Need-sub-clear-null
 sub-clear-null c = search needs
 
@@ -20,12 +23,17 @@ same-length : tie.Need-same-length
 same-length c = search needs
 
 returns : tie.Need-returns
-returns c = bit-cleared (now (c .before .before .before .before .before .args .out)) (c .before .before .before .before .before .args .n) (c .before .before .before .before .before .args .i) (c .before .before .clear-null .result) (c .before .before .clear-null .last .0) (c .before .before .before .before .before .pre .0) (c .before .before .before .before .before .pre .1) (c .before .before .clear-null .ensures)
+returns c =
+    let b = c .before .before .before .before .before .before in
+    let y = c .before .before .clear-null in
+    bit-cleared (now (b .args .out)) (b .args .n) (b .args .i) (y .result) (y .last .0)
+    (c .before .before .before .before .bitmap-offset .ensures) (b .pre .0) (b .pre .1) (y .ensures)
 
 pub clear-bit-spec : {M : Type 1} → statement M
 clear-bit-spec =
     tie.close
     (tie.spec
+    bitmap-offset-requires
     sub-clear-null
     part-clear-null-start
     part-clear-null-end

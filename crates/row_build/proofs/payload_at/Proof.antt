@@ -6,7 +6,7 @@ use mathlib.Core.Path.{refl, sym, _∙_}
 use denote.Ref.{now}
 use Rattle.row_build.proofs.payload_at.Tie as tie
 use Rattle.row_build.proofs.declared_length.Reads as declared-length-reads
-use Rattle.row_build.proofs.held_kind.Reads as held-kind-reads
+use Rattle.value.proofs.held_kind.Reads as held-kind-reads
 use Rattle.row_build.proofs.payload_given.Reads as payload-given-reads
 use Rattle.row_build.proofs.payload_length.Reads as payload-length-reads
 use Rattle.row_build.proofs.suits_at.Reads as suits-at-reads

@@ -9,7 +9,7 @@ use borrow.Author.Needs.{needs}
 use Rattle.row_build.proofs.write_columns.Tie as tie
 use Rattle.row_build.proofs.after_column.Reads as after-column-reads
 use Rattle.row_build.proofs.entry_size.Reads as entry-size-reads
-use Rattle.row_build.proofs.held_kind.Reads as held-kind-reads
+use Rattle.value.proofs.held_kind.Reads as held-kind-reads
 use Rattle.row_build.proofs.slot_size.Reads as slot-size-reads
 use Rattle.row_build.proofs.write_column.Reads as write-column-reads
 use Rattle.row_layout.proofs.RowLayout.fixed_data_start.Reads as fixed-data-start-reads

@@ -1,25 +1,14 @@
-use Rattle.laws.proofs.Parts.{part-all}
-use denote.Ref.{now}
 use native.Mathlib.Omega.{arith}
 use mathlib.Core.Path.{sym, _∙_}
 use borrow.Author.Needs.{needs}
 use Rattle.row_column.proofs.read_column.Statement.{statement}
 use Rattle.row_column.proofs.read_column.Tie as tie
 
-sub-bit-is-set : tie.Need-sub-bit-is-set
-sub-bit-is-set c = search needs
-
-part-bit-is-set-start : tie.Need-part-bit-is-set-start
-part-bit-is-set-start c = search needs
-
-part-bit-is-set-end : tie.Need-part-bit-is-set-end
-part-bit-is-set-end c = search needs
-
-bit-is-set-requires : tie.Need-bit-is-set-requires
-bit-is-set-requires c κs = search needs
+column-bit-is-set-requires : tie.Need-column-bit-is-set-requires
+column-bit-is-set-requires c κs = search needs
 
 returns : tie.Need-returns
-returns c = (rw (← (rw (part-all (now (c .before .before .before .before .args .row)) 4) at (c .before .bit-is-set .ensures)), c .if1 .taken), omega arith)
+returns c = (rw (← c .before .column-bit-is-set .ensures, c .if1 .taken), omega arith)
 
 is-variable-length-requires : tie.Need-is-variable-length-requires
 is-variable-length-requires c κs = search needs
@@ -29,13 +18,13 @@ varlen-table-offset-requires c κs = search needs
 
 read-varlen-requires : tie.Need-read-varlen-requires
 read-varlen-requires c κs =
-    let p = c .before .before .before .before .before .before .before .pre in
+    let p = c .before .before .before .before .before .before .pre in
     let t = sym (c .before .before .is-variable-length .ensures) ∙ c .before .if2 .taken in
     (p .digits, (t, (p .rank t, rw (c .varlen-table-offset .ensures) (p .table))))
 
 returns-2 : tie.Need-returns-2
 returns-2 c =
-    (rw (← (rw (part-all (now (c .before .before .before .before .before .before .before .before .args .row)) 4) at (c .before .before .before .before .before .bit-is-set .ensures)), c .before .before .before .before .if1 .left, ← c .before .before .before .is-variable-length .ensures, c .before .before .if2 .taken, ← c .before .varlen-table-offset .ensures) (c .read-varlen .ensures .0), c .read-varlen .ensures .1)
+    (rw (← c .before .before .before .before .before .column-bit-is-set .ensures, c .before .before .before .before .if1 .left, ← c .before .before .before .is-variable-length .ensures, c .before .before .if2 .taken, ← c .before .varlen-table-offset .ensures) (c .read-varlen .ensures .0), c .read-varlen .ensures .1)
 
 fixed-data-start-requires : tie.Need-fixed-data-start-requires
 fixed-data-start-requires c κs = search needs
@@ -48,7 +37,7 @@ slot-start-requires c κs = search needs
 
 add-start : tie.Need-add-start
 add-start c =
-    let h = rw (← c .before .alignment .ensures .0, ← c .slot-start .ensures, ← c .before .before .fixed-data-start .ensures) at (c .before .before .before .before .before .before .before .before .before .pre .slot (sym (c .before .before .before .before .is-variable-length .ensures) ∙ c .before .before .before .if2 .left)) in
+    let h = rw (← c .before .alignment .ensures .0, ← c .slot-start .ensures, ← c .before .before .fixed-data-start .ensures) at (c .before .before .before .before .before .before .before .before .pre .slot (sym (c .before .before .before .before .is-variable-length .ensures) ∙ c .before .before .before .if2 .left)) in
     search needs
 
 fixed-size-requires : tie.Need-fixed-size-requires
@@ -56,26 +45,23 @@ fixed-size-requires c κs = search needs
 
 add-read-bytes : tie.Need-add-read-bytes
 add-read-bytes c =
-    let h = rw (← c .before .before .alignment .ensures .0, ← c .before .slot-start .ensures, ← c .before .before .before .fixed-data-start .ensures, ← c .fixed-size .ensures .0) at (c .before .before .before .before .before .before .before .before .before .before .pre .slot (sym (c .before .before .before .before .before .is-variable-length .ensures) ∙ c .before .before .before .before .if2 .left)) in
+    let h = rw (← c .before .before .alignment .ensures .0, ← c .before .slot-start .ensures, ← c .before .before .before .fixed-data-start .ensures, ← c .fixed-size .ensures .0) at (c .before .before .before .before .before .before .before .before .before .pre .slot (sym (c .before .before .before .before .before .is-variable-length .ensures) ∙ c .before .before .before .before .if2 .left)) in
     search needs
 
 read-bytes-requires : tie.Need-read-bytes-requires
 read-bytes-requires c κs =
-    let h = rw (← c .before .before .alignment .ensures .0, ← c .before .slot-start .ensures, ← c .before .before .before .fixed-data-start .ensures, ← c .fixed-size .ensures .0) at (c .before .before .before .before .before .before .before .before .before .before .pre .slot (sym (c .before .before .before .before .before .is-variable-length .ensures) ∙ c .before .before .before .before .if2 .left)) in
-    (c .before .before .before .before .before .before .before .before .before .before .pre .digits, (omega arith, (h, λ f. rw (← c .fixed-size .ensures .0) (omega arith))))
+    let h = rw (← c .before .before .alignment .ensures .0, ← c .before .slot-start .ensures, ← c .before .before .before .fixed-data-start .ensures, ← c .fixed-size .ensures .0) at (c .before .before .before .before .before .before .before .before .before .pre .slot (sym (c .before .before .before .before .before .is-variable-length .ensures) ∙ c .before .before .before .before .if2 .left)) in
+    (c .before .before .before .before .before .before .before .before .before .pre .digits, (omega arith, (h, λ f. rw (← c .fixed-size .ensures .0) (omega arith))))
 
 returns-3 : tie.Need-returns-3
 returns-3 c =
-    (rw (← (rw (part-all (now (c .before .before .before .before .before .before .before .before .before .before .before .args .row)) 4) at (c .before .before .before .before .before .before .before .before .bit-is-set .ensures)), c .before .before .before .before .before .before .before .if1 .left, ← c .before .before .before .before .before .before .is-variable-length .ensures, c .before .before .before .before .before .if2 .left, ← c .before .before .before .alignment .ensures .0, ← c .before .before .slot-start .ensures, ← c .before .before .before .before .fixed-data-start .ensures, ← c .before .fixed-size .ensures .0) (c .read-bytes .ensures .0), c .read-bytes .ensures .1)
+    (rw (← c .before .before .before .before .before .before .before .before .column-bit-is-set .ensures, c .before .before .before .before .before .before .before .if1 .left, ← c .before .before .before .before .before .before .is-variable-length .ensures, c .before .before .before .before .before .if2 .left, ← c .before .before .before .alignment .ensures .0, ← c .before .before .slot-start .ensures, ← c .before .before .before .before .fixed-data-start .ensures, ← c .before .fixed-size .ensures .0) (c .read-bytes .ensures .0), c .read-bytes .ensures .1)
 
 pub read-column-spec : {M : Type 1} → statement M
 read-column-spec =
     tie.close
     (tie.spec
-    sub-bit-is-set
-    part-bit-is-set-start
-    part-bit-is-set-end
-    bit-is-set-requires
+    column-bit-is-set-requires
     returns
     is-variable-length-requires
     varlen-table-offset-requires

@@ -6,7 +6,7 @@ use mathlib.Core.Path.{refl, sym, ap, _∙_, subst}
 use Rattle.datatype.specs.declared.DataType.{DataType}
 use Rattle.datatype.specs.declared.DataType.the-variants.{Char, Character, Varchar}
 use Rattle.datatype.proofs.Plain.{sized-record}
-use Rattle.row_column.specs.Column.{Reachable}
+use Rattle.row_column.specs.InnerWalk.{Reachable}
 use Rattle.row_decode.proofs.Present.{as-char}
 use Rattle.row_decode.proofs.decode_body.Tie as tie
 use Rattle.endian.proofs.read_u16.Reads as read-u16-reads

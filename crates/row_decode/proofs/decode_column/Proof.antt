@@ -1,11 +1,9 @@
 use borrow.Author.Needs.{needs}
 use Rattle.row_decode.proofs.decode_column.Statement.{statement}
-use denote.Ref.{now}
 use mathlib.Core.Path.{sym, _∙_}
 use borrow.Author.Tests.{eq-eqb, ne-eqb}
-use Rattle.laws.proofs.Parts.{part-all}
 use Rattle.row_decode.proofs.decode_column.Tie as tie
-use Rattle.null_bitmap.proofs.bit_is_set.Reads as bit-is-set-reads
+use Rattle.null_bitmap.proofs.column_bit_is_set.Reads as column-bit-is-set-reads
 use Rattle.row_decode.proofs.decode_present.Reads as decode-present-reads
 use Rattle.value_list.proofs.write_null.Reads as write-null-reads
 
@@ -21,17 +19,8 @@ same-length c = search needs
 returns : tie.Need-returns
 returns c = rw (c .before .before .write-null .ensures .0, c .before .before .write-null .ensures .1, ne-eqb _ 1 (c .before .before .before .before .if1 .taken))
 
-sub-bit-is-set : tie.Need-sub-bit-is-set
-sub-bit-is-set c = search needs
-
-part-bit-is-set-start : tie.Need-part-bit-is-set-start
-part-bit-is-set-start c = search needs
-
-part-bit-is-set-end : tie.Need-part-bit-is-set-end
-part-bit-is-set-end c = search needs
-
-bit-is-set-requires : tie.Need-bit-is-set-requires
-bit-is-set-requires c κs = search needs
+column-bit-is-set-requires : tie.Need-column-bit-is-set-requires
+column-bit-is-set-requires c κs = search needs
 
 write-null-requires-2 : tie.Need-write-null-requires-2
 write-null-requires-2 c κs = search needs
@@ -40,16 +29,16 @@ same-length-2 : tie.Need-same-length-2
 same-length-2 c = search needs
 
 returns-2 : tie.Need-returns-2
-returns-2 c = rw (c .before .before .write-null2 .ensures .0, c .before .before .write-null2 .ensures .1, eq-eqb _ 1 (c .before .before .before .before .before .before .before .if1 .left), ← (rw (part-all (now (c .before .before .before .before .before .before .before .before .before .before .before .before .before .args .row)) 4) at (c .before .before .before .before .before .bit-is-set .ensures)), c .before .before .before .before .if2 .taken)
+returns-2 c = rw (c .before .before .write-null2 .ensures .0, c .before .before .write-null2 .ensures .1, eq-eqb _ 1 (c .before .before .before .before .before .before .if1 .left), ← c .before .before .before .before .before .column-bit-is-set .ensures, c .before .before .before .before .if2 .taken)
 
 decode-present-requires : tie.Need-decode-present-requires
-decode-present-requires c κs = (c .before .before .before .before .before .before .before .before .before .before .pre .0, sym (rw (part-all (now (c .before .before .before .before .before .before .before .before .before .before .args .row)) 4) at (c .before .before .bit-is-set .ensures)) ∙ c .before .if2 .left)
+decode-present-requires c κs = (c .before .before .before .before .before .before .before .before .before .pre .0, sym (c .before .before .column-bit-is-set .ensures) ∙ c .before .if2 .left)
 
 same-length-3 : tie.Need-same-length-3
 same-length-3 c = search needs
 
 returns-3 : tie.Need-returns-3
-returns-3 c = rw (eq-eqb _ 1 (c .before .before .before .before .before .before .before .if1 .left)) (c .before .before .decode-present .ensures)
+returns-3 c = rw (eq-eqb _ 1 (c .before .before .before .before .before .before .if1 .left)) (c .before .before .decode-present .ensures)
 
 pub decode-column-spec : {M : Type 1} → statement M
 decode-column-spec =
@@ -59,10 +48,7 @@ decode-column-spec =
     write-null-requires
     same-length
     returns
-    sub-bit-is-set
-    part-bit-is-set-start
-    part-bit-is-set-end
-    bit-is-set-requires
+    column-bit-is-set-requires
     write-null-requires-2
     same-length-2
     returns-2

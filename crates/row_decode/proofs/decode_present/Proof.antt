@@ -2,12 +2,12 @@ use borrow.Author.Needs.{needs}
 use Rattle.row_decode.proofs.decode_present.Statement.{statement}
 use denote.Ref.{now}
 use mathlib.Core.Path.{ap, _∙_, ap₂}
-use Rattle.row_decode.specs.Marks.{stepped}
+use Rattle.row_decode.specs.InnerMarks.{stepped}
 use Rattle.row_decode.proofs.Present.{slot-stepped, is-some, plain-inside, plain-length, plain-column}
 use Prim.Native.Nat.{_+_, _-_}
 use lib.ListN.{getD, take, drop}
-use Rattle.datatype.specs.Schema.{kindOf}
-use Rattle.datatype.specs.Steps.{plainType}
+use Rattle.datatype.specs.Schema.{columnKind}
+use Rattle.datatype.specs.InnerSteps.{plainType}
 use Rattle.stored_form.specs.Read.{readSlot}
 use Rattle.row_decode.proofs.decode_present.Tie as tie
 use Rattle.datatype.proofs.plain_size.Reads as plain-size-reads
@@ -59,7 +59,7 @@ returns : tie.Need-returns
 returns c =
     let a = c .before .before .before .before .before .before .before .before .before .before .before .before .before .args in
     let start = c .before .before .before .before .before .before .fixed-data-start .result + c .before .before .before .before .before .slot-start .result in
-    c .before .before .plain-record .ensures start ∙ slot-stepped (now (a .buf)) (a .end) (a .before .«num_columns») (readSlot (plainType (kindOf (getD (now (a .schema)) (a .at) 0))) start (take (start + c .before .before .before .before .before .before .before .before .plain-size .result - start) (drop start (now (a .row))))) ∙ ap (stepped (now (a .buf)) (a .end)) (plain-column (now (c .before .before .before .before .before .before .before .before .before .before .before .before .before .args .schema)) (c .before .before .before .before .before .before .before .before .before .before .before .before .before .args .at) (c .before .before .before .before .before .before .before .before .before .before .before .before .before .args .layout) (c .before .before .before .before .before .before .before .before .before .before .before .before .before .args .packed) (c .before .before .before .before .before .before .before .before .before .before .before .before .before .args .before) (now (c .before .before .before .before .before .before .before .before .before .before .before .before .before .args .row)) (c .before .before .before .before .before .before .before .before .before .before .before .before .before .pre .0 .typed) (c .before .before .before .before .before .before .before .if1 .taken) (c .before .before .before .before .before .before .before .before .plain-size .ensures .0) (ap₂ _+_ (c .before .before .before .before .before .before .fixed-data-start .ensures) (c .before .before .before .before .before .slot-start .ensures)) (c .before .before .before .before .before .before .before .before .before .before .before .before .before .pre .1))
+    c .before .before .plain-record .ensures start ∙ slot-stepped (now (a .buf)) (a .end) (a .before .«num_columns») (readSlot (plainType (columnKind (getD (now (a .schema)) (a .at) 0))) start (take (start + c .before .before .before .before .before .before .before .before .plain-size .result - start) (drop start (now (a .row))))) ∙ ap (stepped (now (a .buf)) (a .end)) (plain-column (now (c .before .before .before .before .before .before .before .before .before .before .before .before .before .args .schema)) (c .before .before .before .before .before .before .before .before .before .before .before .before .before .args .at) (c .before .before .before .before .before .before .before .before .before .before .before .before .before .args .layout) (c .before .before .before .before .before .before .before .before .before .before .before .before .before .args .packed) (c .before .before .before .before .before .before .before .before .before .before .before .before .before .args .before) (now (c .before .before .before .before .before .before .before .before .before .before .before .before .before .args .row)) (c .before .before .before .before .before .before .before .before .before .before .before .before .before .pre .0 .typed) (c .before .before .before .before .before .before .before .if1 .taken) (c .before .before .before .before .before .before .before .before .plain-size .ensures .0) (ap₂ _+_ (c .before .before .before .before .before .before .fixed-data-start .ensures) (c .before .before .before .before .before .slot-start .ensures)) (c .before .before .before .before .before .before .before .before .before .before .before .before .before .pre .1))
 
 decode-body-requires : tie.Need-decode-body-requires
 decode-body-requires c κs = search needs

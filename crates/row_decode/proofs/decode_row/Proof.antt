@@ -1,11 +1,12 @@
 use Rattle.datatype.specs.Check.{typesIn}
 use Rattle.error.specs.Answer.{unchanged}
-use Rattle.row_layout.specs.Layout.{noColumns}
+use Rattle.row_decode.proofs.Walk.{read-walked}
+use lib.ListN.{length}
 use Rattle.row_decode.specs.Read.{isWanted, readFrom, handOut}
-use Rattle.row_format.specs.Places.{rowLimit}
+use Rattle.row_format.specs.Places.{offsetWidth, rowLimit}
 use Rattle.row_column.proofs.Framing.{framed, frame-refused, frame-good}
 use denote.Ref.{now}
-use mathlib.Core.Path.{sym, _∙_}
+use mathlib.Core.Path.{sym, ap, _∙_}
 use borrow.Author.Needs.{needs}
 use Rattle.row_decode.proofs.decode_row.Statement.{statement}
 use Rattle.row_decode.proofs.decode_row.Tie as tie
@@ -25,7 +26,9 @@ decode-values-requires c κs = framed (c .before .before .before .before .before
 returns : tie.Need-returns
 returns c =
     let a = c .before .before .before .before .before .before .before .before .args in
-    frame-refused rowLimit (now (a .row)) (c .before .before .before .before .before .before .before .before .pre .layout) (unchanged (now (a .out))) (λ l p. handOut (now (a .out)) (readFrom l p (isWanted (now (a .wanted))) (now (a .row)) noColumns (typesIn (now (a .schema))))) (sym (c .before .before .before .check-frame .ensures) ∙ c .before .e .given .1)
+    frame-refused rowLimit (typesIn (now (a .schema))) (now (a .row))
+    (c .before .before .before .before .before .before .before .before .pre .layout) (unchanged (now (a .out))) _
+    (sym (c .before .before .before .check-frame .ensures) ∙ c .before .e .given .1)
 
 same-length : tie.Need-same-length
 same-length c = search needs
@@ -33,7 +36,14 @@ same-length c = search needs
 returns-2 : tie.Need-returns-2
 returns-2 c =
     let a = c .before .before .before .before .before .before .before .before .before .before .before .before .args in
-    c .before .before .decode-values .ensures ∙ frame-good rowLimit (now (a .row)) (c .before .before .before .before .before .before .before .before .before .before .before .before .pre .layout) (unchanged (now (a .out))) (λ l p. handOut (now (a .out)) (readFrom l p (isWanted (now (a .wanted))) (now (a .row)) noColumns (typesIn (now (a .schema))))) (sym (c .before .before .before .before .before .before .before .check-frame .ensures) ∙ c .before .before .before .before .before .packed .given .1)
+    let ts = typesIn (now (a .schema)) in
+    let known = c .before .before .before .before .before .before .before .before .before .before .before .before .pre .layout in
+    c .before .before .decode-values .ensures
+    ∙ ap (handOut (now (a .out))) (read-walked _ ts (isWanted (now (a .wanted))) (now (a .row)) known)
+    ∙ frame-good rowLimit ts (now (a .row)) known (unchanged (now (a .out)))
+    (λ p. handOut (now (a .out)) (readFrom offsetWidth p ts (isWanted (now (a .wanted))) (now (a .row)) 0
+    (length ts))) (sym (c .before .before .before .before .before .before .before .check-frame .ensures)
+    ∙ c .before .before .before .before .before .packed .given .1)
 
 pub decode-row-spec : {M : Type 1} → statement M
 decode-row-spec =

@@ -4,8 +4,8 @@ use mathlib.Core.Path.{sym, ap, _∙_, subst}
 use denote.Ref.{now}
 use lib.ListN.{length}
 use Rattle.datatype.specs.declared.DataType.{DataType}
-use Rattle.row_column.specs.Column.{columnValue, Reachable}
-use Rattle.row_decode.specs.Marks.{stepped}
+use Rattle.row_column.specs.InnerWalk.{walkedColumn, Reachable}
+use Rattle.row_decode.specs.InnerMarks.{stepped}
 use Rattle.row_decode.proofs.Decoding.{wider}
 use Rattle.row_decode.proofs.Present.{type-read}
 use Rattle.row_decode.proofs.decode_value.Tie as tie
@@ -39,7 +39,7 @@ same-length c = search needs
 returns-2 : tie.Need-returns-2
 returns-2 c =
     let a = c .before .before .before .before .before .before .before .before .before .before .before .before .args in
-    c .before .before .write-column .ensures ∙ ap (stepped (now (a .buf)) (a .end)) (c .before .before .before .before .read-column .ensures .0 ∙ ap (λ (t : DataType). columnValue (a .layout) (a .packed) (a .before) t (now (a .row))) (type-read (c .before .before .before .before .before .before .before .before .record-at .ensures) (c .before .before .before .before .before .before .ty .given .1) (c .before .before .before .before .before .before .before .before .before .before .before .before .pre .typed)))
+    c .before .before .write-column .ensures ∙ ap (stepped (now (a .buf)) (a .end)) (c .before .before .before .before .read-column .ensures .0 ∙ ap (λ (t : DataType). walkedColumn (a .layout) (a .packed) (a .before) t (now (a .row))) (type-read (c .before .before .before .before .before .before .before .before .record-at .ensures) (c .before .before .before .before .before .before .ty .given .1) (c .before .before .before .before .before .before .before .before .before .before .before .before .pre .typed)))
 
 pub decode-value-spec : {M : Type 1} → statement M
 decode-value-spec =

@@ -1,8 +1,8 @@
+use Rattle.row_layout.specs.InnerLayout.{noColumns}
 use Rattle.row_decode.proofs.Handing.{same-flags, few-columns}
 use Rattle.row_decode.proofs.Marking.{marks-tell}
 use Rattle.row_decode.specs.Read.{isWanted, handOut}
 use Rattle.datatype.specs.Check.{typesIn}
-use Rattle.row_layout.specs.Layout.{noColumns}
 use denote.Ref.{now}
 use mathlib.Core.Path.{_∙_, ap}
 use borrow.Author.Needs.{needs}

@@ -1,6 +1,6 @@
 use native.Mathlib.Omega.{arith}
 use Rattle.row_decode.proofs.Marking.{marked-more, marked-all}
-use Rattle.row_decode.specs.Marks.{marked}
+use Rattle.row_decode.specs.InnerMarks.{marked}
 use denote.Ref.{now}
 use lib.ListN.{length, drop, length-set, getD}
 use mathlib.Core.Path.{_≡_, refl, _∙_}

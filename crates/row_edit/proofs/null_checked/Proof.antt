@@ -1,12 +1,10 @@
 use borrow.Author.Needs.{needs}
 use Rattle.row_edit.proofs.null_checked.Statement.{statement}
 use Rattle.row_edit.proofs.null_checked.Tie as tie
-use denote.Ref.{now}
 use mathlib.Core.Option.{none}
 use mathlib.Core.Path.{sym, _∙_}
 use Rattle.row_format.specs.Places.{offsetWidth, rowLimit}
-use Rattle.datatype.specs.Check.{typesIn}
-use Rattle.row_edit.specs.Edit.{edited, held}
+use Rattle.row_edit.specs.Edit.{edited, rowStored}
 use Rattle.row_edit.proofs.Opening.{opened-refused, opened-good, opened-row}
 
 open-row-requires : tie.Need-open-row-requires
@@ -25,19 +23,15 @@ same-length : tie.Need-same-length
 same-length c = search needs
 
 returns : tie.Need-returns
-returns c =
-    let a = c .before .before .before .before .before .before .before .args in
-    let ts = typesIn (now (a .schema)) in
-    opened-refused rowLimit ts (now (a .buf)) (a .n) (a .column) (λ p. held (now (a .buf)) (edited offsetWidth ts p (now (a .buf)) (a .n) (a .column) none)) (sym (c .before .before .before .open-row .ensures) ∙ c .before .e .given .1)
+returns c = opened-refused _ _ (sym (c .before .before .before .open-row .ensures) ∙ c .before .e .given .1)
 
 same-length-2 : tie.Need-same-length-2
 same-length-2 c = search needs
 
 returns-2 : tie.Need-returns-2
 returns-2 c =
-    let a = c .before .before .before .before .before .before .before .before .before .before .before .args in
-    let ts = typesIn (now (a .schema)) in
-    c .before .before .null-column .ensures ∙ opened-good rowLimit ts (now (a .buf)) (a .n) (a .column) (λ p. held (now (a .buf)) (edited offsetWidth ts p (now (a .buf)) (a .n) (a .column) none)) (sym (c .before .before .before .before .before .before .before .open-row .ensures) ∙ c .before .before .before .before .before .packed .given .1)
+    c .before .before .null-column .ensures
+    ∙ opened-good _ _ (sym (c .before .before .before .before .before .before .before .open-row .ensures) ∙ c .before .before .before .before .before .packed .given .1)
 
 pub null-checked-spec : {M : Type 1} → statement M
 null-checked-spec =

@@ -1,12 +1,7 @@
 use borrow.Author.Needs.{needs}
 use Rattle.row_edit.proofs.set_checked.Statement.{statement}
 use Rattle.row_edit.proofs.set_checked.Tie as tie
-use denote.Ref.{now}
 use mathlib.Core.Path.{sym, _∙_}
-use Rattle.row_format.specs.Places.{rowLimit}
-use Rattle.datatype.specs.Check.{typeAt, typesIn}
-use Rattle.row_edit.specs.Edit.{given}
-use Rattle.row_edit.specs.Opened.{written}
 use Rattle.row_edit.proofs.Opening.{opened-refused, opened-good, opened-row}
 
 open-row-requires : tie.Need-open-row-requires
@@ -25,19 +20,15 @@ same-length : tie.Need-same-length
 same-length c = search needs
 
 returns : tie.Need-returns
-returns c =
-    let a = c .before .before .before .before .before .before .before .before .before .args in
-    let ts = typesIn (now (a .schema)) in
-    opened-refused rowLimit ts (now (a .buf)) (a .n) (a .column) (λ p. written rowLimit ts p (now (a .buf)) (a .n) (a .column) (given rowLimit (typeAt ts (a .column)) (a .column) (now (a .values)) (now (a .area)))) (sym (c .before .before .before .open-row .ensures) ∙ c .before .e .given .1)
+returns c = opened-refused _ _ (sym (c .before .before .before .open-row .ensures) ∙ c .before .e .given .1)
 
 same-length-2 : tie.Need-same-length-2
 same-length-2 c = search needs
 
 returns-2 : tie.Need-returns-2
 returns-2 c =
-    let a = c .before .before .before .before .before .before .before .before .before .before .before .before .before .args in
-    let ts = typesIn (now (a .schema)) in
-    c .before .before .set-list .ensures ∙ opened-good rowLimit ts (now (a .buf)) (a .n) (a .column) (λ p. written rowLimit ts p (now (a .buf)) (a .n) (a .column) (given rowLimit (typeAt ts (a .column)) (a .column) (now (a .values)) (now (a .area)))) (sym (c .before .before .before .before .before .before .before .open-row .ensures) ∙ c .before .before .before .before .before .packed .given .1)
+    c .before .before .set-list .ensures
+    ∙ opened-good _ _ (sym (c .before .before .before .before .before .before .before .open-row .ensures) ∙ c .before .before .before .before .before .packed .given .1)
 
 pub set-checked-spec : {M : Type 1} → statement M
 set-checked-spec =

@@ -4,10 +4,10 @@ use Rattle.row_edit.proofs.set_record.Tie as tie
 use denote.Ref.{now}
 use lib.ListN.{length}
 use mathlib.Core.Path.{sym, ap, _∙_}
-use Rattle.row_format.specs.Places.{rowLimit}
+use Rattle.row_format.specs.Places.{offsetWidth, rowLimit}
 use Rattle.datatype.specs.Check.{typeAt, typesIn}
 use Rattle.value_list.proofs.Sole.{sole-there, sole-value, sole-good}
-use Rattle.row_edit.specs.Opened.{written}
+use Rattle.row_edit.specs.Edit.{written}
 use Rattle.row_edit.proofs.Opening.{given-one}
 
 value-record-at-requires : tie.Need-value-record-at-requires
@@ -32,7 +32,7 @@ returns-2 : tie.Need-returns-2
 returns-2 c =
     let a = c .before .before .before .before .before .before .before .before .before .before .before .before .args in
     let ts = typesIn (now (a .schema)) in
-    c .before .before .set-column .ensures ∙ ap (written rowLimit ts (a .packed) (now (a .buf)) (a .n) (a .column)) (sym (given-one rowLimit (typeAt ts (a .column)) (a .column) (now (a .values)) (now (a .area)) (sole-value rowLimit (length (now (a .area))) (now (a .values)) (sym (c .before .before .before .before .before .before .before .before .before .before .before .before .pre .1)) _ _ (sym (c .before .before .before .before .before .before .before .value-record-at .ensures) ∙ c .before .before .before .before .before .v .given .1))))
+    c .before .before .set-column .ensures ∙ ap (written offsetWidth rowLimit ts (a .packed) (now (a .buf)) (a .n) (a .column)) (sym (given-one rowLimit (typeAt ts (a .column)) (a .column) (now (a .values)) (now (a .area)) (sole-value rowLimit (length (now (a .area))) (now (a .values)) (sym (c .before .before .before .before .before .before .before .before .before .before .before .before .pre .1)) _ _ (sym (c .before .before .before .before .before .before .before .value-record-at .ensures) ∙ c .before .before .before .before .before .v .given .1))))
 
 pub set-record-spec : {M : Type 1} → statement M
 set-record-spec =

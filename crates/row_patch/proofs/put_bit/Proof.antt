@@ -4,6 +4,9 @@ use Rattle.row_patch.proofs.put_bit.Tie as tie
 use denote.Ref.{now}
 use Rattle.row_patch.proofs.Columns.{bit-stored}
 
+bitmap-offset-requires : tie.Need-bitmap-offset-requires
+bitmap-offset-requires c κs = search needs
+
 sub-set-null : tie.Need-sub-set-null
 sub-set-null c = search needs
 
@@ -33,23 +36,28 @@ same-length c = search needs
 
 returns : tie.Need-returns
 returns c =
-    let a = c .before .before .before .before .before .before .args in
+    let b = c .before .before .before .before .before .before .before in
     let y = c .before .before .set-null in
-    rw (c .before .before .before .before .if1 .taken) (bit-stored 1 (a .columns) (a .column) (now (a .row)) (y .result) _ (c .before .before .before .before .before .before .pre .0) (c .before .before .before .before .before .before .pre .1) (y .ensures))
+    rw (c .before .before .before .before .if1 .taken)
+    (bit-stored 1 (b .args .columns) (b .args .column) (now (b .args .row)) (y .result) _
+    (c .before .before .before .before .before .bitmap-offset .ensures) (b .pre .0) (b .pre .1) (y .ensures))
 
 same-length-2 : tie.Need-same-length-2
 same-length-2 c = search needs
 
 returns-2 : tie.Need-returns-2
 returns-2 c =
-    let a = c .before .before .before .before .before .before .args in
+    let b = c .before .before .before .before .before .before .before in
     let y = c .before .before .clear-null in
-    rw (c .before .before .before .before .if1 .left) (bit-stored 0 (a .columns) (a .column) (now (a .row)) (y .result) _ (c .before .before .before .before .before .before .pre .0) (c .before .before .before .before .before .before .pre .1) (y .ensures))
+    rw (c .before .before .before .before .if1 .left)
+    (bit-stored 0 (b .args .columns) (b .args .column) (now (b .args .row)) (y .result) _
+    (c .before .before .before .before .before .bitmap-offset .ensures) (b .pre .0) (b .pre .1) (y .ensures))
 
 pub put-bit-spec : {M : Type 1} → statement M
 put-bit-spec =
     tie.close
     (tie.spec
+    bitmap-offset-requires
     sub-set-null
     part-set-null-start
     part-set-null-end

@@ -3,7 +3,7 @@ use Rattle.row_patch.proofs.replace.Statement.{statement}
 use Rattle.row_patch.proofs.replace.Tie as tie
 use Rattle.row_patch.proofs.Held.{form-fits, form-stored}
 use denote.Ref.{now}
-use Rattle.row_patch.specs.Stores.{formOf}
+use Rattle.row_patch.specs.InnerStores.{formOf}
 
 move-tail-requires : tie.Need-move-tail-requires
 move-tail-requires c κs = search needs

@@ -3,31 +3,31 @@ use Rattle.row_patch.proofs.write_null.Statement.{statement}
 use Rattle.row_patch.proofs.write_null.Tie as tie
 use Rattle.row_patch.proofs.Columns.{sized-null, bit-room, bit-part, bit-ready, bit-done}
 
-null-column-requires : tie.Need-null-column-requires
-null-column-requires c κs = search needs
+store-null-requires : tie.Need-store-null-requires
+store-null-requires c κs = search needs
 
 slice-relend-prefix-put-bit : tie.Need-slice-relend-prefix-put-bit
 slice-relend-prefix-put-bit c =
-    let k = bit-room (c .before .before .before .before .before .pre) (sized-null (c .before .before .before .before .before .args .ty)) _ _ (c .before .before .null-column .ensures) in
+    let k = bit-room (c .before .before .before .before .before .pre) (sized-null (c .before .before .before .before .before .args .ty)) _ _ (c .before .before .store-null .ensures) in
     search needs
 
 slice-aggregate-put-bit : tie.Need-slice-aggregate-put-bit
-slice-aggregate-put-bit c = bit-part (c .before .before .before .before .before .before .pre) (sized-null (c .before .before .before .before .before .before .args .ty)) _ _ (c .before .before .before .null-column .ensures)
+slice-aggregate-put-bit c = bit-part (c .before .before .before .before .before .before .pre) (sized-null (c .before .before .before .before .before .before .args .ty)) _ _ (c .before .before .before .store-null .ensures)
 
 put-bit-requires : tie.Need-put-bit-requires
-put-bit-requires c κs = bit-ready (c .before .before .before .before .before .before .pre) (sized-null (c .before .before .before .before .before .before .args .ty)) _ _ (c .before .before .before .null-column .ensures)
+put-bit-requires c κs = bit-ready (c .before .before .before .before .before .before .pre) (sized-null (c .before .before .before .before .before .before .args .ty)) _ _ (c .before .before .before .store-null .ensures)
 
 same-length : tie.Need-same-length
 same-length c = search needs
 
 returns : tie.Need-returns
-returns c = bit-done (c .before .before .before .before .before .before .before .before .before .pre) (sized-null (c .before .before .before .before .before .before .before .before .before .args .ty)) _ _ (c .before .before .before .before .before .before .null-column .ensures) _ (c .before .before .put-bit .ensures)
+returns c = bit-done (c .before .before .before .before .before .before .before .before .before .pre) (sized-null (c .before .before .before .before .before .before .before .before .before .args .ty)) _ _ (c .before .before .before .before .before .before .store-null .ensures) _ (c .before .before .put-bit .ensures)
 
 pub write-null-spec : {M : Type 1} → statement M
 write-null-spec =
     tie.close
     (tie.spec
-    null-column-requires
+    store-null-requires
     slice-relend-prefix-put-bit
     slice-aggregate-put-bit
     put-bit-requires

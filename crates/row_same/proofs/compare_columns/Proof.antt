@@ -7,7 +7,7 @@ use mathlib.Core.Path.{sym, _∙_, subst}
 use native.Mathlib.Omega.{arith}
 use Rattle.datatype.proofs.Again.{ahead-few, ahead-good}
 use Rattle.row_column.proofs.Reach.{reach-next}
-use Rattle.row_same.specs.Columns.{Stands}
+use Rattle.row_same.specs.InnerWalk.{Stands}
 use Rattle.row_same.proofs.Stand.{column-stands}
 use Rattle.row_same.proofs.Comparing.{Comparing, compare-start, compare-end, compare-reach, compare-bad, compare-more}
 

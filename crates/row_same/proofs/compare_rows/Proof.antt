@@ -7,7 +7,6 @@ use Rattle.row_format.specs.Places.{rowLimit}
 use Rattle.datatype.specs.Check.{typesIn}
 use Rattle.row_column.proofs.Framing.{framed}
 use Rattle.row_same.proofs.Compared.{rows-good, rows-refused}
-use mathlib.Core.Bool.{true}
 
 check-frame-requires : tie.Need-check-frame-requires
 check-frame-requires c κs = c .before .before .before .pre .bounded
@@ -24,12 +23,16 @@ compare-framed-requires c κs = framed (c .before .before .before .before .befor
 returns : tie.Need-returns
 returns c =
     let a = c .before .before .before .before .before .before .before .args in
-    rows-refused rowLimit (typesIn (now (a .schema))) (a .layout) true (now (a .a)) (now (a .b)) (c .before .before .before .before .before .before .before .pre .layout) (sym (c .before .before .before .check-frame .ensures) ∙ c .before .e .given .1)
+    rows-refused rowLimit (typesIn (now (a .schema)))
+    (c .before .before .before .before .before .before .before .pre .layout) (now (a .a)) (now (a .b))
+    (sym (c .before .before .before .check-frame .ensures) ∙ c .before .e .given .1)
 
 returns-2 : tie.Need-returns-2
 returns-2 c =
     let a = c .before .before .before .before .before .before .before .before .args in
-    c .compare-framed .ensures ∙ rows-good rowLimit (typesIn (now (a .schema))) (a .layout) (c .before .before .p .given .0 .0) (now (a .a)) (now (a .b)) (c .before .before .before .before .before .before .before .before .pre .layout) (sym (c .before .before .before .before .check-frame .ensures) ∙ c .before .before .p .given .1)
+    c .compare-framed .ensures ∙ rows-good rowLimit (typesIn (now (a .schema)))
+    (c .before .before .before .before .before .before .before .before .pre .layout) (now (a .a)) (now (a .b))
+    (sym (c .before .before .before .before .check-frame .ensures) ∙ c .before .before .p .given .1)
 
 pub compare-rows-spec : {M : Type 1} → statement M
 compare-rows-spec =

@@ -2,7 +2,6 @@ use borrow.Author.Needs.{needs}
 use Rattle.row_sound.proofs.body_sound.Statement.{statement}
 use Rattle.row_sound.proofs.ByKind.{bodily, body-typed, typed-as, body-fixed}
 use Rattle.row_sound.proofs.Slots.{value-if, null-sound, any-sound, slot-told, as-char}
-use Rattle.laws.proofs.Parts.{part-all}
 use denote.Ref.{now}
 use native.Mathlib.Omega.{arith}
 use mathlib.Core.Path.{refl, sym, ap, _∙_}
@@ -28,60 +27,51 @@ returns c =
     let p = c .before .before .before .before .before .pre in
     rw (typed-as (bodily (p .0) (p .1 .0) (p .1 .1 .0)) (c .before .if1 .taken), ← c .before .before .read-u16 .ensures) (c .varchar-sound .ensures)
 
-sub-bit-is-set : tie.Need-sub-bit-is-set
-sub-bit-is-set c = search needs
-
-part-bit-is-set-start : tie.Need-part-bit-is-set-start
-part-bit-is-set-start c = search needs
-
-part-bit-is-set-end : tie.Need-part-bit-is-set-end
-part-bit-is-set-end c = search needs
-
-bit-is-set-requires : tie.Need-bit-is-set-requires
-bit-is-set-requires c κs = search needs
+column-bit-is-set-requires : tie.Need-column-bit-is-set-requires
+column-bit-is-set-requires c κs = search needs
 
 returns-2 : tie.Need-returns-2
 returns-2 c =
-    let a = c .before .before .before .before .before .before .before .args in
-    let p = c .before .before .before .before .before .before .before .pre in
+    let a = c .before .before .before .before .before .before .args in
+    let p = c .before .before .before .before .before .before .pre in
     let b = bodily (p .0) (p .1 .0) (p .1 .1 .0) in
-    null-sound (a .layout) (a .packed) (a .before) (now (a .row)) _ (ap isVarlen (body-typed b) ∙ body-fixed (now (a .schema)) (a .at) (a .kind) (c .before .before .before .if1 .left)) (sym (rw (part-all (now (a .row)) 4) at (c .before .bit-is-set .ensures)) ∙ c .if2 .taken)
+    null-sound (a .layout) (a .packed) (a .before) (now (a .row)) _ (ap isVarlen (body-typed b) ∙ body-fixed (now (a .schema)) (a .at) (a .kind) (c .before .before .if1 .left)) (sym (c .before .column-bit-is-set .ensures) ∙ c .if2 .taken)
 
 char-sound-requires : tie.Need-char-sound-requires
 char-sound-requires c κs =
-    let p = c .before .before .before .before .before .before .before .before .pre in
-    rw (c .before .before .before .before .before .read-u16 .ensures) (rw (typed-as (bodily (p .0) (p .1 .0) (p .1 .1 .0)) (c .match .keys1)) at (p .1 .1 .1))
+    let p = c .before .before .before .before .before .before .before .pre in
+    rw (c .before .before .before .before .read-u16 .ensures) (rw (typed-as (bodily (p .0) (p .1 .0) (p .1 .1 .0)) (c .match .keys1)) at (p .1 .1 .1))
 
 char-sound-requires-2 : tie.Need-char-sound-requires-2
 char-sound-requires-2 c κs =
-    let a = c .before .before .before .before .before .before .before .before .args in
-    let p = c .before .before .before .before .before .before .before .before .pre in
-    rw (c .before .before .before .before .before .read-u16 .ensures) (as-char (a .layout) (a .packed) (a .before) (now (a .row)) (rw (typed-as (bodily (p .0) (p .1 .0) (p .1 .1 .0)) (c .match .keys2)) at (p .1 .1 .1)))
+    let a = c .before .before .before .before .before .before .before .args in
+    let p = c .before .before .before .before .before .before .before .pre in
+    rw (c .before .before .before .before .read-u16 .ensures) (as-char (a .layout) (a .packed) (a .before) (now (a .row)) (rw (typed-as (bodily (p .0) (p .1 .0) (p .1 .1 .0)) (c .match .keys2)) at (p .1 .1 .1)))
 
 record-sound-requires : tie.Need-record-sound-requires
 record-sound-requires c κs =
-    let a = c .before .before .before .before .before .before .before .before .args in
-    let p = c .before .before .before .before .before .before .before .before .pre in
-    (p .1 .1 .0, (p .1 .1 .1, ap isVarlen (body-typed (bodily (p .0) (p .1 .0) (p .1 .1 .0))) ∙ body-fixed (now (a .schema)) (a .at) (a .kind) (c .before .before .before .before .if1 .left)))
+    let a = c .before .before .before .before .before .before .before .args in
+    let p = c .before .before .before .before .before .before .before .pre in
+    (p .1 .1 .0, (p .1 .1 .1, ap isVarlen (body-typed (bodily (p .0) (p .1 .0) (p .1 .1 .0))) ∙ body-fixed (now (a .schema)) (a .at) (a .kind) (c .before .before .before .if1 .left)))
 
 returns-3 : tie.Need-returns-3
 returns-3 c =
-    let a = c .before .before .before .before .before .before .before .before .before .args in
-    let p = c .before .before .before .before .before .before .before .before .before .pre in
-    rw (typed-as (bodily (p .0) (p .1 .0) (p .1 .1 .0)) (c .before .match .keys1), ← c .before .before .before .before .before .before .read-u16 .ensures)
-    (slot-told (a .layout) (a .packed) (a .before) (now (a .row)) (Char (c .before .before .before .before .before .before .read-u16 .result)) refl refl (sym (rw (part-all (now (a .row)) 4) at (c .before .before .before .bit-is-set .ensures)) ∙ c .before .before .if2 .left) refl (c .char-sound .ensures ∙ value-if _ _))
+    let a = c .before .before .before .before .before .before .before .before .args in
+    let p = c .before .before .before .before .before .before .before .before .pre in
+    rw (typed-as (bodily (p .0) (p .1 .0) (p .1 .1 .0)) (c .before .match .keys1), ← c .before .before .before .before .before .read-u16 .ensures)
+    (slot-told (a .layout) (a .packed) (a .before) (now (a .row)) (Char (c .before .before .before .before .before .read-u16 .result)) refl refl (sym (c .before .before .before .column-bit-is-set .ensures) ∙ c .before .before .if2 .left) refl (c .char-sound .ensures ∙ value-if _ _))
 
 returns-4 : tie.Need-returns-4
 returns-4 c =
-    let a = c .before .before .before .before .before .before .before .before .before .args in
-    let p = c .before .before .before .before .before .before .before .before .before .pre in
-    rw (typed-as (bodily (p .0) (p .1 .0) (p .1 .1 .0)) (c .before .match .keys2), ← c .before .before .before .before .before .before .read-u16 .ensures)
-    (slot-told (a .layout) (a .packed) (a .before) (now (a .row)) (Character (c .before .before .before .before .before .before .read-u16 .result)) refl refl (sym (rw (part-all (now (a .row)) 4) at (c .before .before .before .bit-is-set .ensures)) ∙ c .before .before .if2 .left) refl (c .char-sound2 .ensures ∙ value-if _ _))
+    let a = c .before .before .before .before .before .before .before .before .args in
+    let p = c .before .before .before .before .before .before .before .before .pre in
+    rw (typed-as (bodily (p .0) (p .1 .0) (p .1 .1 .0)) (c .before .match .keys2), ← c .before .before .before .before .before .read-u16 .ensures)
+    (slot-told (a .layout) (a .packed) (a .before) (now (a .row)) (Character (c .before .before .before .before .before .read-u16 .result)) refl refl (sym (c .before .before .before .column-bit-is-set .ensures) ∙ c .before .before .if2 .left) refl (c .char-sound2 .ensures ∙ value-if _ _))
 
 returns-5 : tie.Need-returns-5
 returns-5 c =
-    let a = c .before .before .before .before .before .before .before .before .args in
-    let p = c .before .before .before .before .before .before .before .before .pre in
+    let a = c .before .before .before .before .before .before .before .args in
+    let p = c .before .before .before .before .before .before .before .pre in
     rw (typed-as (bodily (p .0) (p .1 .0) (p .1 .1 .0)) (c .match .keys3)) (any-sound (a .layout) (a .packed) (a .before) (now (a .row)) _ refl (λ i bs. refl))
 
 returns-6 : tie.Need-returns-6
@@ -95,10 +85,7 @@ body-sound-spec =
     read-u16-requires
     varchar-sound-requires
     returns
-    sub-bit-is-set
-    part-bit-is-set-start
-    part-bit-is-set-end
-    bit-is-set-requires
+    column-bit-is-set-requires
     returns-2
     char-sound-requires
     char-sound-requires-2

@@ -3,11 +3,12 @@ use Rattle.row_sound.proofs.check_sound.Statement.{statement}
 use Rattle.row_sound.proofs.check_sound.Tie as tie
 use denote.Ref.{now}
 use mathlib.Core.Path.{sym, _∙_}
-use Rattle.row_format.specs.Places.{rowLimit}
+use Rattle.row_format.specs.Places.{offsetWidth, rowLimit}
 use Rattle.datatype.specs.Check.{typesIn}
 use Rattle.row_column.proofs.Framing.{framed, frame-refused, frame-good}
 use Rattle.row_sound.specs.declared.Soundness.the-variants.{NotSound}
 use Rattle.row_sound.specs.Sound.{soundIn}
+use Rattle.row_sound.proofs.Walk.{soundness-walked}
 
 check-frame-requires : tie.Need-check-frame-requires
 check-frame-requires c κs = search needs
@@ -24,12 +25,18 @@ row-sound-requires c κs = framed (c .before .before .before .before .before .be
 returns : tie.Need-returns
 returns c =
     let a = c .before .before .before .before .before .args in
-    frame-refused rowLimit (now (a .row)) (c .before .before .before .before .before .pre .layout) (λ e. NotSound) (λ l p. soundIn l p (typesIn (now (a .schema))) (now (a .row))) (sym (c .before .before .check-frame .ensures) ∙ c .enum-told .given .1)
+    frame-refused rowLimit (typesIn (now (a .schema))) (now (a .row))
+    (c .before .before .before .before .before .pre .layout)
+    (λ e. NotSound) _ (sym (c .before .before .check-frame .ensures) ∙ c .enum-told .given .1)
 
 returns-2 : tie.Need-returns-2
 returns-2 c =
     let a = c .before .before .before .before .before .before .before .args in
-    c .row-sound .ensures ∙ frame-good rowLimit (now (a .row)) (c .before .before .before .before .before .before .before .pre .layout) (λ e. NotSound) (λ l p. soundIn l p (typesIn (now (a .schema))) (now (a .row))) (sym (c .before .before .before .before .check-frame .ensures) ∙ c .before .before .packed .given .1)
+    let ts = typesIn (now (a .schema)) in
+    let known = c .before .before .before .before .before .before .before .pre .layout in
+    c .row-sound .ensures ∙ soundness-walked _ ts (now (a .row)) known
+    ∙ frame-good rowLimit ts (now (a .row)) known (λ e. NotSound) (λ p. soundIn offsetWidth p ts (now (a .row)))
+    (sym (c .before .before .before .before .check-frame .ensures) ∙ c .before .before .packed .given .1)
 
 pub check-sound-spec : {M : Type 1} → statement M
 check-sound-spec =

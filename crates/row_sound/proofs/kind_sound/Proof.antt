@@ -4,10 +4,10 @@ use native.Mathlib.Omega.{arith}
 use mathlib.Core.Path.{sym, ap, _∙_, subst}
 use denote.Ref.{now}
 use Rattle.datatype.specs.declared.DataType.{DataType}
-use Rattle.datatype.specs.Steps.{typeIn}
+use Rattle.datatype.specs.InnerSteps.{typeIn}
 use Rattle.datatype.proofs.Plain.{plain-record}
-use Rattle.row_column.specs.Column.{Reachable}
-use Rattle.row_sound.specs.Sound.{soundColumn}
+use Rattle.row_column.specs.InnerWalk.{Reachable}
+use Rattle.row_sound.specs.InnerWalk.{walkedSound}
 use Rattle.row_sound.proofs.kind_sound.Tie as tie
 use Rattle.datatype.proofs.plain_size.Reads as plain-size-reads
 use Rattle.row_sound.proofs.body_sound.Reads as body-sound-reads
@@ -30,7 +30,7 @@ returns : tie.Need-returns
 returns c =
     let a = c .before .before .before .before .before .before .args in
     let e = ap typeIn (plain-record (now (a .schema)) (a .at) (λ f. c .before .if1 .taken (c .before .before .plain-size .ensures .0 ∙ f))) in
-    c .plain-sound .ensures ∙ ap (λ (t : DataType). soundColumn (a .layout) (a .packed) (a .before) t (now (a .row))) (sym e)
+    c .plain-sound .ensures ∙ ap (λ (t : DataType). walkedSound (a .layout) (a .packed) (a .before) t (now (a .row))) (sym e)
 
 body-sound-requires : tie.Need-body-sound-requires
 body-sound-requires c κs = search needs

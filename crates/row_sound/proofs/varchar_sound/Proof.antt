@@ -1,7 +1,6 @@
 use borrow.Author.Needs.{needs}
 use Rattle.row_sound.proofs.varchar_sound.Statement.{statement}
 use Rattle.row_sound.proofs.Slots.{varchar-told}
-use Rattle.laws.proofs.Parts.{part-all}
 use denote.Ref.{now}
 use native.Mathlib.Omega.{arith}
 use mathlib.Core.Path.{refl}
@@ -10,43 +9,31 @@ use Rattle.row_sound.proofs.varchar_sound.Tie as tie
 varlen-table-offset-requires : tie.Need-varlen-table-offset-requires
 varlen-table-offset-requires c κs = search needs
 
-sub-bit-is-set : tie.Need-sub-bit-is-set
-sub-bit-is-set c = search needs
-
-part-bit-is-set-start : tie.Need-part-bit-is-set-start
-part-bit-is-set-start c = search needs
-
-part-bit-is-set-end : tie.Need-part-bit-is-set-end
-part-bit-is-set-end c = search needs
-
-bit-is-set-requires : tie.Need-bit-is-set-requires
-bit-is-set-requires c κs = search needs
+column-bit-is-set-requires : tie.Need-column-bit-is-set-requires
+column-bit-is-set-requires c κs = search needs
 
 offset-at-requires : tie.Need-offset-at-requires
-offset-at-requires c κs = let k = c .before .before .before .before .before .pre .rank refl in rw (c .before .before .before .varlen-table-offset .ensures) (omega (arith, k, c .before .before .before .before .before .pre .table))
+offset-at-requires c κs = let k = c .before .before .before .before .pre .rank refl in rw (c .before .before .varlen-table-offset .ensures) (omega (arith, k, c .before .before .before .before .pre .table))
 
 returns : tie.Need-returns
 returns c =
-    let a = c .before .before .before .before .before .before .args in
-    rw (varchar-told (a .layout) (a .packed) (a .before) (now (a .row)) (a .n), ← (rw (part-all (now (a .row)) 4) at (c .before .before .bit-is-set .ensures)), c .before .if1 .taken, ← c .before .before .before .before .varlen-table-offset .ensures, ← c .offset-at .ensures .0)
+    let a = c .before .before .before .before .before .args in
+    rw (varchar-told (a .layout) (a .packed) (a .before) (now (a .row)) (a .n), ← c .before .before .column-bit-is-set .ensures, c .before .if1 .taken, ← c .before .before .before .varlen-table-offset .ensures, ← c .offset-at .ensures .0)
 
 range-sound-requires : tie.Need-range-sound-requires
-range-sound-requires c κs = (c .before .before .before .before .before .pre .rank refl, rw (c .before .before .before .varlen-table-offset .ensures) (c .before .before .before .before .before .pre .table))
+range-sound-requires c κs = (c .before .before .before .before .pre .rank refl, rw (c .before .before .varlen-table-offset .ensures) (c .before .before .before .before .pre .table))
 
 returns-2 : tie.Need-returns-2
 returns-2 c =
-    let a = c .before .before .before .before .before .before .args in
-    rw (varchar-told (a .layout) (a .packed) (a .before) (now (a .row)) (a .n), ← (rw (part-all (now (a .row)) 4) at (c .before .before .bit-is-set .ensures)), c .before .if1 .left, ← c .before .before .before .before .varlen-table-offset .ensures) (c .range-sound .ensures)
+    let a = c .before .before .before .before .before .args in
+    rw (varchar-told (a .layout) (a .packed) (a .before) (now (a .row)) (a .n), ← c .before .before .column-bit-is-set .ensures, c .before .if1 .left, ← c .before .before .before .varlen-table-offset .ensures) (c .range-sound .ensures)
 
 pub varchar-sound-spec : {M : Type 1} → statement M
 varchar-sound-spec =
     tie.close
     (tie.spec
     varlen-table-offset-requires
-    sub-bit-is-set
-    part-bit-is-set-start
-    part-bit-is-set-end
-    bit-is-set-requires
+    column-bit-is-set-requires
     offset-at-requires
     returns
     range-sound-requires

@@ -2,10 +2,12 @@ use borrow.Author.Needs.{needs}
 use Rattle.row_text.proofs.text_in_row.Statement.{statement}
 use Rattle.row_text.proofs.text_in_row.Tie as tie
 use denote.Ref.{now}
-use mathlib.Core.Path.{sym, _∙_}
-use Rattle.row_format.specs.Places.{rowLimit}
-use Rattle.datatype.specs.Check.{typeAt, layoutBefore, typesIn}
+use mathlib.Core.Path.{_≡_, sym, ap, _∙_}
+use Rattle.row_format.specs.Places.{offsetWidth, rowLimit}
+use Rattle.datatype.specs.Check.{typesIn}
 use Rattle.row_column.specs.Column.{columnValue}
+use Rattle.row_column.specs.InnerWalk.{walkedColumn}
+use Rattle.row_column.proofs.Walk.{column-walked}
 use Rattle.row_column.proofs.Framing.{framed, frame-refused, frame-good}
 use Rattle.row_column.proofs.Reach.{reach}
 use Rattle.row_text.specs.declared.ColumnText.the-variants.{Refused}
@@ -30,16 +32,30 @@ text-read-requires c κs = search needs
 
 returns : tie.Need-returns
 returns c =
-    let a = c .before .before .before .before .before .before .args in
-    let ts = typesIn (now (a .schema)) in
-    (frame-refused rowLimit (now (a .row)) (c .before .before .before .before .before .before .pre .0 .layout) Refused (λ l p. textRead (columnValue l p (layoutBefore ts (a .column)) (typeAt ts (a .column)) (now (a .row)))) (sym (c .before .before .before .check-frame .ensures) ∙ c .before .e .given .1), tt)
+    let a = c .before .before .before .before .before .before .args in (
+      frame-refused rowLimit (typesIn (now (a .schema))) (now (a .row))
+          (c .before .before .before .before .before .before .pre .0 .layout)
+          Refused _ (sym (c .before .before .before .check-frame .ensures) ∙ c .before .e .given .1),
+      tt,
+    )
 
 returns-2 : tie.Need-returns-2
 returns-2 c =
     let a = c .before .before .before .before .before .before .before .before .args in
-    let f = c .before .before .before .before .before .before .before .before .pre .1 .1 in
+    let h = c .before .before .before .before .before .before .before .before .pre in
+    let f = h .1 .1 in
     let ts = typesIn (now (a .schema)) in
-    (c .text-read .ensures .0 ∙ rw (c .before .read-column .ensures .0, f .layout, f .type-is) (frame-good rowLimit (now (a .row)) (c .before .before .before .before .before .before .before .before .pre .0 .layout) Refused (λ l p. textRead (columnValue l p (layoutBefore ts (a .column)) (typeAt ts (a .column)) (now (a .row)))) (sym (c .before .before .before .before .before .check-frame .ensures) ∙ c .before .before .before .packed .given .1)), c .text-read .ensures .1)
+    let p = c .before .before .before .packed .given .0 .0 in
+    let same : walkedColumn (a .layout) p (a .found .before) (a .found .ty) (now (a .row))
+    ≡ columnValue offsetWidth p ts (a .column) (now (a .row))
+    = rw (f .layout, f .type-is, ← h .0 .layout) (sym (column-walked p ts (a .column) (now (a .row)) (h .1 .0))) in (
+      c .text-read .ensures .0 ∙ ap textRead (c .before .read-column .ensures .0 ∙ same)
+          ∙ frame-good rowLimit ts (now (a .row)) (h .0 .layout) Refused
+          (λ q. textRead (columnValue offsetWidth q ts (a .column) (now (a .row))))
+          (sym (c .before .before .before .before .before .check-frame .ensures)
+          ∙ c .before .before .before .packed .given .1),
+      c .text-read .ensures .1,
+    )
 
 pub text-in-row-spec : {M : Type 1} → statement M
 text-in-row-spec =

@@ -3,7 +3,7 @@ use Rattle.row_text.proofs.text_of_column.Statement.{statement}
 use Rattle.row_text.proofs.text_of_column.Tie as tie
 use native.Mathlib.Omega.{arith}
 use Rattle.laws.proofs.Tests.{by-tests}
-use Rattle.row_column.proofs.Reach.{columns-all}
+use Rattle.datatype.proofs.Again.{columns-all}
 use mathlib.Core.Path.{_∙_}
 
 returns : tie.Need-returns

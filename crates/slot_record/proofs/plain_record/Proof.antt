@@ -4,8 +4,7 @@ use denote.Ref.{now}
 use native.Mathlib.Omega.{arith}
 use mathlib.Core.Path.{_∙_}
 use mir.Syntax.{w16, w32, w64}
-use borrow.Author.Tests.{ne-eqb}
-use Rattle.datatype.proofs.Plain.{last-plain}
+use Rattle.datatype.proofs.KindTable.{last-plain}
 use Rattle.slot_record.proofs.Numbers.{slot-taken, signed, unsigned}
 use Rattle.slot_record.proofs.plain_record.Tie as tie
 use Rattle.endian.proofs.read_u16.Reads as read-u16-reads
@@ -60,7 +59,12 @@ time-record-requires c κs = let h = rw (c .before .match .keys8) at (c .before 
 
 timestamp-record-requires : tie.Need-timestamp-record-requires
 timestamp-record-requires c κs =
-    let r = c .before .match .rest in let e = last-plain (c .before .before .before .before .args .kind) (c .before .before .before .before .pre .0) (simp (ne-eqb _ 1 (r .0 .0 .0 .0 .0 .0 .0 .1), ne-eqb _ 2 (r .0 .0 .0 .0 .0 .0 .1), ne-eqb _ 3 (r .0 .0 .0 .0 .0 .1), ne-eqb _ 4 (r .0 .0 .0 .0 .1), ne-eqb _ 5 (r .0 .0 .0 .1), ne-eqb _ 8 (r .0 .0 .1), ne-eqb _ 12 (r .0 .1), ne-eqb _ 13 (r .1))) in
+    let r = c .before .match .rest in
+    let b = c .before .before .before .before in
+    let e =
+    last-plain (b .args .kind) (r .0 .0 .0 .0 .0 .0 .0 .1) (r .0 .0 .0 .0 .0 .0 .1) (r .0 .0 .0 .0 .0 .1)
+    (r .0 .0 .0 .0 .1) (r .0 .0 .0 .1) (r .0 .0 .1) (r .0 .1) (r .1) (b .pre .0)
+    in
     (rw e at (c .before .before .before .before .pre .1 .0), c .before .before .before .before .pre .1 .1)
 
 same-length : tie.Need-same-length
@@ -131,7 +135,12 @@ same-length-9 c = search needs
 
 returns-9 : tie.Need-returns-9
 returns-9 c = λ start.
-    let r = c .before .before .before .before .match .rest in let e = last-plain (c .before .before .before .before .before .before .before .args .kind) (c .before .before .before .before .before .before .before .pre .0) (simp (ne-eqb _ 1 (r .0 .0 .0 .0 .0 .0 .0 .1), ne-eqb _ 2 (r .0 .0 .0 .0 .0 .0 .1), ne-eqb _ 3 (r .0 .0 .0 .0 .0 .1), ne-eqb _ 4 (r .0 .0 .0 .0 .1), ne-eqb _ 5 (r .0 .0 .0 .1), ne-eqb _ 8 (r .0 .0 .1), ne-eqb _ 12 (r .0 .1), ne-eqb _ 13 (r .1))) in
+    let r = c .before .before .before .before .match .rest in
+    let b = c .before .before .before .before .before .before .before in
+    let e =
+    last-plain (b .args .kind) (r .0 .0 .0 .0 .0 .0 .0 .1) (r .0 .0 .0 .0 .0 .0 .1) (r .0 .0 .0 .0 .0 .1)
+    (r .0 .0 .0 .0 .1) (r .0 .0 .0 .1) (r .0 .0 .1) (r .0 .1) (r .1) (b .pre .0)
+    in
     rw e (c .before .before .timestamp-record .ensures)
 
 pub plain-record-spec : {M : Type 1} → statement M

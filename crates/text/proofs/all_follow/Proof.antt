@@ -5,8 +5,8 @@ use mathlib.Core.Logic.{_↔_}
 use mathlib.Core.Path.{_≡_}
 use native.Mathlib.Omega.{arith}
 use borrow.Author.Needs.{needs}
-use Rattle.text.specs.Each.{Each}
-use Rattle.text.specs.Follow.{followsAt}
+use Rattle.text.specs.InnerEach.{Each}
+use Rattle.text.specs.InnerFollow.{followsAt}
 use Rattle.text.proofs.Laws.{each-none, each-more}
 use Rattle.text.proofs.all_follow.Statement.{statement}
 use Rattle.text.proofs.all_follow.Tie as tie

@@ -1,6 +1,6 @@
 -- `may_follow` meets its contract.
 use borrow.Author.Needs.{needs}
-use Rattle.text.specs.Follow.{follows}
+use Rattle.text.specs.InnerFollow.{follows}
 use Rattle.text.proofs.may_follow.Statement.{statement}
 use Rattle.text.proofs.may_follow.Tie as tie
 

@@ -7,8 +7,8 @@ use native.Mathlib.Numerals.{add-three}
 use native.Mathlib.Omega.{arith}
 use lib.ListN.{getD}
 use borrow.Author.Needs.{needs}
-use Rattle.text.specs.Each.{Each}
-use Rattle.text.specs.Follow.{followsAt, padded}
+use Rattle.text.specs.InnerEach.{Each}
+use Rattle.text.specs.InnerFollow.{followsAt, padded}
 use Rattle.text.proofs.Laws.{each-none, each-more}
 use Rattle.text.proofs.opening_follows.Statement.{statement}
 use Rattle.text.proofs.opening_follows.Tie as tie

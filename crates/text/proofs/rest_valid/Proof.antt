@@ -4,7 +4,7 @@ use native.Mathlib.Omega.{arith}
 use lib.ListN.{length}
 use borrow.Author.Needs.{needs}
 use borrow.Author.Tests.{not-true, not-false}
-use Rattle.text.specs.Follow.{Checked}
+use Rattle.text.specs.InnerFollow.{Checked}
 use Rattle.text.proofs.Laws.{refuted}
 use Rattle.text.proofs.Bytes.{text-byte, pass-more, rest-text}
 use Rattle.text.proofs.rest_valid.Statement.{statement}

@@ -4,7 +4,7 @@ use native.Mathlib.Omega.{arith}
 use lib.ListN.{length}
 use borrow.Author.Needs.{needs}
 use borrow.Author.Tests.{not-false}
-use Rattle.text.specs.Follow.{Checked}
+use Rattle.text.specs.InnerFollow.{Checked}
 use Rattle.text.proofs.Laws.{each-join}
 use Rattle.text.proofs.Bytes.{pass-more, ascii-each}
 use Rattle.text.proofs.wide_blocks.Statement.{statement}

@@ -1,3 +1,4 @@
+use Rattle.value_same.proofs.Fields.{by-fields}
 use Rattle.value_same.proofs.Rows.{stands-inside, stands-bits}
 use Rattle.datatype.specs.Types.{lengthOf}
 use Prim.Native.Nat.{_+_, _-_}
@@ -62,11 +63,17 @@ same-value-requires c κs =
 
 returns : tie.Need-returns
 returns c =
+    let k = c .before .before .before .before .before .before .before .before .before .args in
     let r = c .before .before .before .before .before .before .range .result in
     let s = c .before .before .before .before .before .range2 .result in
     let e : r .start + r .length - r .start ≡ r .length = omega arith in
     let f : s .start + s .length - s .start ≡ s .length = omega arith in
-    rw (← c .before .before .before .before .before .before .range .ensures, ← c .before .before .before .before .before .range2 .ensures) (rw (e, f) at (c .same-value .ensures))
+    rw (
+      ← by-fields (lengthOf (k .ty)) (now (k .row-a)) (now (k .row-b)) (k .a) (k .b),
+      ← c .before .before .before .before .before .before .range .ensures,
+      ← c .before .before .before .before .before .range2 .ensures,
+    )
+    (rw (e, f) at (c .same-value .ensures))
 
 pub same-content-spec : {M : Type 1} → statement M
 same-content-spec =

@@ -1,4 +1,4 @@
-use Rattle.value_same.proofs.Rows.{same-reals, same-others, texts-differ}
+use Rattle.value_same.proofs.Rows.{same-others, texts-differ}
 use Rattle.laws.proofs.Tests.{by-tests}
 use Rattle.datatype.specs.Types.{lengthOf}
 use denote.Ref.{now}
@@ -33,11 +33,13 @@ same-f32-requires c κs = search needs
 
 returns-2 : tie.Need-returns-2
 returns-2 c =
-    let k = c .before .before .before .before .before .before .before .before .before .before .args in
-    let e = sym (c .before .before .before .before .before .before .kind .ensures) ∙ c .before .before .before .if2 .taken in
-    let f = sym (c .before .before .before .before .before .kind2 .ensures) ∙ sym (c .before .before .before .before .if1 .left) ∙ c .before .before .before .if2 .taken in
-    let s = rw (c .before .before .real .ensures, c .before .real2 .ensures) at (c .same-f32 .ensures) in
-    s ∙ same-reals (lengthOf (k .ty)) (k .a) (now (k .x)) (k .b) (now (k .y)) e f
+    rw (
+      ← c .before .before .real .ensures,
+      ← c .before .real2 .ensures,
+      ← c .before .before .before .before .before .before .kind .ensures,
+      ← c .before .before .before .before .before .kind2 .ensures,
+    )
+    (search by-tests depth 9)
 
 word-requires : tie.Need-word-requires
 word-requires c κs = search needs
@@ -49,7 +51,14 @@ same-f64-requires : tie.Need-same-f64-requires
 same-f64-requires c κs = search needs
 
 returns-3 : tie.Need-returns-3
-returns-3 c = rw (← c .before .before .before .before .before .before .before .kind .ensures, ← c .before .before .before .before .before .before .kind2 .ensures, ← c .before .before .word .ensures, ← c .before .word2 .ensures) (search by-tests depth 9)
+returns-3 c =
+    rw (
+      ← c .before .before .word .ensures,
+      ← c .before .word2 .ensures,
+      ← c .before .before .before .before .before .before .before .kind .ensures,
+      ← c .before .before .before .before .before .before .kind2 .ensures,
+    )
+    (search by-tests depth 9)
 
 same-bits-requires : tie.Need-same-bits-requires
 same-bits-requires c κs =

@@ -1,7 +1,7 @@
-use mir.Val.{ofZ}
+use mathlib.Core.Path.{refl}
 use mir.Syntax.{w64}
-use Rattle.signed.proofs.Casts.{handed}
 use borrow.Author.Needs.{needs}
+use Rattle.value_same.proofs.Fields.{signed-word}
 use Rattle.value_same.proofs.upper.Statement.{statement}
 use Rattle.value_same.proofs.upper.Tie as tie
 
@@ -51,46 +51,48 @@ enum-told-13 : tie.Need-enum-told-13
 enum-told-13 c = search needs
 
 returns : tie.Need-returns
-returns c = search needs
+returns c = rw (c .enum-told .given .1)
 
 returns-2 : tie.Need-returns-2
-returns-2 c = search needs
+returns-2 c = rw (c .enum-told2 .given .1)
 
 returns-3 : tie.Need-returns-3
-returns-3 c = search needs
+returns-3 c = rw (c .enum-told3 .given .1)
 
 returns-4 : tie.Need-returns-4
-returns-4 c = search needs
+returns-4 c = rw (c .enum-told4 .given .1)
 
 returns-5 : tie.Need-returns-5
-returns-5 c = search needs
+returns-5 c = rw (c .enum-told5 .given .1)
 
 returns-6 : tie.Need-returns-6
-returns-6 c = search needs
+returns-6 c = rw (c .enum-told6 .given .1)
 
 returns-7 : tie.Need-returns-7
-returns-7 c = let v = c .before .before .before .v .given in rw (v .1) (handed w64 (ofZ w64) (v .0 .0 .high) (search needs) (c .cast-unsigned-64 .ensures))
+returns-7 c =
+    let v = c .before .before .before .v .given in
+    rw (v .1) (signed-word w64 8 refl (v .0 .0 .high) (search needs) (c .cast-unsigned-64 .ensures))
 
 returns-8 : tie.Need-returns-8
-returns-8 c = search needs
+returns-8 c = rw (c .enum-told7 .given .1)
 
 returns-9 : tie.Need-returns-9
-returns-9 c = search needs
+returns-9 c = rw (c .enum-told8 .given .1)
 
 returns-10 : tie.Need-returns-10
-returns-10 c = search needs
+returns-10 c = rw (c .enum-told9 .given .1)
 
 returns-11 : tie.Need-returns-11
-returns-11 c = search needs
+returns-11 c = rw (c .enum-told10 .given .1)
 
 returns-12 : tie.Need-returns-12
-returns-12 c = search needs
+returns-12 c = rw (c .enum-told11 .given .1)
 
 returns-13 : tie.Need-returns-13
-returns-13 c = search needs
+returns-13 c = rw (c .enum-told12 .given .1)
 
 returns-14 : tie.Need-returns-14
-returns-14 c = search needs
+returns-14 c = rw (c .enum-told13 .given .1)
 
 pub upper-spec : {M : Type 1} → statement M
 upper-spec =

@@ -1,6 +1,7 @@
-use mir.Val.{ofZ}
+use mathlib.Core.Path.{refl, sym}
+use native.Mathlib.Nat.{add-zero}
 use mir.Syntax.{w16, w32, w64}
-use Rattle.signed.proofs.Casts.{handed}
+use Rattle.value_same.proofs.Fields.{unsigned-word, signed-word}
 use borrow.Author.Needs.{needs}
 use Rattle.value_same.proofs.word.Statement.{statement}
 use Rattle.value_same.proofs.word.Tie as tie
@@ -81,46 +82,58 @@ cast-unsigned-64-requires-3 : tie.Need-cast-unsigned-64-requires-3
 cast-unsigned-64-requires-3 c κs = search needs
 
 returns : tie.Need-returns
-returns c = search needs
+returns c = rw (c .enum-told .given .1)
 
 returns-2 : tie.Need-returns-2
-returns-2 c = let v = c .before .before .v .given in rw (v .1) (handed w16 (ofZ w16) (v .0 .0) (search needs) (c .cast-unsigned-16 .ensures))
+returns-2 c =
+    let v = c .before .before .v .given in
+    rw (v .1) (signed-word w16 2 refl (v .0 .0) (search needs) (c .cast-unsigned-16 .ensures))
 
 returns-3 : tie.Need-returns-3
-returns-3 c = let v = c .before .before .v2 .given in rw (v .1) (handed w32 (ofZ w32) (v .0 .0) (search needs) (c .cast-unsigned-32 .ensures))
+returns-3 c =
+    let v = c .before .before .v2 .given in
+    rw (v .1) (signed-word w32 4 refl (v .0 .0) (search needs) (c .cast-unsigned-32 .ensures))
 
 returns-4 : tie.Need-returns-4
-returns-4 c = let v = c .before .before .v3 .given in rw (v .1) (handed w64 (ofZ w64) (v .0 .0) (search needs) (c .cast-unsigned-64 .ensures))
+returns-4 c =
+    let v = c .before .before .v3 .given in
+    rw (v .1) (signed-word w64 8 refl (v .0 .0) (search needs) (c .cast-unsigned-64 .ensures))
 
 returns-5 : tie.Need-returns-5
-returns-5 c = search needs
+returns-5 c = let v = c .before .v4 .given in rw (v .1) (unsigned-word w32 4 refl (v .0 .0) (search needs))
 
 returns-6 : tie.Need-returns-6
-returns-6 c = search needs
+returns-6 c = let v = c .before .v5 .given in rw (v .1) (unsigned-word w64 8 refl (v .0 .0) (search needs))
 
 returns-7 : tie.Need-returns-7
-returns-7 c = search needs
+returns-7 c = let v = c .before .v6 .given in rw (v .1) (unsigned-word w64 8 refl (v .0 .0 .low) (search needs))
 
 returns-8 : tie.Need-returns-8
-returns-8 c = search needs
+returns-8 c = let v = c .before .v7 .given in rw (v .1) (sym (add-zero (v .0 .0)))
 
 returns-9 : tie.Need-returns-9
-returns-9 c = search needs
+returns-9 c = rw (c .enum-told2 .given .1)
 
 returns-10 : tie.Need-returns-10
-returns-10 c = search needs
+returns-10 c = rw (c .enum-told3 .given .1)
 
 returns-11 : tie.Need-returns-11
-returns-11 c = let v = c .before .before .v8 .given in rw (v .1) (handed w32 (ofZ w32) (v .0 .0) (search needs) (c .cast-unsigned-322 .ensures))
+returns-11 c =
+    let v = c .before .before .v8 .given in
+    rw (v .1) (signed-word w32 4 refl (v .0 .0) (search needs) (c .cast-unsigned-322 .ensures))
 
 returns-12 : tie.Need-returns-12
-returns-12 c = let v = c .before .before .v9 .given in rw (v .1) (handed w64 (ofZ w64) (v .0 .0) (search needs) (c .cast-unsigned-642 .ensures))
+returns-12 c =
+    let v = c .before .before .v9 .given in
+    rw (v .1) (signed-word w64 8 refl (v .0 .0) (search needs) (c .cast-unsigned-642 .ensures))
 
 returns-13 : tie.Need-returns-13
-returns-13 c = search needs
+returns-13 c = rw (c .enum-told4 .given .1)
 
 returns-14 : tie.Need-returns-14
-returns-14 c = let v = c .before .before .v10 .given in rw (v .1) (handed w64 (ofZ w64) (v .0 .0) (search needs) (c .cast-unsigned-643 .ensures))
+returns-14 c =
+    let v = c .before .before .v10 .given in
+    rw (v .1) (signed-word w64 8 refl (v .0 .0) (search needs) (c .cast-unsigned-643 .ensures))
 
 pub word-spec : {M : Type 1} → statement M
 word-spec =

@@ -1,0 +1,3 @@
+pub mod Flag
+pub mod Runs
+pub mod Worked

@@ -1,0 +1,97 @@
+-- 01, "Histories of edits", through a handle: lists of set and set null calls on one buffer and one handle, each as
+-- the one before left them.
+use Prim.Native.Nat.{ℕ}
+use mathlib.Core.Bool.{Bool, true, false, cond}
+use mathlib.Core.List.{List, [], _∷_, map}
+use mathlib.Core.Logic.{_↔_}
+use mathlib.Core.Option.{none}
+use mathlib.Core.Path.{_≡_}
+use lib.ListN.{length, replicate}
+use Rattle.error.specs.declared.Answer.{Answer}
+use Rattle.error.specs.declared.Answer.the-variants.{Done, Refused}
+use Rattle.error.specs.Answer.{placed}
+use Rattle.row_format.specs.Places.{offsetWidth, rowLimit}
+use Rattle.row_format.specs.Table.{Cell}
+use Rattle.row_format.specs.Zeroed.{zeroedRow}
+use Rattle.datatype.specs.declared.DataType.{DataType}
+use Rattle.datatype.specs.Types.{shapeOf}
+use Rattle.datatype.specs.Check.{layoutFor}
+use Rattle.value_list.specs.Lists.{listOf}
+use Rattle.row_build.specs.Build.{buildCall}
+use Rattle.history.specs.History.{Call, setValue, setNull, State, rowOf, Entry, sheetBy, texts, lastValues, sheetCells}
+use Rattle.history.specs.Demand.{History, left, replies}
+use Rattle.row_handle.specs.declared.RowHandle.{RowHandle}
+use Rattle.row_handle.specs.Handle.{geometry, Handled, handleSet, handleSetNull}
+
+-- the buffer, and the handle lent beside it
+pub record HandleState : Type 0 where
+  pub buf : List ℕ
+  pub handle : RowHandle
+
+abbrev pub stateOf : HandleState → State
+stateOf s = record { buf = s .buf; row-length = s .handle .length }
+
+abbrev pub handleCalled : ℕ → ℕ → List ℕ → Call → HandleState → Handled
+handleCalled w limit schema (setValue i list area) s = handleSet w limit schema (s .buf) (s .handle) i list area
+handleCalled w limit schema (setNull i) s = handleSetNull w limit schema (s .buf) (s .handle) i
+
+abbrev pub handleNext : Handled → HandleState
+handleNext o = record { buf = o .1 .0; handle = o .1 .1 }
+
+-- what a list of calls leaves, and what the calls answer
+abbrev pub handleRun : ℕ → ℕ → List ℕ → List Call → HandleState → HandleState
+handleRun w limit schema [] s = s
+handleRun w limit schema (c ∷ cs) s = handleRun w limit schema cs (handleNext (handleCalled w limit schema c s))
+
+abbrev pub handleAnswers : ℕ → ℕ → List ℕ → List Call → HandleState → List Answer
+handleAnswers w limit schema [] s = []
+handleAnswers w limit schema (c ∷ cs) s =
+    handleCalled w limit schema c s .0 ∷ handleAnswers w limit schema cs (handleNext (handleCalled w limit schema c s))
+
+-- whether a call was accepted
+abbrev pub someDone : List Answer → Bool
+someDone [] = false
+someDone (Done m ∷ as′) = true
+someDone (Refused e ∷ as′) = someDone as′
+
+-- ---- a history through a handle: any handle that has the length which fresh handed back, whatever its layout says
+
+pub record HandleHistory (schema : List ℕ) (ts : List DataType) : Type 0 where
+  pub plain : History schema ts
+  pub handle : RowHandle
+  pub handed : handle .length ≡ plain .start .row-length
+
+module _ {schema : List ℕ} {ts : List DataType} (g : HandleHistory schema ts) where
+  abbrev pub handleStart : HandleState
+  handleStart = record { buf = g .plain .start .buf; handle = g .handle }
+
+  abbrev pub handleLeft : HandleState
+  handleLeft = handleRun offsetWidth rowLimit schema (g .plain .calls) handleStart
+
+  abbrev pub handleReplies : List Answer
+  handleReplies = handleAnswers offsetWidth rowLimit schema (g .plain .calls) handleStart
+
+  abbrev pub handleZeroed : List ℕ
+  handleZeroed = zeroedRow offsetWidth (map shapeOf ts) (rowOf (stateOf handleLeft))
+
+  abbrev pub handleSheet : List Entry
+  handleSheet = sheetBy (g .plain .calls) handleReplies (replicate (length ts) none)
+
+  abbrev pub handleCells : List Cell
+  handleCells = sheetCells ts handleSheet
+
+  -- Its answers, its buffer, and the handle's length are those of the plain calls; its row, zeroed, is the very row
+  -- that the builder makes of the last accepted values; and from the first accepted call on the handle has the layout
+  -- of the packed rows of the schema.
+  pub record Carries : Type 0 where
+    pub answered : handleReplies ≡ replies (g .plain)
+    pub state : stateOf handleLeft ≡ left (g .plain)
+    pub built : (o : List ℕ)
+        → buildCall offsetWidth rowLimit schema (listOf (lastValues 0 handleSheet)) (texts handleSheet) o
+        ≡ placed o handleZeroed
+    pub layout : handleLeft .handle .layout
+        ≡ cond (someDone handleReplies) (geometry (layoutFor ts) true) (g .handle .layout)
+
+-- "exactly when both leave the same stored form, or null, in every column"
+abbrev pub HandlesTold : {schema : List ℕ} {ts : List DataType} (g h : HandleHistory schema ts) → Type 0
+HandlesTold g h = (handleZeroed g ≡ handleZeroed h) ↔ (handleCells g ≡ handleCells h)

@@ -1,0 +1,10 @@
+pub mod ReadBuilt
+pub mod ReadBack
+pub mod Nulls
+pub mod Text
+pub mod BuiltText
+pub mod ReadAll
+pub mod Same
+pub mod Types
+pub mod Columns
+pub mod SameBuilt

@@ -1,0 +1,75 @@
+-- Where a build answers Done, a read of its row answers with the values it was given, for the columns that are wanted.
+use Prim.Native.Nat.{ℕ, _^_, _≤_, _<_}
+use mathlib.Core.Path.{_≡_, ap, _∙_}
+use mathlib.Core.Bool.{Bool, true}
+use mathlib.Core.List.{List, map}
+use native.Mathlib.Omega.{arith}
+use lib.ListN.{length}
+use Rattle.error.specs.Answer.{unchanged, placed}
+use Rattle.error.specs.Result.{ok, onResult}
+use Rattle.row_format.specs.Row.{builtRow}
+use Rattle.datatype.specs.Types.{shapeOf}
+use Rattle.datatype.specs.Schema.{Parsed}
+use Rattle.value_list.specs.Lists.{listOf}
+use Rattle.value_list.proofs.Lists.{Taken, checked-taken, values-sized}
+use Rattle.value_list.specs.InnerLists.{AllSized}
+use Rattle.row_column.specs.declared.Frame.{Frame}
+use Rattle.row_column.specs.declared.Frame.the-variants.{Good}
+use Rattle.row_column.specs.Frame.{frameOf, onFrame}
+use Rattle.row_decode.specs.Read.{isWanted, readFrom, handOut, readRow, readCall}
+use Rattle.row_build.specs.Built.{Built}
+use Rattle.row_build.proofs.Schemas.{schema-few}
+use Rattle.round_trip.specs.ReadBack.{valuesBack, row, ReadsBack, BuiltReadsBack}
+use Rattle.round_trip.proofs.ReadBuilt.{frame-built, column-built, text-built, columns-built}
+
+module _ {w limit : ℕ} {schema list area out : List ℕ} {n : ℕ} {after : List ℕ}
+    (b : Built w limit schema list area out n after) where
+  abbrev pub cellsRow : List ℕ
+  cellsRow = builtRow w (map shapeOf (b .columns)) (b .cells)
+
+  pub taken : Taken limit (length (b .columns)) (length area) list (b .given)
+  taken = checked-taken limit (length (b .columns)) (length area) list (b .list-good)
+
+  pub few : length (b .columns) ≤ 256
+  few = schema-few w limit schema (b .schema-good)
+
+  pub short : length cellsRow ≤ limit
+  short = rw (← b .size) (b .short)
+
+  -- the row's header is good
+  pub frame-back : frameOf w limit (b .columns) (row b) ≡ Good true
+  frame-back = rw (b .row) (frame-built w (b .columns) (b .given) area (b .cells-good) (taken .count) few limit short)
+
+  module _ (small : limit < 256 ^ w) (sized : AllSized (b .given)) where
+    fits : length cellsRow < 256 ^ w
+    fits = omega (arith, short, small)
+
+    -- the columns that are wanted
+    pub columns-back : (wanted : ℕ → Bool) → readFrom w true (b .columns) wanted (row b) 0 (length (b .columns))
+        ≡ ok (valuesBack w (b .columns) wanted area (row b) 0 (b .given))
+    columns-back wanted = rw (b .row)
+        (columns-built w (b .columns) (b .given) area (b .cells-good) (taken .count) few fits sized wanted)
+
+    read-back : (ws o : List ℕ)
+        → readCall w limit schema (row b) ws o ≡ placed o
+        (listOf (valuesBack w (b .columns) (isWanted ws) area (row b) 0 (b .given)))
+    read-back ws o =
+        ap (λ (p : Parsed). onResult p (unchanged o) (λ ts. readRow w limit ts (row b) ws o)) (b .schema-good)
+        ∙ ap (λ (q : Frame). onFrame q (unchanged o)
+        (λ p. handOut o (readFrom w p (b .columns) (isWanted ws) (row b) 0 (length (b .columns))))) frame-back
+        ∙ ap (handOut o) (columns-back (isWanted ws))
+
+    -- the same of values that fit records, wherever they come from
+    pub sized-back : ReadsBack b
+    sized-back =
+        record {
+          frame = frame-back;
+          column = λ i h. rw (b .row)
+              (column-built w (b .columns) (b .given) area (b .cells-good) (taken .count) few i h fits sized);
+          text = λ i h g. rw (b .row)
+              (text-built w (b .columns) (b .given) area (b .cells-good) (taken .count) few i h fits sized g);
+          read = read-back;
+        }
+
+  pub read-built : BuiltReadsBack b
+  read-built small bytes = sized-back small (values-sized list bytes (taken .all))

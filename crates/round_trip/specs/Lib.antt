@@ -1,0 +1,4 @@
+pub mod ReadBack
+pub mod Nulls
+pub mod Text
+pub mod Same

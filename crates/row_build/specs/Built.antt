@@ -1,0 +1,57 @@
+-- What a build that answers Done has done, which lists build equal rows, and what a fresh row is built of.
+use Prim.Native.Nat.{ℕ, _^_, _≤_, _<_}
+use mathlib.Core.List.{List, [], map}
+use mathlib.Core.Logic.{_↔_}
+use mathlib.Core.Path.{_≡_}
+use lib.ListN.{length, take, replicate}
+use lib.Seq.{sets}
+use Rattle.error.specs.declared.Answer.the-variants.{Done}
+use Rattle.error.specs.Result.{ok}
+use Rattle.row_format.specs.Table.{Cell}
+use Rattle.row_format.specs.Row.{builtRow}
+use Rattle.datatype.specs.declared.DataType.{DataType}
+use Rattle.datatype.specs.Types.{shapeOf}
+use Rattle.datatype.specs.Schema.{schemaOf}
+use Rattle.value.specs.declared.DataValue.{DataValue}
+use Rattle.value_list.specs.Lists.{checked}
+use Rattle.row_build.specs.Stored.{cellsFrom}
+use Rattle.row_build.specs.Build.{buildCall, freshCall}
+
+-- a build from schema, list and text area into `out`, that answered Done n and left `after` in the output
+pub record Built (w limit : ℕ) (schema list area out : List ℕ) (n : ℕ) (after : List ℕ) : Type 0 where
+  -- the schema's columns: neither 1 nor 2
+  pub columns : List DataType
+  pub schema-good : schemaOf w limit schema ≡ ok columns
+  -- the list's values, one for each column: not 10
+  pub given : List DataValue
+  pub list-good : checked limit (length columns) (length area) list ≡ ok given
+  -- null or a stored form for each column: neither 11 nor 12
+  pub cells : List Cell
+  pub cells-good : cellsFrom 0 columns given area ≡ ok cells
+  -- n is the length of their row, which passes neither the limit nor the output: neither 13 nor 14
+  pub size : n ≡ length (builtRow w (map shapeOf columns) cells)
+  pub short : n ≤ limit
+  pub room : n ≤ length out
+  -- the row is put at the output's start, and is its first n bytes afterwards
+  pub stored : after ≡ sets out 0 (builtRow w (map shapeOf columns) cells)
+  pub row : take n after ≡ builtRow w (map shapeOf columns) cells
+
+-- every build that answers Done
+abbrev pub DoneIsBuilt : (w limit : ℕ) (schema list area out : List ℕ) → Type 0
+DoneIsBuilt w limit schema list area out =
+    (n : ℕ) (after : List ℕ) → buildCall w limit schema list area out ≡ (Done n, after)
+    → Built w limit schema list area out n after
+
+-- Two builds under one schema, with offsets that hold every length up to the limit: their rows are equal exactly if
+-- every column has the same stored form in both, or is null in both.
+abbrev pub EqualRows : {w limit : ℕ} {schema list area out : List ℕ} {n : ℕ} {after : List ℕ}
+    {list' area' out' : List ℕ} {n' : ℕ} {after' : List ℕ}
+    (b : Built w limit schema list area out n after) (b' : Built w limit schema list' area' out' n' after') → Type 0
+EqualRows {w} {limit} {n = n} {after = after} {n' = n'} {after' = after'} b b' =
+    limit < 256 ^ w → (take n after ≡ take n' after') ↔ (b .cells ≡ b' .cells)
+
+-- a fresh row is built of as many nulls as there are columns, each a record of the one byte 0
+abbrev pub FreshIsBuilt : (w limit : ℕ) (schema out : List ℕ) → Type 0
+FreshIsBuilt w limit schema out =
+    (columns : List DataType) → schemaOf w limit schema ≡ ok columns
+    → freshCall w limit schema out ≡ buildCall w limit schema (replicate (length columns) 0) [] out

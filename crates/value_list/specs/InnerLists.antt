@@ -1,0 +1,19 @@
+-- For the proofs: the check's answer, and values that records can hold.
+use Rattle.error.specs.Result.{ok, refused}
+use Rattle.value_list.specs.declared.ValueRecord.the-variants.{Refused}
+use Rattle.value_list.specs.declared.ListCheck.{ListCheck}
+use Rattle.value_list.specs.declared.ListCheck.the-variants as Check
+use Rattle.value_list.specs.Lists.{Values}
+use mathlib.Core.List.{List, [], _∷_}
+use Rattle.value.specs.declared.DataValue.{DataValue}
+use Rattle.value_list.specs.Records.{Sized}
+
+-- the check's answer: the values forgotten
+abbrev pub answer : Values → ListCheck
+answer (ok vs) = Check.Good
+answer (refused r) = Check.Refused r
+
+-- values that records can hold
+abbrev pub AllSized : List DataValue → Type 0
+AllSized [] = Unit {0}
+AllSized (v ∷ vs) = Sized v × AllSized vs
