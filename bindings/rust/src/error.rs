@@ -1,10 +1,16 @@
 //! Why a call refused.
-use crate::raw::Refusal;
-use crate::schema::column_at;
-use std::fmt;
+use crate::{Column, DataType};
+use alloc::boxed::Box;
 
-/// Why a call refused: a case for each number of the format's table. A refused call has changed nothing.
-#[derive(Debug, Clone, Copy, PartialEq, Eq, Hash)]
+mod cause;
+mod message;
+
+pub(crate) use cause::Call;
+
+/// Why a call refused: one or more cases for each number of the format's table, with what the library's answer means
+/// for these columns and values. A refused call has changed nothing.
+#[derive(Debug, Clone, PartialEq, Eq)]
+#[non_exhaustive]
 pub enum Error {
     /// 1: a schema record of unknown kind, or cut off.
     BadRecord {
@@ -13,186 +19,238 @@ pub enum Error {
         /// The record's column.
         column: usize,
     },
-    /// 2: more than 256 columns, a precision outside 1 to 38, a scale above the precision, or rows that are too long.
+    /// 2: a schema that cannot be.
     BadSchema {
         /// The record's first byte in the schema, or for rows that are too long the schema's length.
         at: usize,
-        /// The record's column; none for rows that are too long.
-        column: Option<usize>,
+        /// What is wrong with it.
+        fault: SchemaFault,
     },
     /// 3: a row shorter than its header or than the schema's shortest row.
-    RowTooShort,
+    RowTooShort {
+        /// The row's length.
+        length: usize,
+    },
     /// 4: a row above 65,535 bytes.
-    RowTooLong,
+    RowTooLong {
+        /// The row's length.
+        length: usize,
+    },
     /// 5: the row's header counts other columns than the schema has.
-    WrongColumnCount,
+    WrongColumnCount {
+        /// What the row counts.
+        row: usize,
+        /// What the schema has.
+        schema: usize,
+    },
     /// 6: the row's header counts other Varchars than the schema has.
-    WrongVarlenCount,
+    WrongVarcharCount {
+        /// What the row counts.
+        row: usize,
+        /// What the schema has.
+        schema: usize,
+    },
     /// 7: a Varchar's range leaves the row.
     BadRange {
         /// The column that was to be read.
-        column: usize,
+        column: ColumnLabel,
     },
     /// 8: stored bytes that are no value of the column's type.
     NoValue {
         /// The column that was to be read.
-        column: usize,
+        column: ColumnLabel,
+        /// Its type.
+        data_type: DataType,
     },
-    /// 9: there is no such column.
+    /// 9: there is no column of this number.
     NoSuchColumn {
-        /// The column that was asked for.
+        /// The number.
         column: usize,
     },
-    /// 10: not one value for each column, or texts above 65,535 bytes together; by [`raw`](crate::raw) calls also a
-    /// record of unknown kind, or cut off.
-    BadValueList {
-        /// The record's first byte in the value list; for a wrong number of values the list's length, for the texts
-        /// 0.
-        at: usize,
+    /// 9: there is no column of this name.
+    NoSuchName {
+        /// The name.
+        name: Box<str>,
     },
-    /// 11: a value of another kind than the column's type, null given to a set, or the text of a column without text.
+    /// 10: not one value for each column, or texts above 65,535 bytes together.
+    BadValueList {
+        /// The first byte of a bad record in the value list; for a wrong number of values the list's length, for the
+        /// texts 0.
+        at: usize,
+        /// How many values were given.
+        values: usize,
+        /// How many are due.
+        due: usize,
+        /// The bytes of their texts.
+        text: usize,
+    },
+    /// 11: a value of another kind than the column's type.
     WrongKind {
         /// The column.
-        column: usize,
+        column: ColumnLabel,
+        /// Its type.
+        data_type: DataType,
+        /// What was given: "an INT", "a text".
+        given: &'static str,
+    },
+    /// 11: `Value::Null` given to a set.
+    NullInSet {
+        /// The column.
+        column: ColumnLabel,
+    },
+    /// 11: the text of a column without text.
+    NoText {
+        /// The column.
+        column: ColumnLabel,
+        /// Its type.
+        data_type: DataType,
+    },
+    /// 11: a column read as a Rust type that does not go with its type, or a null as a type without it.
+    NotReadAs {
+        /// The column.
+        column: ColumnLabel,
+        /// Its type.
+        data_type: DataType,
+        /// Whether it is a null.
+        null: bool,
+        /// The Rust type.
+        wanted: &'static str,
     },
     /// 12: a value that the column's type does not hold.
     Unsuitable {
         /// The column.
-        column: usize,
+        column: ColumnLabel,
+        /// Its type.
+        data_type: DataType,
+        /// Why it does not hold it.
+        misfit: Misfit,
     },
     /// 13: the row would pass 65,535 bytes.
     RowLimit,
-    /// 14: the lent buffer is too short for the row. [`Row`](crate::Row) makes room by itself.
+    /// 14: the lent buffer is too short for the row. [`RowBuf`](crate::RowBuf) makes room by itself.
     NoRoom,
     /// 15: the row to be edited is not sound: a column of it cannot be read, or its texts are not where an edit needs
     /// them.
     NotSound,
+    /// A refusal of a newer library, whose number this crate does not know.
+    Unknown {
+        /// The number.
+        number: u32,
+        /// The place.
+        place: usize,
+    },
 }
 
-impl Error {
-    /// What a refusal means in a call with this schema (empty if it has none) and column (0 if it has none).
-    pub(crate) fn new(refusal: Refusal, schema: &[u8], asked: usize) -> Error {
-        let place = refusal.place;
-        match refusal.number {
-            1 => Error::BadRecord {
-                at: place,
-                column: column_at(schema, place).unwrap_or(0),
-            },
-            2 => Error::BadSchema {
-                at: place,
-                column: column_at(schema, place),
-            },
-            3 => Error::RowTooShort,
-            4 => Error::RowTooLong,
-            5 => Error::WrongColumnCount,
-            6 => Error::WrongVarlenCount,
-            7 => Error::BadRange { column: place },
-            8 => Error::NoValue { column: place },
-            9 => Error::NoSuchColumn { column: asked },
-            10 => Error::BadValueList { at: place },
-            11 => Error::WrongKind { column: place },
-            12 => Error::Unsuitable { column: place },
-            13 => Error::RowLimit,
-            14 => Error::NoRoom,
-            15 => Error::NotSound,
-            number => unreachable!("the library refuses with 1 to 15, not {number}"),
-        }
-    }
+/// A column as an error names it. It prints as `column 1 (unit)`, or `column 1` if it has no name.
+#[derive(Debug, Clone, PartialEq, Eq)]
+pub struct ColumnLabel {
+    number: usize,
+    name: Option<Box<str>>,
+}
 
-    /// The number of the refusal.
+/// What is wrong with a schema.
+#[derive(Debug, Clone, PartialEq, Eq)]
+#[non_exhaustive]
+pub enum SchemaFault {
+    /// There are more than 256 columns.
+    TooManyColumns,
+    /// A precision outside 1 to 38, or a scale above it.
+    Precision {
+        /// The column.
+        column: ColumnLabel,
+        /// Its type.
+        data_type: DataType,
+    },
+    /// Rows would be above 65,535 bytes without any text.
+    RowsTooLong,
+    /// An earlier column has the same name.
+    SameName {
+        /// The later of the two.
+        column: ColumnLabel,
+    },
+}
+
+/// Why a type does not hold a value.
+#[derive(Debug, Clone, Copy, PartialEq, Eq)]
+#[non_exhaustive]
+pub enum Misfit {
+    /// A text has more bytes.
+    Bytes(usize),
+    /// A number has another scale.
+    Scale(u8),
+    /// A number has more digits.
+    Digits(u32),
+    /// A bit string has another length.
+    Bits(u16),
+    /// A day lies outside the range: days from 1970-01-01.
+    Day(i32),
+    /// A time of day or a timestamp lies outside the range: microseconds.
+    Micros(i64),
+    /// Another reason, of a newer library.
+    Other,
+}
+
+impl core::error::Error for Error {}
+
+impl Error {
+    /// The number of the refusal in the format's table.
     pub fn number(&self) -> u32 {
         match self {
             Error::BadRecord { .. } => 1,
             Error::BadSchema { .. } => 2,
-            Error::RowTooShort => 3,
-            Error::RowTooLong => 4,
-            Error::WrongColumnCount => 5,
-            Error::WrongVarlenCount => 6,
+            Error::RowTooShort { .. } => 3,
+            Error::RowTooLong { .. } => 4,
+            Error::WrongColumnCount { .. } => 5,
+            Error::WrongVarcharCount { .. } => 6,
             Error::BadRange { .. } => 7,
             Error::NoValue { .. } => 8,
-            Error::NoSuchColumn { .. } => 9,
+            Error::NoSuchColumn { .. } | Error::NoSuchName { .. } => 9,
             Error::BadValueList { .. } => 10,
-            Error::WrongKind { .. } => 11,
+            Error::WrongKind { .. }
+            | Error::NullInSet { .. }
+            | Error::NoText { .. }
+            | Error::NotReadAs { .. } => 11,
             Error::Unsuitable { .. } => 12,
             Error::RowLimit => 13,
             Error::NoRoom => 14,
             Error::NotSound => 15,
+            Error::Unknown { number, .. } => *number,
         }
     }
 
     /// The place of the refusal: a byte of the schema for 1 and 2 and of the value list for 10, a column for 7, 8, 11
     /// and 12, else 0.
     pub fn place(&self) -> usize {
-        match *self {
+        match self {
             Error::BadRecord { at, .. }
             | Error::BadSchema { at, .. }
-            | Error::BadValueList { at } => at,
+            | Error::BadValueList { at, .. } => *at,
             Error::BadRange { column }
-            | Error::NoValue { column }
-            | Error::WrongKind { column }
-            | Error::Unsuitable { column } => column,
+            | Error::NoValue { column, .. }
+            | Error::WrongKind { column, .. }
+            | Error::NullInSet { column }
+            | Error::NoText { column, .. }
+            | Error::NotReadAs { column, .. }
+            | Error::Unsuitable { column, .. } => column.number,
+            Error::Unknown { place, .. } => *place,
             _ => 0,
         }
     }
 }
 
-/// Column and rule in plain words, and the number.
-impl fmt::Display for Error {
-    fn fmt(&self, f: &mut fmt::Formatter<'_>) -> fmt::Result {
-        match self {
-            Error::BadRecord { column, .. } => {
-                write!(f, "schema, column {column}: the type is unknown or cut off")
-            }
-            Error::BadSchema {
-                column: Some(column @ 256..),
-                ..
-            } => {
-                write!(
-                    f,
-                    "schema, column {column}: a schema has at most 256 columns"
-                )
-            }
-            Error::BadSchema {
-                column: Some(column),
-                ..
-            } => write!(
-                f,
-                "schema, column {column}: a precision is 1 to 38, and a scale not above it"
-            ),
-            Error::BadSchema { column: None, .. } => {
-                write!(f, "schema: its rows would pass 65,535 bytes")
-            }
-            Error::RowTooShort => write!(
-                f,
-                "the row is shorter than its header says, or than every row of the schema"
-            ),
-            Error::RowTooLong => write!(f, "the row is above 65,535 bytes"),
-            Error::WrongColumnCount => {
-                write!(f, "the row does not have as many columns as the schema")
-            }
-            Error::WrongVarlenCount => {
-                write!(f, "the row does not have as many Varchars as the schema")
-            }
-            Error::BadRange { column } => write!(f, "column {column}: its text leaves the row"),
-            Error::NoValue { column } => {
-                write!(f, "column {column}: its bytes are no value of its type")
-            }
-            Error::NoSuchColumn { column } => write!(f, "there is no column {column}"),
-            Error::BadValueList { .. } => {
-                write!(f, "the values are not one for each column, or have more than 65,535 bytes of text")
-            }
-            Error::WrongKind { column } => {
-                write!(f, "column {column}: its type holds values of another kind")
-            }
-            Error::Unsuitable { column } => {
-                write!(f, "column {column}: the value does not suit its type")
-            }
-            Error::RowLimit => write!(f, "the row would pass 65,535 bytes"),
-            Error::NoRoom => write!(f, "the buffer is too short for the row"),
-            Error::NotSound => write!(f, "the row is not sound, so it cannot be edited"),
-        }?;
-        write!(f, " ({})", self.number())
+impl ColumnLabel {
+    pub(crate) fn of(columns: &[Column], number: usize) -> ColumnLabel {
+        let name = columns.get(number).and_then(Column::name).map(Box::from);
+        ColumnLabel { number, name }
+    }
+
+    /// The column's number.
+    pub fn number(&self) -> usize {
+        self.number
+    }
+
+    /// The column's name, if it has one.
+    pub fn name(&self) -> Option<&str> {
+        self.name.as_deref()
     }
 }
-
-impl std::error::Error for Error {}

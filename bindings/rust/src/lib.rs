@@ -5,47 +5,80 @@
 //! and values into their bytes and back, and checks nothing again. Columns count from 0.
 //!
 //! ```
-//! use rook_row::{DataType, Error, Row, Schema, Value};
+//! use rook_row::{DataType, Error, RowBuf, Schema, Value};
 //!
-//! // Platform occupations: platform, unit, cars.
-//! let schema = Schema::new(&[DataType::Varchar(4), DataType::Varchar(16), DataType::SmallInt]);
-//! let mut row = Row::build(
-//!     &schema,
-//!     &[Value::Varchar("7".into()), Value::Varchar("ET 41".into()), Value::Null],
-//! )?;
-//! assert_eq!(row.text(&schema, 1)?, Some("ET 41"));
+//! // Platform occupations.
+//! let schema = Schema::new([
+//!     ("platform", DataType::Varchar(4)),
+//!     ("unit", DataType::Varchar(16)),
+//!     ("cars", DataType::SmallInt),
+//! ])?;
+//! let mut row = RowBuf::build(&schema, &["7".into(), "ET 41".into(), Value::Null])?;
+//! assert_eq!(row.get::<&str>(&schema, "unit")?, "ET 41");
+//! assert_eq!(row.get::<Option<i16>>(&schema, "cars")?, None);
 //!
-//! row.set(&schema, 0, &Value::Varchar("12b".into()))?; // the row grows
-//! row.set(&schema, 2, &Value::SmallInt(4))?;
-//! row.set_null(&schema, 1)?;
-//! assert_eq!(
-//!     row.read(&schema)?,
-//!     [Value::Varchar("12b".into()), Value::Null, Value::SmallInt(4)]
-//! );
+//! row.set(&schema, "platform", "12b")?; // the row grows
+//! row.set(&schema, "cars", 4i16)?;
+//! row.set_null(&schema, "unit")?;
+//! assert_eq!(row.read(&schema)?, ["12b".into(), Value::Null, 4i16.into()]);
 //!
 //! // A refusal changes nothing, and says what the matter is.
-//! let refused = row.set(&schema, 0, &Value::Varchar("depot west".into())).unwrap_err();
-//! assert_eq!(refused, Error::Unsuitable { column: 0 });
+//! let refused = row.set(&schema, "platform", "depot west").unwrap_err();
+//! assert_eq!(refused.to_string(), "column 0 (platform): 10 bytes do not fit VARCHAR(4) (12)");
 //! assert_eq!((refused.number(), refused.place()), (12, 0));
-//! assert_eq!(refused.to_string(), "column 0: the value does not suit its type (12)");
-//! assert_eq!(row.text(&schema, 0)?, Some("12b"));
+//! assert_eq!(row.get::<&str>(&schema, "platform")?, "12b");
 //! # Ok::<(), Error>(())
 //! ```
 //!
-//! [`Row`] owns its bytes or borrows them for reading. [`RowMut`] writes to lent memory. [`raw`] has the calls
-//! themselves: slices in, numbers out.
+//! [`RowRef`] borrows its bytes, [`RowBuf`] owns them, as `str` and `String` do; [`RowMut`] edits a row in lent
+//! memory. For many rows of one schema there are [`Reader`], [`Builder`] and [`Editor`], which keep their memory.
+//! [`raw`] has the calls themselves: slices in, numbers out.
+//!
+//! The crate needs no more than `alloc`. Its features: `chrono` (chrono's dates and times as values), `serde` (types,
+//! schemas and values), and `std`, which is on if nothing is said.
 
-#![warn(missing_docs)]
+#![cfg_attr(not(test), no_std)]
+#![deny(missing_docs)]
+#![warn(clippy::undocumented_unsafe_blocks)]
 
+extern crate alloc;
+
+mod bits;
+mod builder;
+mod calendar;
+#[cfg(feature = "chrono")]
+mod chrono;
+mod convert;
+mod data_type;
+mod editor;
 mod error;
+mod list;
+mod numeric;
+mod parse;
 pub mod raw;
+mod reader;
 mod row;
+mod row_buf;
+mod row_mut;
 mod schema;
+#[cfg(feature = "serde")]
+mod serde;
 mod value;
 
-pub use error::Error;
-pub use row::{Row, RowMut};
-pub use schema::{DataType, Schema};
+pub use bits::Bits;
+pub use builder::Builder;
+pub use calendar::{Date, Time, Timestamp};
+pub use convert::{ConvertError, FromValue, IntoValue};
+pub use data_type::DataType;
+pub use editor::Editor;
+pub use error::{ColumnLabel, Error, Misfit, SchemaFault};
+pub use numeric::Numeric;
+pub use parse::ParseError;
+pub use reader::{Columns, PlaceAsked, Reader, Values};
+pub use row::RowRef;
+pub use row_buf::RowBuf;
+pub use row_mut::RowMut;
+pub use schema::{Column, ColumnIndex, Schema};
 pub use value::Value;
 
 /// The greatest length of a row, and of the texts of one value list.

@@ -23,13 +23,15 @@
 //! assert_eq!(raw::set(&schema, &mut buffer, 15, 1, &[9, 0, 0, 5, 0], b"ABCDE"), Ok(18));
 //! assert_eq!(raw::set_null(&schema, &mut buffer, 18, 1), Ok(13));
 //! ```
-use std::fmt;
-use std::ops::Range;
+use core::fmt;
+use core::ops::Range;
+
+pub(crate) mod records;
 
 /// Why a call refused: the format's number, and the place that goes with it.
 #[derive(Debug, Clone, Copy, PartialEq, Eq, Hash)]
 pub struct Refusal {
-    /// 1 to 15.
+    /// 1 to 15; a newer library may have more.
     pub number: u32,
     /// A byte of the schema or the value list, a column, or 0.
     pub place: usize,
@@ -41,7 +43,7 @@ impl fmt::Display for Refusal {
     }
 }
 
-impl std::error::Error for Refusal {}
+impl core::error::Error for Refusal {}
 
 #[repr(C)]
 struct RowAnswer {
@@ -187,7 +189,8 @@ fn done<T>(number: u32, place: usize, result: T) -> Result<T, Refusal> {
 
 /// A row of nulls at the front of `out`; hands back its length.
 pub fn fresh(schema: &[u8], out: &mut [u8]) -> Result<usize, Refusal> {
-    // SAFETY, here and below: pointers and lengths are those of slices; what is written to is borrowed alone.
+    // SAFETY: each pointer and length is that of a slice, borrowed for the call; `out` is borrowed alone. So the call
+    // may read the one and write the other, and by its contract touches nothing else.
     let answer =
         unsafe { rook_row_fresh(schema.as_ptr(), schema.len(), out.as_mut_ptr(), out.len()) };
     done(answer.number, answer.place, answer.length)
@@ -195,6 +198,7 @@ pub fn fresh(schema: &[u8], out: &mut [u8]) -> Result<usize, Refusal> {
 
 /// The row of a value list at the front of `out`; hands back its length. Texts and bit strings are ranges of `text`.
 pub fn build(schema: &[u8], values: &[u8], text: &[u8], out: &mut [u8]) -> Result<usize, Refusal> {
+    // SAFETY: as in `fresh`; `out` is borrowed alone.
     let answer = unsafe {
         rook_row_build(
             schema.as_ptr(),
@@ -214,6 +218,7 @@ pub fn build(schema: &[u8], values: &[u8], text: &[u8], out: &mut [u8]) -> Resul
 /// column of the schema, null for an unwanted one; texts are ranges of the row. 18 bytes a column are always
 /// enough.
 pub fn read(schema: &[u8], row: &[u8], wanted: &[u16], out: &mut [u8]) -> Result<usize, Refusal> {
+    // SAFETY: as in `fresh`; `out` is borrowed alone.
     let answer = unsafe {
         rook_row_read(
             schema.as_ptr(),
@@ -239,6 +244,7 @@ pub fn set(
     values: &[u8],
     text: &[u8],
 ) -> Result<usize, Refusal> {
+    // SAFETY: as in `fresh`; `buf` is borrowed alone.
     let answer = unsafe {
         rook_row_set(
             schema.as_ptr(),
@@ -263,6 +269,7 @@ pub fn set_null(
     row_length: usize,
     column: usize,
 ) -> Result<usize, Refusal> {
+    // SAFETY: as in `fresh`; `buf` is borrowed alone.
     let answer = unsafe {
         rook_row_set_null(
             schema.as_ptr(),
@@ -285,6 +292,7 @@ pub fn handle_set(
     values: &[u8],
     text: &[u8],
 ) -> Result<usize, Refusal> {
+    // SAFETY: as in `fresh`; `handle` and `buf` are borrowed alone.
     let answer = unsafe {
         rook_row_handle_set(
             handle,
@@ -309,6 +317,7 @@ pub fn handle_set_null(
     buf: &mut [u8],
     column: usize,
 ) -> Result<usize, Refusal> {
+    // SAFETY: as in `fresh`; `handle` and `buf` are borrowed alone.
     let answer = unsafe {
         rook_row_handle_set_null(
             handle,
@@ -325,6 +334,7 @@ pub fn handle_set_null(
 /// Where the text of a column stands in the row: a Char with its blanks. A null has 0..0; a text that is empty and
 /// not null has its own start.
 pub fn text(schema: &[u8], row: &[u8], column: usize) -> Result<Range<usize>, Refusal> {
+    // SAFETY: as in `fresh`; the call writes nothing.
     let answer = unsafe {
         rook_row_text(
             schema.as_ptr(),
@@ -343,6 +353,7 @@ pub fn text(schema: &[u8], row: &[u8], column: usize) -> Result<Range<usize>, Re
 
 /// Whether two rows of one schema have the same content. Floats compare by value, and every NaN equals every NaN.
 pub fn same_content(schema: &[u8], a: &[u8], b: &[u8]) -> Result<bool, Refusal> {
+    // SAFETY: as in `fresh`; the call writes nothing.
     let answer = unsafe {
         rook_row_same_content(
             schema.as_ptr(),
@@ -358,11 +369,13 @@ pub fn same_content(schema: &[u8], a: &[u8], b: &[u8]) -> Result<bool, Refusal> 
 
 /// Whether a column of a row is null, by the row's own header and bitmap.
 pub fn is_null(row: &[u8], column: usize) -> Result<bool, Refusal> {
+    // SAFETY: as in `fresh`; the call writes nothing.
     let answer = unsafe { rook_row_is_null(row.as_ptr(), row.len(), column) };
     done(answer.number, answer.place, answer.flag == 1)
 }
 
 /// Whether bytes are text by RFC 3629 (UTF-8).
 pub fn text_valid(text: &[u8]) -> bool {
+    // SAFETY: as in `fresh`; the call writes nothing.
     unsafe { rook_text_valid(text.as_ptr(), text.len()) == 1 }
 }

@@ -1,158 +1,261 @@
 //! The columns of a table.
-use crate::raw::Refusal;
-use crate::{Error, MAX_LENGTH};
+use crate::error::{Call, SchemaFault};
+use crate::raw::records::Plan;
+use crate::{raw, ColumnLabel, DataType, Error, MAX_LENGTH};
+use alloc::boxed::Box;
+use alloc::string::String;
+use alloc::sync::Arc;
+use alloc::vec;
+use alloc::vec::Vec;
+use core::hash::{Hash, Hasher};
 
-/// The type of a column. Lengths are in bytes, of a `Bit` in bits.
-#[derive(Debug, Clone, Copy, PartialEq, Eq, Hash)]
-pub enum DataType {
-    /// 16 bits, signed.
-    SmallInt,
-    /// 32 bits, signed.
-    Int,
-    /// 64 bits, signed.
-    BigInt,
-    /// A float of 32 bits.
-    Real,
-    /// A float of 64 bits.
-    DoublePrecision,
-    /// An exact decimal.
-    Numeric {
-        /// Decimal digits in all, 1 to 38.
-        precision: u8,
-        /// Digits behind the point, at most the precision.
-        scale: u8,
-    },
-    /// The same as `Numeric`.
-    Decimal {
-        /// Decimal digits in all, 1 to 38.
-        precision: u8,
-        /// Digits behind the point, at most the precision.
-        scale: u8,
-    },
-    /// True or false.
-    Bool,
-    /// Text of exactly so many bytes, filled up with blanks.
-    Char(u16),
-    /// The same as `Char`.
-    Character(u16),
-    /// Text of at most so many bytes.
-    Varchar(u16),
-    /// A day of the years 1 to 9999.
-    Date,
-    /// A time of day, in microseconds.
-    Time,
-    /// Exactly so many bits.
-    Bit(u16),
-    /// Day and time, in microseconds.
-    Timestamp,
+/// A column of a schema: its type, and its name if it has one. A [`DataType`] alone is one without a name, a pair of
+/// name and type one with it.
+#[derive(Debug, Clone, PartialEq, Eq, Hash)]
+pub struct Column {
+    name: Option<Box<str>>,
+    data_type: DataType,
 }
 
-impl DataType {
-    /// The record of a schema: a byte of kind, then what the type was declared with.
-    fn write(self, schema: &mut Vec<u8>) {
-        let sized = |kind, n: u16| [kind, n as u8, (n >> 8) as u8];
-        match self {
-            DataType::SmallInt => schema.push(1),
-            DataType::Int => schema.push(2),
-            DataType::BigInt => schema.push(3),
-            DataType::Real => schema.push(4),
-            DataType::DoublePrecision => schema.push(5),
-            DataType::Numeric { precision, scale } => schema.extend([6, precision, scale]),
-            DataType::Decimal { precision, scale } => schema.extend([7, precision, scale]),
-            DataType::Bool => schema.push(8),
-            DataType::Char(n) => schema.extend(sized(9, n)),
-            DataType::Character(n) => schema.extend(sized(10, n)),
-            DataType::Varchar(n) => schema.extend(sized(11, n)),
-            DataType::Date => schema.push(12),
-            DataType::Time => schema.push(13),
-            DataType::Bit(n) => schema.extend(sized(14, n)),
-            DataType::Timestamp => schema.push(15),
-        }
+impl Column {
+    /// Its name.
+    pub fn name(&self) -> Option<&str> {
+        self.name.as_deref()
+    }
+
+    /// Its type.
+    pub fn data_type(&self) -> DataType {
+        self.data_type
     }
 }
 
-/// The types of a table's columns, as the bytes that every call gets. Making one checks nothing: the calls do, and
-/// refuse with 1 or 2.
-#[derive(Debug, Clone, PartialEq, Eq, Hash)]
-pub struct Schema {
+impl From<DataType> for Column {
+    fn from(data_type: DataType) -> Column {
+        let name = None;
+        Column { name, data_type }
+    }
+}
+
+impl From<&DataType> for Column {
+    fn from(data_type: &DataType) -> Column {
+        (*data_type).into()
+    }
+}
+
+impl<N: Into<String>> From<(N, DataType)> for Column {
+    fn from((name, data_type): (N, DataType)) -> Column {
+        let name = Some(name.into().into_boxed_str());
+        Column { name, data_type }
+    }
+}
+
+impl<N: Into<String> + Clone> From<&(N, DataType)> for Column {
+    fn from(column: &(N, DataType)) -> Column {
+        column.clone().into()
+    }
+}
+
+/// The columns of a table, at most 256, checked when it is made. A copy is cheap: it shares what it holds.
+///
+/// ```
+/// use rook_row::{DataType, Schema};
+///
+/// let schema = Schema::new([("platform", DataType::Varchar(4)), ("cars", DataType::SmallInt)])?;
+/// assert_eq!(schema.column("cars"), Ok(1));
+/// assert!(schema.types().eq([DataType::Varchar(4), DataType::SmallInt]));
+///
+/// let refused = Schema::new([DataType::Numeric { precision: 4, scale: 5 }]).unwrap_err();
+/// assert_eq!((refused.number(), refused.place()), (2, 0));
+/// # Ok::<(), rook_row::Error>(())
+/// ```
+#[derive(Debug, Clone)]
+pub struct Schema(Arc<Inner>);
+
+/// The columns, and what is worked out from them once.
+#[derive(Debug)]
+struct Inner {
+    columns: Vec<Column>,
     bytes: Vec<u8>,
-    columns: usize,
-    room: usize,
+    /// The numbers of the columns that have names, by rising name.
+    named: Vec<u16>,
+    minimum: usize,
+    plan: Plan,
+}
+
+/// Two schemas are equal if their columns have the same types and names.
+impl PartialEq for Schema {
+    fn eq(&self, other: &Schema) -> bool {
+        self.columns() == other.columns()
+    }
+}
+
+impl Eq for Schema {}
+
+impl Hash for Schema {
+    fn hash<H: Hasher>(&self, state: &mut H) {
+        self.columns().hash(state);
+    }
 }
 
 impl Schema {
-    /// The schema of these columns.
-    pub fn new(types: &[DataType]) -> Schema {
-        types.iter().copied().collect()
+    /// The schema of these columns: types, or pairs of name and type. Refuses with 2: more than 256 columns, a
+    /// precision outside 1 to 38, a scale above the precision, rows above 65,535 bytes, or a name that two columns
+    /// have.
+    pub fn new<C: Into<Column>>(columns: impl IntoIterator<Item = C>) -> Result<Schema, Error> {
+        Schema::checked(columns.into_iter().map(Into::into).collect())
     }
 
-    /// The schema of such bytes as [`as_bytes`](Schema::as_bytes) gives.
-    pub fn from_bytes(bytes: impl Into<Vec<u8>>) -> Schema {
-        let bytes = bytes.into();
-        let columns = records(&bytes).count();
-        let room = (4 + records(&bytes).map(most_bytes).sum::<usize>()).min(MAX_LENGTH);
-        Schema {
-            bytes,
-            columns,
-            room,
+    /// The schema of such bytes as [`as_bytes`](Schema::as_bytes) gives, without names. Refuses with 1 (a record of
+    /// unknown kind, or cut off) and as [`new`](Schema::new).
+    pub fn from_bytes(bytes: &[u8]) -> Result<Schema, Error> {
+        let (columns, known) = parse(bytes);
+        // The library refuses it, unless it is newer and knows a type that this crate does not.
+        match raw::fresh(bytes, &mut vec![0; MAX_LENGTH]) {
+            Err(refusal) => Err(Error::new(refusal, Call::Schema(&columns))),
+            Ok(_) if known < bytes.len() => Err(Error::BadRecord {
+                at: known,
+                column: columns.len(),
+            }),
+            Ok(_) => Schema::checked(columns),
         }
     }
 
-    /// The records of the columns, end to end.
+    fn checked(columns: Vec<Column>) -> Result<Schema, Error> {
+        let mut bytes = Vec::new();
+        columns
+            .iter()
+            .for_each(|column| column.data_type.write(&mut bytes));
+        let minimum = raw::fresh(&bytes, &mut vec![0; MAX_LENGTH])
+            .map_err(|refusal| Error::new(refusal, Call::Schema(&columns)))?;
+        let mut named: Vec<u16> = (0..columns.len() as u16)
+            .filter(|&number| columns[usize::from(number)].name.is_some())
+            .collect();
+        named.sort_by_key(|&number| &columns[usize::from(number)].name);
+        let name = |number: u16| &columns[usize::from(number)].name;
+        if let Some(pair) = named.windows(2).find(|pair| name(pair[0]) == name(pair[1])) {
+            let number = usize::from(pair[1]);
+            return Err(Error::BadSchema {
+                at: record_starts(&columns).nth(number).unwrap_or(0),
+                fault: SchemaFault::SameName {
+                    column: ColumnLabel::of(&columns, number),
+                },
+            });
+        }
+        Ok(Schema(Arc::new(Inner {
+            plan: Plan::all(&columns),
+            columns,
+            bytes,
+            named,
+            minimum,
+        })))
+    }
+
+    /// The records of the columns, end to end: the bytes that every call gets. Names are not in them.
     pub fn as_bytes(&self) -> &[u8] {
-        &self.bytes
+        &self.0.bytes
+    }
+
+    /// The columns.
+    pub fn columns(&self) -> &[Column] {
+        &self.0.columns
+    }
+
+    /// The types of the columns.
+    pub fn types(&self) -> impl ExactSizeIterator<Item = DataType> + '_ {
+        self.0.columns.iter().map(|column| column.data_type)
     }
 
     /// The number of columns.
-    pub fn columns(&self) -> usize {
-        self.columns
+    pub fn len(&self) -> usize {
+        self.0.columns.len()
     }
 
-    /// What a refusal means in a call with this schema and this column (0 if it has none).
-    pub(crate) fn refused(&self, column: usize) -> impl Fn(Refusal) -> Error + '_ {
-        move |refusal| Error::new(refusal, &self.bytes, column)
+    /// Whether there is no column.
+    pub fn is_empty(&self) -> bool {
+        self.0.columns.is_empty()
     }
 
-    /// As many bytes as a row whose texts have `text` bytes together can need.
-    pub(crate) fn room(&self, text: usize) -> usize {
-        (self.room + text).min(MAX_LENGTH)
+    /// The number of the column with this name. Refuses with 9.
+    pub fn column(&self, name: &str) -> Result<usize, Error> {
+        let found = self
+            .0
+            .named
+            .binary_search_by_key(&Some(name), |&number| self.name(usize::from(number)));
+        match found {
+            Ok(at) => Ok(usize::from(self.0.named[at])),
+            Err(_) => Err(Error::NoSuchName { name: name.into() }),
+        }
+    }
+
+    /// A column's name, if there is such a column and it has one.
+    pub fn name(&self, column: usize) -> Option<&str> {
+        self.0.columns.get(column)?.name()
+    }
+
+    /// A column's type, if there is such a column.
+    pub fn data_type(&self, column: usize) -> Option<DataType> {
+        self.0.columns.get(column).map(Column::data_type)
+    }
+
+    /// How a read of all columns is taken apart.
+    pub(crate) fn plan(&self) -> &Plan {
+        &self.0.plan
+    }
+
+    /// The length of a row without text: of the row of nulls.
+    pub fn minimum(&self) -> usize {
+        self.0.minimum
     }
 }
 
-impl FromIterator<DataType> for Schema {
-    fn from_iter<I: IntoIterator<Item = DataType>>(types: I) -> Schema {
-        let mut bytes = Vec::new();
-        types.into_iter().for_each(|ty| ty.write(&mut bytes));
-        Schema::from_bytes(bytes)
+/// The columns of a schema's bytes as far as they are known, and the bytes that they take.
+fn parse(bytes: &[u8]) -> (Vec<Column>, usize) {
+    let (mut columns, mut at) = (Vec::new(), 0);
+    while let Some((data_type, length)) = DataType::read(&bytes[at..]) {
+        columns.push(data_type.into());
+        at += length;
     }
+    (columns, at)
 }
 
-/// The records of a schema; the last one as far as it goes.
-fn records(mut rest: &[u8]) -> impl Iterator<Item = &[u8]> {
-    std::iter::from_fn(move || {
-        let length = match rest.first()? {
-            6 | 7 | 9 | 10 | 11 | 14 => 3,
-            _ => 1,
-        };
-        let (record, after) = rest.split_at(length.min(rest.len()));
-        rest = after;
-        Some(record)
+/// Where the record of each column begins.
+pub(crate) fn record_starts(columns: &[Column]) -> impl Iterator<Item = usize> + '_ {
+    let mut bytes = Vec::new();
+    columns.iter().map(move |column| {
+        let start = bytes.len();
+        column.data_type.write(&mut bytes);
+        start
     })
 }
 
-/// As many bytes as a column can take of a row, its text aside: a Numeric of 38 digits has 20. One more for its bit.
-fn most_bytes(record: &[u8]) -> usize {
-    match *record {
-        [9 | 10 | 14, low, high] => 1 + u16::from_le_bytes([low, high]) as usize,
-        _ => 21,
+/// A column by its number or its name.
+pub trait ColumnIndex {
+    /// The column's number. Refuses a name with 9; a number is returned as it is.
+    fn number(&self, schema: &Schema) -> Result<usize, Error>;
+}
+
+impl ColumnIndex for usize {
+    #[inline]
+    fn number(&self, _: &Schema) -> Result<usize, Error> {
+        Ok(*self)
     }
 }
 
-/// The column whose record begins at this byte of a schema.
-pub(crate) fn column_at(schema: &[u8], at: usize) -> Option<usize> {
-    let mut start = 0;
-    records(schema).position(|record| {
-        start += record.len();
-        start - record.len() == at
-    })
+impl ColumnIndex for str {
+    fn number(&self, schema: &Schema) -> Result<usize, Error> {
+        schema.column(self)
+    }
+}
+
+impl ColumnIndex for String {
+    fn number(&self, schema: &Schema) -> Result<usize, Error> {
+        schema.column(self)
+    }
+}
+
+impl<C: ColumnIndex + ?Sized> ColumnIndex for &C {
+    #[inline]
+    fn number(&self, schema: &Schema) -> Result<usize, Error> {
+        (**self).number(schema)
+    }
 }

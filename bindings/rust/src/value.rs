@@ -1,48 +1,60 @@
-//! The value of a column, and the lists in which values pass to the library and back.
-use std::borrow::Cow;
+//! The value of a column.
+use crate::{Bits, Date, Numeric, Time, Timestamp};
+use alloc::borrow::Cow;
+use core::cmp::Ordering;
+use core::fmt;
 
-/// The value of a column, its text or bits owned or borrowed. Equality is that of the parts: a NaN is unequal to
-/// itself, and every bit of a last byte counts. [`Row::same_content`](crate::Row::same_content) compares as the format
-/// does.
-#[derive(Debug, Clone, PartialEq)]
+/// The value of a column, its text or bits owned or borrowed. A value that was read borrows from the row's bytes.
+///
+/// Two values are equal as the format's same content has it: a Numeric by number and scale, a Bit by its bits, text
+/// by its bytes, floats by value, so that the two zeros are equal, and every NaN equals every NaN. Values of one kind
+/// have an order, texts by their bytes; there is none between kinds, between a null and a value, between Numerics of
+/// another scale, bit strings of another length, or a NaN and a number.
+///
+/// It prints as text: a Numeric with its sign and point, days and times by ISO 8601, bits as 0s and 1s.
+#[derive(Debug, Clone, Default)]
+#[non_exhaustive]
 pub enum Value<'a> {
-    /// No value. A [`build`](crate::Row::build) takes it, a [`set`](crate::Row::set) does not.
+    /// No value.
+    #[default]
     Null,
-    /// For a `SmallInt`.
+    /// Of a `SmallInt`.
     SmallInt(i16),
-    /// For an `Int`.
+    /// Of an `Int`.
     Int(i32),
-    /// For a `BigInt`.
+    /// Of a `BigInt`.
     BigInt(i64),
-    /// For a `Real`.
+    /// Of a `Real`.
     Real(f32),
-    /// For a `DoublePrecision`.
+    /// Of a `DoublePrecision`.
     DoublePrecision(f64),
-    /// For a `Numeric` or a `Decimal`, with the type's scale.
-    Numeric {
-        /// The number without its point: -1234 for -12.34.
-        unscaled: i128,
-        /// Digits behind the point.
-        scale: u8,
-    },
-    /// For a `Bool`.
+    /// Of a `Numeric` or a `Decimal`, with the type's scale.
+    Numeric(Numeric),
+    /// Of a `Bool`.
     Bool(bool),
-    /// For a `Char` or a `Character`; a read gives it with its blanks.
-    Char(Cow<'a, str>),
-    /// For a `Varchar`.
-    Varchar(Cow<'a, str>),
-    /// Days from 1970-01-01, from -719,162 to 2,932,896.
-    Date(i32),
-    /// Microseconds from midnight, from 0 to 86,399,999,999.
-    Time(i64),
-    /// For a `Bit`: the bits from the high one of the first byte on, as many bytes as they fill. What is left of the
-    /// last byte does not count; a build or a set writes zeros there, a read hands out what is stored.
-    Bit(Cow<'a, [u8]>),
-    /// Microseconds from 1970-01-01 00:00, from -62,135,596,800,000,000 to 253,402,300,799,999,999.
-    Timestamp(i64),
+    /// Of a `Char` or a `Character`, with the blanks up to its length when it was read; or of a `Varchar`.
+    Text(Cow<'a, str>),
+    /// Of a `Date`.
+    Date(Date),
+    /// Of a `Time`.
+    Time(Time),
+    /// Of a `Bit`.
+    Bit(Bits<'a>),
+    /// Of a `Timestamp`.
+    Timestamp(Timestamp),
+    /// Read by a newer library, of a kind that this crate does not know.
+    Unknown {
+        /// The kind's number in the value list.
+        kind: u8,
+    },
 }
 
-impl<'a> Value<'a> {
+impl Value<'_> {
+    /// Whether it is null.
+    pub fn is_null(&self) -> bool {
+        matches!(self, Value::Null)
+    }
+
     /// The same value with a text of its own.
     pub fn into_owned(self) -> Value<'static> {
         match self {
@@ -52,128 +64,103 @@ impl<'a> Value<'a> {
             Value::BigInt(n) => Value::BigInt(n),
             Value::Real(x) => Value::Real(x),
             Value::DoublePrecision(x) => Value::DoublePrecision(x),
-            Value::Numeric { unscaled, scale } => Value::Numeric { unscaled, scale },
+            Value::Numeric(n) => Value::Numeric(n),
             Value::Bool(b) => Value::Bool(b),
-            Value::Char(text) => Value::Char(text.into_owned().into()),
-            Value::Varchar(text) => Value::Varchar(text.into_owned().into()),
-            Value::Date(days) => Value::Date(days),
-            Value::Time(micros) => Value::Time(micros),
-            Value::Bit(bits) => Value::Bit(bits.into_owned().into()),
-            Value::Timestamp(micros) => Value::Timestamp(micros),
+            Value::Text(text) => Value::Text(Cow::Owned(text.into_owned())),
+            Value::Date(date) => Value::Date(date),
+            Value::Time(time) => Value::Time(time),
+            Value::Bit(bits) => Value::Bit(bits.into_owned()),
+            Value::Timestamp(timestamp) => Value::Timestamp(timestamp),
+            Value::Unknown { kind } => Value::Unknown { kind },
         }
     }
 
-    /// What a record has a range for.
-    pub(crate) fn text(&self) -> &[u8] {
+    /// The same value, its text borrowed from this one.
+    pub fn borrowed(&self) -> Value<'_> {
         match self {
-            Value::Char(text) | Value::Varchar(text) => text.as_bytes(),
-            Value::Bit(bits) => bits,
-            _ => &[],
+            Value::Text(text) => Value::Text(Cow::Borrowed(text)),
+            Value::Bit(bits) => Value::Bit(bits.borrowed()),
+            value => value.clone(),
         }
     }
 
-    /// The record of a value list: a byte of kind, then the value. Its text begins at `start` of the text area.
-    pub(crate) fn write(&self, list: &mut Vec<u8>, start: usize) {
-        let mut record = |kind, body: &[u8]| {
-            list.push(kind);
-            list.extend_from_slice(body);
-        };
-        // A number above 65,535 is cut, but then the text area is too long, and the library refuses it (10).
-        let range = |length: usize| (start as u16 as u32 | (length as u32) << 16).to_le_bytes();
+    /// What an error calls a value of this kind.
+    pub(crate) fn kind(&self) -> &'static str {
         match self {
-            Value::Null => record(0, &[]),
-            Value::SmallInt(n) => record(1, &n.to_le_bytes()),
-            Value::Int(n) => record(2, &n.to_le_bytes()),
-            Value::BigInt(n) => record(3, &n.to_le_bytes()),
-            Value::Real(x) => record(4, &x.to_le_bytes()),
-            Value::DoublePrecision(x) => record(5, &x.to_le_bytes()),
-            Value::Numeric { unscaled, scale } => {
-                record(6, &unscaled.to_le_bytes());
-                list.push(*scale);
-            }
-            Value::Bool(b) => record(7, &[*b as u8]),
-            Value::Char(text) => record(8, &range(text.len())),
-            Value::Varchar(text) => record(9, &range(text.len())),
-            Value::Date(days) => record(10, &days.to_le_bytes()),
-            Value::Time(micros) => record(11, &micros.to_le_bytes()),
-            Value::Bit(bits) => record(12, &range(bits.len())),
-            Value::Timestamp(micros) => record(13, &micros.to_le_bytes()),
-        }
-    }
-
-    /// The value of the first record, which is taken off the list.
-    ///
-    /// # Safety
-    /// `list` is what a read of `row` has written, or the rest of it.
-    unsafe fn take(list: &mut &[u8], row: &'a [u8]) -> Value<'a> {
-        let [kind] = front(list);
-        match kind {
-            0 => Value::Null,
-            1 => Value::SmallInt(i16::from_le_bytes(front(list))),
-            2 => Value::Int(i32::from_le_bytes(front(list))),
-            3 => Value::BigInt(i64::from_le_bytes(front(list))),
-            4 => Value::Real(f32::from_le_bytes(front(list))),
-            5 => Value::DoublePrecision(f64::from_le_bytes(front(list))),
-            6 => {
-                let unscaled = i128::from_le_bytes(front(list));
-                let [scale] = front(list);
-                Value::Numeric { unscaled, scale }
-            }
-            7 => Value::Bool(front(list) == [1]),
-            8 => Value::Char(text(part(list, row)).into()),
-            9 => Value::Varchar(text(part(list, row)).into()),
-            10 => Value::Date(i32::from_le_bytes(front(list))),
-            11 => Value::Time(i64::from_le_bytes(front(list))),
-            12 => Value::Bit(part(list, row).into()),
-            13 => Value::Timestamp(i64::from_le_bytes(front(list))),
-            kind => unreachable!("a value list has kinds 0 to 13, not {kind}"),
+            Value::Null => "null",
+            Value::SmallInt(_) => "a SMALLINT",
+            Value::Int(_) => "an INT",
+            Value::BigInt(_) => "a BIGINT",
+            Value::Real(_) => "a REAL",
+            Value::DoublePrecision(_) => "a DOUBLE PRECISION",
+            Value::Numeric(_) => "a NUMERIC",
+            Value::Bool(_) => "a BOOLEAN",
+            Value::Text(_) => "a text",
+            Value::Date(_) => "a DATE",
+            Value::Time(_) => "a TIME",
+            Value::Bit(_) => "a BIT string",
+            Value::Timestamp(_) => "a TIMESTAMP",
+            Value::Unknown { .. } => "a value of unknown kind",
         }
     }
 }
 
-/// The values as a list and its text area.
-pub(crate) fn write_list(values: &[Value<'_>]) -> (Vec<u8>, Vec<u8>) {
-    let (mut list, mut text) = (Vec::new(), Vec::new());
-    for value in values {
-        value.write(&mut list, text.len());
-        text.extend_from_slice(value.text());
+impl PartialEq for Value<'_> {
+    fn eq(&self, other: &Value<'_>) -> bool {
+        self.partial_cmp(other) == Some(Ordering::Equal)
     }
-    (list, text)
 }
 
-/// The values of a list.
-///
-/// # Safety
-/// `list` is what a read of `row` has written.
-pub(crate) unsafe fn read_list<'a>(
-    mut list: &[u8],
-    row: &'a [u8],
-    columns: usize,
-) -> Vec<Value<'a>> {
-    let mut values = Vec::with_capacity(columns);
-    while !list.is_empty() {
-        values.push(Value::take(&mut list, row));
+impl Eq for Value<'_> {}
+
+impl PartialOrd for Value<'_> {
+    fn partial_cmp(&self, other: &Value<'_>) -> Option<Ordering> {
+        match (self, other) {
+            (Value::Null, Value::Null) => Some(Ordering::Equal),
+            (Value::SmallInt(a), Value::SmallInt(b)) => Some(a.cmp(b)),
+            (Value::Int(a), Value::Int(b)) => Some(a.cmp(b)),
+            (Value::BigInt(a), Value::BigInt(b)) => Some(a.cmp(b)),
+            (Value::Real(a), Value::Real(b)) => by_value((*a).into(), (*b).into()),
+            (Value::DoublePrecision(a), Value::DoublePrecision(b)) => by_value(*a, *b),
+            (Value::Numeric(a), Value::Numeric(b)) => a.partial_cmp(b),
+            (Value::Bool(a), Value::Bool(b)) => Some(a.cmp(b)),
+            (Value::Text(a), Value::Text(b)) => Some(a.cmp(b)),
+            (Value::Date(a), Value::Date(b)) => Some(a.cmp(b)),
+            (Value::Time(a), Value::Time(b)) => Some(a.cmp(b)),
+            (Value::Bit(a), Value::Bit(b)) => a.partial_cmp(b),
+            (Value::Timestamp(a), Value::Timestamp(b)) => Some(a.cmp(b)),
+            (Value::Unknown { kind: a }, Value::Unknown { kind: b }) if a == b => {
+                Some(Ordering::Equal)
+            }
+            _ => None,
+        }
     }
-    values
 }
 
-/// The first bytes of a list, which are taken off it.
-fn front<const N: usize>(list: &mut &[u8]) -> [u8; N] {
-    let (head, tail) = list.split_at(N);
-    *list = tail;
-    head.try_into().expect("N bytes")
+fn by_value(a: f64, b: f64) -> Option<Ordering> {
+    match a.is_nan() && b.is_nan() {
+        true => Some(Ordering::Equal),
+        false => a.partial_cmp(&b),
+    }
 }
 
-/// The part of the row that the range at the front of the list says.
-fn part<'a>(list: &mut &[u8], row: &'a [u8]) -> &'a [u8] {
-    let start = u16::from_le_bytes(front(list)) as usize;
-    let length = u16::from_le_bytes(front(list)) as usize;
-    &row[start..start + length]
-}
-
-/// # Safety
-/// `bytes` is the text of a column that the library has read: valid by its contract, since `readSlot`
-/// (stored_form/specs/Read) hands a text out only where `isText` holds, RFC 3629.
-pub(crate) unsafe fn text(bytes: &[u8]) -> &str {
-    std::str::from_utf8_unchecked(bytes)
+impl fmt::Display for Value<'_> {
+    fn fmt(&self, f: &mut fmt::Formatter<'_>) -> fmt::Result {
+        match self {
+            Value::Null => f.pad("null"),
+            Value::SmallInt(n) => n.fmt(f),
+            Value::Int(n) => n.fmt(f),
+            Value::BigInt(n) => n.fmt(f),
+            Value::Real(x) => x.fmt(f),
+            Value::DoublePrecision(x) => x.fmt(f),
+            Value::Numeric(n) => n.fmt(f),
+            Value::Bool(b) => b.fmt(f),
+            Value::Text(text) => text.fmt(f),
+            Value::Date(date) => date.fmt(f),
+            Value::Time(time) => time.fmt(f),
+            Value::Bit(bits) => bits.fmt(f),
+            Value::Timestamp(timestamp) => timestamp.fmt(f),
+            Value::Unknown { kind } => write!(f, "(kind {kind})"),
+        }
+    }
 }

@@ -1,5 +1,7 @@
 //! Random schemas, values and edits: what goes in comes out, and there is always room.
-use rook_row::{DataType, Row, RowMut, Schema, Value};
+use rook_row::{
+    Bits, Builder, DataType, Date, Editor, Numeric, Reader, RowMut, Schema, Time, Timestamp, Value,
+};
 
 /// Numbers that look random (xorshift).
 struct Random(u64);
@@ -64,25 +66,22 @@ impl Random {
                 let wide = (x as i128) << 63 | self.bits() as i128 >> 1;
                 let unscaled = wide % 10i128.pow(precision as u32);
                 let unscaled = if x & 1 == 0 { unscaled } else { -unscaled };
-                Value::Numeric { unscaled, scale }
+                Numeric::new(unscaled, scale).into()
             }
             DataType::Bool => Value::Bool(x & 1 == 0),
             DataType::Char(n) | DataType::Character(n) => {
                 let mut text = self.text(n);
                 text += &" ".repeat(n as usize - text.len());
-                Value::Char(text.into())
+                text.into()
             }
-            DataType::Varchar(n) => Value::Varchar(self.text(n).into()),
-            DataType::Date => Value::Date(self.below(3_652_059) as i32 - 719_162),
-            DataType::Time => Value::Time(self.below(86_400_000_000) as i64),
+            DataType::Varchar(n) => self.text(n).into(),
+            DataType::Date => Date::from_days(self.below(3_652_059) as i32 - 719_162).into(),
+            DataType::Time => Time::from_micros(self.below(86_400_000_000) as i64).into(),
             DataType::Bit(n) => {
-                let mut bits = vec![x as u8; (n as usize).div_ceil(8)];
-                if let (1.., Some(last)) = (n % 8, bits.last_mut()) {
-                    *last &= 0xFF << (8 - n % 8);
-                }
-                Value::Bit(bits.into())
+                let bytes = vec![x as u8; (n as usize).div_ceil(8)];
+                Bits::new(bytes, n).expect("so many bytes").into()
             }
-            DataType::Timestamp => Value::Timestamp(x as i64 % 62_135_596_800_000_000),
+            _ => Timestamp::from_micros(x as i64 % 62_135_596_800_000_000).into(),
         }
     }
 
@@ -94,19 +93,39 @@ impl Random {
     }
 }
 
+/// The wanted columns by a reader, in the asked order.
+fn check_read(random: &mut Random, schema: &Schema, values: &[Value], row: &[u8]) {
+    let count = random.below(schema.len() as u64 + 2);
+    let wanted: Vec<usize> = match schema.len() {
+        0 => vec![],
+        n => (0..count)
+            .map(|_| random.below(n as u64) as usize)
+            .collect(),
+    };
+    let mut reader = Reader::new(schema, &wanted).unwrap();
+    let columns = reader.read(row).unwrap();
+    assert!(columns
+        .iter()
+        .eq(wanted.iter().map(|&column| values[column].borrowed())));
+}
+
 #[test]
 fn built_edited_and_read() {
     let mut random = Random(0x9E37_79B9_7F4A_7C15);
-    for turn in 0..20_000 {
+    for turn in 0..10_000 {
         let most = if turn % 100 == 0 { 257 } else { 12 };
         let types: Vec<_> = (0..random.below(most))
             .map(|_| random.data_type())
             .collect();
-        let schema = Schema::new(&types);
+        let schema = Schema::new(&types).unwrap();
         let mut values: Vec<_> = types.iter().map(|&ty| random.value_or_null(ty)).collect();
-        let mut row = Row::build(&schema, &values).unwrap();
+        let mut builder = Builder::new(&schema);
+        let mut row = builder.build(&values).unwrap().to_owned();
         assert_eq!(row.read(&schema).unwrap(), values);
+        check_read(&mut random, &schema, &values, row.as_bytes());
 
+        let mut editor = Editor::new(&schema);
+        editor.open(row.as_row());
         let mut page = vec![0xEE; row.as_bytes().len() + 4_000];
         let length = row.as_bytes().len();
         page[..length].copy_from_slice(row.as_bytes());
@@ -114,18 +133,19 @@ fn built_edited_and_read() {
         for _ in 0..random.below(8).min(types.len() as u64) {
             let column = random.below(types.len() as u64) as usize;
             values[column] = random.value_or_null(types[column]);
-            if values[column] == Value::Null {
-                row.set_null(&schema, column).unwrap();
-                lent.set_null(&schema, column).unwrap();
-            } else {
-                row.set(&schema, column, &values[column]).unwrap();
-                lent.set(&schema, column, &values[column]).unwrap();
-            }
+            let value = match &values[column] {
+                Value::Null => None,
+                value => Some(value),
+            };
+            row.set(&schema, column, value).unwrap();
+            lent.set(&schema, column, value).unwrap();
+            editor.set(column, value).unwrap();
             assert_eq!(row.read(&schema).unwrap(), values);
-            assert_eq!(lent.as_row(), row);
+            assert_eq!((lent.as_row(), editor.row()), (row.as_row(), row.as_row()));
+            check_read(&mut random, &schema, &values, row.as_bytes());
         }
-        let built = Row::build(&schema, &values).unwrap();
+        let built = builder.build(&values).unwrap();
         assert_eq!(row.as_bytes().len(), built.as_bytes().len());
-        assert_eq!(row.same_content(&schema, &built), Ok(true));
+        assert_eq!(row.same_content(&schema, built), Ok(true));
     }
 }

@@ -1,12 +1,14 @@
 //! Time for one row built, ours against the Rust's `serialize_nullable_typed_row`,
 //! and for one fresh row against `Row::new` then `serialize`, in one run on the
 //! same values. The Rust hands back a vector of its own and `Row::new` takes one
-//! of the columns; ours writes to a buffer that is lent.
+//! of the columns; ours, the raw call, writes to a buffer that is lent. The
+//! `Builder` of the bindings makes the value list too; it keeps its memory.
 
 use cases::rust;
 use cases::schema::write_schema;
 use cases::value::ValueList;
 use differential::bench::{least, tables, time};
+use rook_row::{Builder, RowRef, Schema};
 use rookdb::types::datatype::DataType;
 use rookdb::types::row::{Row, serialize_nullable_typed_row};
 use rookdb::types::value::DataValue;
@@ -15,14 +17,22 @@ use std::hint::black_box;
 /// The values of a row in both forms.
 type Values = (Vec<Option<DataValue>>, ValueList);
 
-fn bench_build(types: &[DataType], rows: &[Values]) -> [f64; 2] {
+fn bench_build(types: &[DataType], rows: &[Values]) -> [f64; 3] {
     let schema = write_schema(types);
     let mut out = vec![0; 65_535];
-    for (values, list) in rows {
-        let length = rook_row::raw::build(&schema, &list.bytes, &list.text, &mut out);
-        let row = rust::build(types, values).ok().expect("a row");
-        assert_eq!(out[..length.expect("a row")], row);
-    }
+    let built: Vec<_> = rows
+        .iter()
+        .map(|(values, list)| {
+            let length = rook_row::raw::build(&schema, &list.bytes, &list.text, &mut out);
+            let row = rust::build(types, values).ok().expect("a row");
+            assert_eq!(out[..length.expect("a row")], row);
+            row
+        })
+        .collect();
+    let checked = Schema::from_bytes(&schema).expect("a schema");
+    let values = |row| RowRef::new(row).read(&checked).expect("a row");
+    let values: Vec<_> = built.iter().map(|row| values(row)).collect();
+    let mut builder = Builder::new(&checked);
     least(|| {
         [
             time(rows, |(values, _)| {
@@ -31,6 +41,9 @@ fn bench_build(types: &[DataType], rows: &[Values]) -> [f64; 2] {
             time(rows, |(_, list)| {
                 let length = rook_row::raw::build(&schema, &list.bytes, &list.text, &mut out);
                 black_box((length.expect("a row"), &out));
+            }),
+            time(&values, |values| {
+                black_box(builder.build(values).expect("a row"));
             }),
         ]
     })
@@ -53,14 +66,14 @@ fn bench_fresh(types: &[DataType]) -> [f64; 2] {
     })
 }
 
-fn say(name: &str, [rust, ours]: [f64; 2]) {
-    println!("{name:<32}{rust:>12.0}{ours:>10.0}{:>12.2}", ours / rust);
+fn say(name: &str, rust: f64, raw: f64) {
+    print!("{name:<32}{rust:>10.0}{raw:>8.0}{:>10.2}", raw / rust);
 }
 
 fn main() {
     println!(
-        "{:<32}{:>12}{:>10}{:>12}",
-        "ns for a row", "the Rust", "ours", "to the Rust"
+        "{:<32}{:>10}{:>8}{:>10}{:>10}{:>10}{:>8}",
+        "ns for a row", "the Rust", "raw", "the Rust", "Builder", "the Rust", "raw"
     );
     for table in tables() {
         let types = &table.types;
@@ -69,7 +82,15 @@ fn main() {
             (values, list)
         };
         let rows: Vec<_> = table.rows.into_iter().map(listed).collect();
-        say(&format!("build, {}", table.name), bench_build(types, &rows));
-        say(&format!("fresh, {}", table.name), bench_fresh(types));
+        let [rust, raw, builder] = bench_build(types, &rows);
+        say(&format!("build, {}", table.name), rust, raw);
+        println!(
+            "{builder:>10.0}{:>10.2}{:>8.2}",
+            builder / rust,
+            builder / raw
+        );
+        let [rust, raw] = bench_fresh(types);
+        say(&format!("fresh, {}", table.name), rust, raw);
+        println!();
     }
 }

@@ -1,21 +1,24 @@
 //! Time for one edit, ours against the Rust's `Row::deserialize`, then `set_value`
 //! or `set_null`, then `serialize`, in one run on the same rows. The Rust makes a
 //! new row of each; ours changes a buffer that is lent, and is handed the row anew
-//! each time.
+//! each time. Ours is the raw call, and the `Editor` of the bindings, which is
+//! handed a value.
 
 use cases::rust;
 use cases::schema::write_schema;
 use cases::value::ValueList;
 use differential::bench::{least, tables, time};
+use rook_row::{Editor, RowRef, Schema, Value};
 use rookdb::types::datatype::DataType;
 use rookdb::types::row::Row;
 use rookdb::types::value::DataValue;
 use std::hint::black_box;
 
-/// A row, the value that its column is set to, and that value as a list.
-type Edit = (Vec<u8>, Option<DataValue>, ValueList);
+/// A row, the value that its column is set to, that value as a list, and as the
+/// bindings have it.
+type Edit = (Vec<u8>, Option<DataValue>, ValueList, Value<'static>);
 
-fn by_rust(types: &[DataType], column: usize, (row, value, _): &Edit) -> Vec<u8> {
+fn by_rust(types: &[DataType], column: usize, (row, value, ..): &Edit) -> Vec<u8> {
     let mut row = Row::deserialize(types, row).expect("a built row");
     match value {
         Some(value) => row.set_value(column, value),
@@ -25,7 +28,7 @@ fn by_rust(types: &[DataType], column: usize, (row, value, _): &Edit) -> Vec<u8>
     row.serialize()
 }
 
-fn ours(schema: &[u8], column: usize, buffer: &mut [u8], (row, value, list): &Edit) -> usize {
+fn by_raw(schema: &[u8], column: usize, buffer: &mut [u8], (row, value, list, _): &Edit) -> usize {
     buffer[..row.len()].copy_from_slice(row);
     match value {
         Some(_) => rook_row::raw::set(schema, buffer, row.len(), column, &list.bytes, &list.text),
@@ -34,12 +37,24 @@ fn ours(schema: &[u8], column: usize, buffer: &mut [u8], (row, value, list): &Ed
     .expect("a good edit")
 }
 
-fn bench(types: &[DataType], column: usize, edits: &[Edit]) -> [f64; 2] {
+fn by_editor(editor: &mut Editor, column: usize, (row, _, _, value): &Edit) {
+    editor.open(RowRef::new(row));
+    match value {
+        Value::Null => editor.set_null(column),
+        value => editor.set(column, value),
+    }
+    .expect("a good edit");
+}
+
+fn bench(types: &[DataType], column: usize, edits: &[Edit]) -> [f64; 3] {
     let schema = write_schema(types);
     let mut buffer = vec![0; 65_535];
+    let mut editor = Editor::new(&Schema::from_bytes(&schema).expect("a schema"));
     for edit in edits {
-        let length = ours(&schema, column, &mut buffer, edit);
+        let length = by_raw(&schema, column, &mut buffer, edit);
         assert_eq!(buffer[..length], by_rust(types, column, edit));
+        by_editor(&mut editor, column, edit);
+        assert_eq!(editor.row().as_bytes(), &buffer[..length]);
     }
     least(|| {
         [
@@ -47,7 +62,11 @@ fn bench(types: &[DataType], column: usize, edits: &[Edit]) -> [f64; 2] {
                 black_box(by_rust(types, column, edit));
             }),
             time(edits, |edit| {
-                black_box((ours(&schema, column, &mut buffer, edit), &buffer));
+                black_box((by_raw(&schema, column, &mut buffer, edit), &buffer));
+            }),
+            time(edits, |edit| {
+                by_editor(&mut editor, column, edit);
+                black_box(editor.row());
             }),
         ]
     })
@@ -60,9 +79,7 @@ fn edited(name: &str, old: &Option<DataValue>) -> Option<DataValue> {
         ("Varchar grows", Some(DataValue::Varchar(s))) => {
             Some(DataValue::Varchar(format!("{s} Mitte")))
         }
-        ("Varchar shrinks", Some(DataValue::Varchar(s))) => {
-            Some(DataValue::Varchar(s[1..].into()))
-        }
+        ("Varchar shrinks", Some(DataValue::Varchar(s))) => Some(DataValue::Varchar(s[1..].into())),
         ("Varchar keeps its length", old) => old.clone(),
         _ => None,
     }
@@ -70,11 +87,12 @@ fn edited(name: &str, old: &Option<DataValue>) -> Option<DataValue> {
 
 fn main() {
     println!(
-        "{:<48}{:>12}{:>10}{:>12}",
-        "edit, ns for a row", "the Rust", "ours", "to the Rust"
+        "{:<46}{:>10}{:>8}{:>10}{:>8}{:>10}{:>8}",
+        "edit, ns for a row", "the Rust", "raw", "the Rust", "Editor", "the Rust", "raw"
     );
     for table in tables() {
         let types = &table.types;
+        let schema = Schema::from_bytes(&write_schema(types)).expect("a schema");
         // The station and the train of the occupation in the middle.
         let station = types.len() / 2 / 8 * 8;
         for (name, column) in [
@@ -89,12 +107,21 @@ fn main() {
                 let value = edited(name, &values[column]);
                 let row = rust::build(types, values).ok().expect("a row");
                 let list = ValueList::of_rust(std::slice::from_ref(&value)).expect("a text");
-                (row, value, list)
+                let mut after = values.clone();
+                after[column] = value.clone();
+                let after = rust::build(types, &after).ok().expect("a row");
+                let ours: Value = RowRef::new(&after).get(&schema, column).expect("a value");
+                (row, value, list, ours.into_owned())
             };
             let edits: Vec<_> = table.rows.iter().map(edit).collect();
-            let [rust, ours] = bench(types, column, &edits);
-            let name = format!("{}, {name}", table.name);
-            println!("{name:<48}{rust:>12.0}{ours:>10.0}{:>12.2}", ours / rust);
+            let [rust, raw, editor] = bench(types, column, &edits);
+            println!(
+                "{:<46}{rust:>10.0}{raw:>8.0}{:>10.2}{editor:>8.0}{:>10.2}{:>8.2}",
+                format!("{}, {name}", table.name),
+                raw / rust,
+                editor / rust,
+                editor / raw
+            );
         }
     }
 }

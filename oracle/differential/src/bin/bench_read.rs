@@ -1,25 +1,40 @@
 //! Time for one read, ours against the Rust's `RowDecoder`, built once and built
-//! for the call, and `deserialize_nullable_row`, in one run on the same rows.
+//! for the call, and `deserialize_nullable_row`, in one run on the same rows. Ours
+//! is the raw call, and the `Reader` of the bindings. Both are measured alone, and
+//! with what they give looked at: each record of the raw call's list by its kind,
+//! each value of the `Reader`.
 
 use cases::rust;
 use cases::schema::write_schema;
 use differential::bench::{least, tables, time};
+use rook_row::{Reader, RowRef, Schema};
 use rookdb::types::datatype::DataType;
 use rookdb::types::row::{RowDecoder, deserialize_nullable_row};
 use std::hint::black_box;
 
+/// Looks at the records of a value list, from one to the next.
+fn look(list: &[u8]) {
+    const LENGTHS: [usize; 14] = [1, 3, 5, 9, 5, 9, 18, 2, 5, 5, 5, 9, 5, 9];
+    let mut at = 0;
+    while at < list.len() {
+        at += LENGTHS[usize::from(black_box(list[at]))];
+    }
+}
+
 fn bench(name: &str, types: &[DataType], rows: &[Vec<u8>], wanted: &[u16]) {
     let schema = write_schema(types);
-    let columns = || wanted.iter().map(|&column| usize::from(column));
-    let decoder = RowDecoder::new(types).only(columns());
+    let columns: Vec<_> = wanted.iter().map(|&column| usize::from(column)).collect();
+    let decoder = RowDecoder::new(types).only(columns.iter().copied());
     let mut out = vec![0; 18 * types.len()];
-    let [once, each, deserialize, ours] = least(|| {
+    let mut reader = Reader::new(&Schema::from_bytes(&schema).expect("a schema"), &columns)
+        .expect("columns of the schema");
+    let [once, each, deserialize, raw, looked, read, taken] = least(|| {
         [
             time(rows, |row| {
                 black_box(decoder.decode(row).expect("a built row"));
             }),
             time(rows, |row| {
-                let decoder = RowDecoder::new(black_box(types)).only(columns());
+                let decoder = RowDecoder::new(black_box(types)).only(columns.iter().copied());
                 black_box(decoder.decode(row).expect("a built row"));
             }),
             time(rows, |row| {
@@ -29,20 +44,54 @@ fn bench(name: &str, types: &[DataType], rows: &[Vec<u8>], wanted: &[u16]) {
                 let length = rook_row::raw::read(&schema, row, wanted, &mut out);
                 black_box((length.expect("a built row"), &out));
             }),
+            time(rows, |row| {
+                let length = rook_row::raw::read(&schema, row, wanted, &mut out);
+                look(&out[..length.expect("a built row")]);
+            }),
+            time(rows, |row| {
+                black_box(&reader.read(RowRef::new(row)).expect("a built row"));
+            }),
+            time(rows, |row| {
+                let columns = reader.read(RowRef::new(row)).expect("a built row");
+                columns.iter().for_each(|value| {
+                    black_box(&value);
+                });
+            }),
         ]
     });
     println!(
-        "{name:<28}{once:>10.0}{each:>10.0}{deserialize:>10.0}{ours:>8.0}{:>8.2}{:>8.2}{:>8.2}",
-        ours / once,
-        ours / each,
-        ours / deserialize
+        "{name:<28}{once:>8.0}{each:>8.0}{deserialize:>8.0}{raw:>7.0}{:>8.2}{:>8.2}{:>8.2}{looked:>8.0}\
+         {read:>8.0}{:>8.2}{:>6.2}{taken:>8.0}{:>8.2}{:>6.2}{:>8.2}",
+        raw / once,
+        raw / each,
+        raw / deserialize,
+        read / once,
+        read / raw,
+        taken / once,
+        taken / raw,
+        taken / looked,
     );
 }
 
 fn main() {
     println!(
-        "{:<28}{:>10}{:>10}{:>10}{:>8}{:>8}{:>8}{:>8}",
-        "read, ns for a row", "decoder", "..built", "deserial.", "ours", "ratio", "..built", "deser."
+        "{:<28}{:>8}{:>8}{:>8}{:>7}{:>8}{:>8}{:>8}{:>8}{:>8}{:>8}{:>6}{:>8}{:>8}{:>6}{:>8}",
+        "read, ns for a row",
+        "decoder",
+        "..built",
+        "deser.",
+        "raw",
+        "decoder",
+        "..built",
+        "deser.",
+        "..look",
+        "Reader",
+        "decoder",
+        "raw",
+        "..taken",
+        "decoder",
+        "raw",
+        "..look"
     );
     for table in tables() {
         let types = &table.types;

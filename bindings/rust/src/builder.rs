@@ -1,0 +1,71 @@
+//! Many rows built of values.
+use crate::error::Call;
+use crate::list::ValueList;
+use crate::{raw, Error, RowMut, RowRef, Schema, Value, MAX_LENGTH};
+use alloc::vec::Vec;
+
+/// Builds rows of one schema; its lists and the row's memory are kept from one row to the next.
+///
+/// ```
+/// use rook_row::{Builder, DataType, Schema, Value};
+///
+/// let schema = Schema::new([("platform", DataType::Varchar(4)), ("cars", DataType::SmallInt)])?;
+/// let mut builder = Builder::new(&schema);
+/// for (platform, cars) in [("7", Some(4i16)), ("12b", None)] {
+///     let row = builder.build(&[platform.into(), cars.into()])?;
+///     assert_eq!(row.get::<Option<i16>>(&schema, "cars")?, cars);
+/// }
+/// # Ok::<(), rook_row::Error>(())
+/// ```
+#[derive(Debug, Clone)]
+pub struct Builder {
+    schema: Schema,
+    list: ValueList,
+    row: Vec<u8>,
+}
+
+impl Builder {
+    /// A builder of rows of this schema.
+    pub fn new(schema: &Schema) -> Builder {
+        Builder {
+            schema: schema.clone(),
+            list: ValueList::default(),
+            row: Vec::new(),
+        }
+    }
+
+    /// The row of these values, one for each column. Refuses with 10 (not one for each column, or texts above 65,535
+    /// bytes), 11 and 12 (a column's value), 13 (row above 65,535 bytes).
+    pub fn build(&mut self, values: &[Value<'_>]) -> Result<RowRef<'_>, Error> {
+        self.list.fill(&self.schema, values);
+        // Only the texts of Varchars lengthen the row of nulls, and the text area has those and more.
+        let room = (self.schema.minimum() + self.list.text().len()).min(MAX_LENGTH);
+        if self.row.len() < room {
+            self.row.resize(room, 0);
+        }
+        let length = write(&self.schema, &self.list, values, &mut self.row)?;
+        Ok(RowRef::new(&self.row[..length]))
+    }
+
+    /// The row of these values at the front of a lent buffer. Refuses as [`build`](Builder::build), and with 14 (the
+    /// buffer is too short).
+    pub fn build_into<'b>(
+        &mut self,
+        values: &[Value<'_>],
+        buffer: &'b mut [u8],
+    ) -> Result<RowMut<'b>, Error> {
+        self.list.fill(&self.schema, values);
+        let length = write(&self.schema, &self.list, values, buffer)?;
+        Ok(RowMut::new(buffer, length))
+    }
+}
+
+fn write(
+    schema: &Schema,
+    list: &ValueList,
+    values: &[Value<'_>],
+    out: &mut [u8],
+) -> Result<usize, Error> {
+    raw::build(schema.as_bytes(), list.bytes(), list.text(), out)
+        .map_err(|refusal| Error::new(refusal, Call::Build(schema, values)))
+}

@@ -1,0 +1,162 @@
+//! Rows with bytes of their own.
+use crate::{
+    list, Builder, ColumnIndex, Error, FromValue, IntoValue, RowMut, RowRef, Schema, Value,
+    MAX_LENGTH,
+};
+use alloc::vec;
+use alloc::vec::Vec;
+
+/// The readings of [`RowRef`], for a type that has `as_row`.
+macro_rules! reads_as_a_row {
+    () => {
+        /// As [`RowRef::read`].
+        pub fn read(&self, schema: &Schema) -> Result<Vec<Value<'_>>, Error> {
+            self.as_row().read(schema)
+        }
+
+        /// As [`RowRef::read_columns`].
+        pub fn read_columns(
+            &self,
+            schema: &Schema,
+            columns: &[impl ColumnIndex],
+        ) -> Result<Vec<Value<'_>>, Error> {
+            self.as_row().read_columns(schema, columns)
+        }
+
+        /// As [`RowRef::get`].
+        pub fn get<'r, T: FromValue<'r>>(
+            &'r self,
+            schema: &Schema,
+            column: impl ColumnIndex,
+        ) -> Result<T, Error> {
+            self.as_row().get(schema, column)
+        }
+
+        /// As [`RowRef::text`].
+        pub fn text(
+            &self,
+            schema: &Schema,
+            column: impl ColumnIndex,
+        ) -> Result<Option<&str>, Error> {
+            self.as_row().text(schema, column)
+        }
+
+        /// As [`RowRef::is_null`].
+        pub fn is_null(&self, column: usize) -> Result<bool, Error> {
+            self.as_row().is_null(column)
+        }
+
+        /// As [`RowRef::same_content`].
+        pub fn same_content(&self, schema: &Schema, other: RowRef<'_>) -> Result<bool, Error> {
+            self.as_row().same_content(schema, other)
+        }
+    };
+}
+pub(crate) use reads_as_a_row;
+
+/// A row with bytes of its own, which grows and shrinks with its texts. Equality is that of the bytes;
+/// [`same_content`](RowBuf::same_content) compares values. To make or edit many rows, keep a [`Builder`] or an
+/// [`Editor`](crate::Editor).
+#[derive(Debug, Clone, PartialEq, Eq, Hash)]
+pub struct RowBuf {
+    bytes: Vec<u8>,
+}
+
+impl RowBuf {
+    /// The row of nulls.
+    pub fn fresh(schema: &Schema) -> Result<RowBuf, Error> {
+        let mut bytes = vec![0; schema.minimum()];
+        RowMut::fresh(schema, &mut bytes)?;
+        Ok(RowBuf { bytes })
+    }
+
+    /// The row of these values, one for each column. Refuses as [`Builder::build`].
+    pub fn build(schema: &Schema, values: &[Value<'_>]) -> Result<RowBuf, Error> {
+        let mut builder = Builder::new(schema);
+        builder.build(values).map(RowRef::to_owned)
+    }
+
+    /// The row of these bytes, whatever they are: the calls check them.
+    pub fn from_bytes(bytes: impl Into<Vec<u8>>) -> RowBuf {
+        RowBuf {
+            bytes: bytes.into(),
+        }
+    }
+
+    /// The row's bytes.
+    pub fn as_bytes(&self) -> &[u8] {
+        &self.bytes
+    }
+
+    /// The row's bytes, without a copy.
+    pub fn into_bytes(self) -> Vec<u8> {
+        self.bytes
+    }
+
+    /// The row, borrowed.
+    pub fn as_row(&self) -> RowRef<'_> {
+        RowRef::new(&self.bytes)
+    }
+
+    reads_as_a_row!();
+
+    /// Sets a column to a value; `None` of an `Option` sets it to null. Refuses with 15 (the row is not sound), 9 (no
+    /// such column), 10 (text above 65,535 bytes), 11 and 12 (the value; `Value::Null` is 11), 13 (row above 65,535
+    /// bytes).
+    pub fn set<'v>(
+        &mut self,
+        schema: &Schema,
+        column: impl ColumnIndex,
+        value: impl IntoValue<'v>,
+    ) -> Result<(), Error> {
+        let column = column.number(schema)?;
+        match value.into_value() {
+            // No value lengthens a row by more than its text.
+            Some(value) => self.edit(list::text(&value).len(), |row| {
+                row.set_value(schema, column, &value)
+            }),
+            None => self.set_null(schema, column),
+        }
+    }
+
+    /// Sets a column to null. The bytes of a fixed column stay as they are, only its bit says null. Refuses with 15
+    /// (the row is not sound), 9 (no such column).
+    pub fn set_null(&mut self, schema: &Schema, column: impl ColumnIndex) -> Result<(), Error> {
+        let column = column.number(schema)?;
+        self.edit(0, |row| row.set_null(schema, column))
+    }
+
+    /// An edit with so many bytes of room behind the row, which are given back after it.
+    fn edit(
+        &mut self,
+        more: usize,
+        edit: impl FnOnce(&mut RowMut<'_>) -> Result<(), Error>,
+    ) -> Result<(), Error> {
+        let length = self.bytes.len();
+        self.bytes
+            .resize((length + more).min(MAX_LENGTH).max(length), 0);
+        let mut row = RowMut::new(&mut self.bytes, length);
+        let result = edit(&mut row);
+        let length = row.len();
+        self.bytes.truncate(length);
+        result
+    }
+}
+
+impl AsRef<[u8]> for RowBuf {
+    fn as_ref(&self) -> &[u8] {
+        &self.bytes
+    }
+}
+
+impl<'a> From<&'a RowBuf> for RowRef<'a> {
+    fn from(row: &'a RowBuf) -> RowRef<'a> {
+        row.as_row()
+    }
+}
+
+impl From<RowRef<'_>> for RowBuf {
+    fn from(row: RowRef<'_>) -> RowBuf {
+        row.to_owned()
+    }
+}
