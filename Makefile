@@ -1,4 +1,15 @@
-.PHONY: test demo install bench differential attack
+.PHONY: help test demo install uninstall bench differential attack clean
+
+# What there is.
+help:
+	@echo 'make demo          build the proved library, and show a small table through it'
+	@echo 'make test          the gate: all proofs, all programs, the comparison with the Rust'
+	@echo 'make install       the library, its header and its pkg-config file: PREFIX=/usr/local DESTDIR='
+	@echo 'make uninstall     take these away again'
+	@echo 'make bench         the time of each call, against the Rust'
+	@echo 'make differential  the comparison with the Rust: SECONDS=300 SEED=1'
+	@echo 'make attack        the library as shipped against the model: CALLS=10000000 SEED=1'
+	@echo 'make clean         remove what was built'
 
 # The gate: all proofs, all programs, and the comparison with the Rust.
 test:
@@ -6,19 +17,21 @@ test:
 
 # A small table, row by row, as bytes and as values.
 demo: target/staticlib/librook_row.a
-	gcc -std=c11 -Wall -Wextra -Werror -O2 -Iinclude examples/demo.c target/staticlib/librook_row.a -o target/demo
+	$(CC) -std=c11 -Wall -Wextra -Werror -O2 -Iinclude examples/demo.c target/staticlib/librook_row.a -o target/demo
 	target/demo
 
 # The library, its header and its pkg-config file: make install PREFIX=/usr/local DESTDIR=
 PREFIX = /usr/local
 DESTDIR =
-VERSION = 0.1.0
+VERSION = 0.2.0
 folder = $(DESTDIR)$(abspath $(PREFIX))
 install: target/staticlib/librook_row.a
 	install -d $(folder)/lib/pkgconfig $(folder)/include
 	install -m 644 target/staticlib/librook_row.a $(folder)/lib/
 	install -m 644 include/rook_row.h $(folder)/include/
 	sed 's|@PREFIX@|$(abspath $(PREFIX))|; s|@VERSION@|$(VERSION)|' rook_row.pc.in > $(folder)/lib/pkgconfig/rook_row.pc
+uninstall:
+	rm -f $(folder)/lib/librook_row.a $(folder)/include/rook_row.h $(folder)/lib/pkgconfig/rook_row.pc
 
 # Time of each call, against the Rust.
 bench: target/staticlib/librook_row.a target/staticlib/librook_probe.a
@@ -47,6 +60,9 @@ attack: target/staticlib/librook_row.a target/staticlib/librook_probe.a
 	if command -v valgrind >/dev/null; \
 	then valgrind -q --error-exitcode=9 oracle/target/release/attack --calls 20000 --seed $(SEED) --blocks; \
 	else echo 'attack: NOT RUN under valgrind, which is not installed'; fi
+
+clean:
+	rm -rf target native/target oracle/target bindings/rust/target
 
 sources := $(shell find crates -name '*.rt' -o -name '*.antt')
 target/staticlib/lib%.a: crates.txt $(sources)

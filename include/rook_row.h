@@ -76,8 +76,8 @@ typedef struct {
 } rook_text_answer;
 
 /* A handle: a row's length, and its layout: how many columns, how many Varchars, the bytes of the fixed columns, and
- * whether the row is packed, 0 or 1. No call uses the layout that it gets, so a handle is made of the length that fresh,
- * build or an edit handed back, and zeros. It has no padding: an accepted call stores every byte of it. */
+ * whether the row is packed, 0 or 1. No call uses the layout that it gets, so a handle is made of the length that
+ * fresh, build or an edit handed back, and zeros. It has no padding: an accepted call stores every byte of it. */
 typedef struct {
     size_t num_columns;
     size_t num_varlen_cols;
@@ -164,8 +164,8 @@ rook_flag_answer rook_row_same_content(const uint8_t *schema, size_t schema_leng
 /* Whether a column's bit says null.
  * Gets a row and a column; it goes by the row's own header and bitmap, and writes nothing.
  * Answers with flag 1 for null, else 0.
- * Refuses with 4 (row above 65,535 bytes), 3 (row shorter than its header or bitmap), 9 (no such column), place 0;
- * then `flag` is 0. */
+ * Refuses with 4 (row above 65,535 bytes), 3 (row under 4 bytes), 9 (no such column by the row's header), 3 (row shorter
+ * than its bitmap), place 0; then `flag` is 0. */
 rook_flag_answer rook_row_is_null(const uint8_t *row, size_t row_length, size_t column);
 
 /* Whether bytes are text by RFC 3629 (UTF-8).
