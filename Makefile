@@ -4,7 +4,7 @@
 help:
 	@echo 'make demo          build the proved library, and show a small table through it'
 	@echo 'make test          the gate: all proofs, all programs, the comparison with the Rust'
-	@echo 'make install       the library, its header and its pkg-config file: PREFIX=/usr/local DESTDIR='
+	@echo 'make install       the library, its headers and its pkg-config file: PREFIX=/usr/local DESTDIR='
 	@echo 'make uninstall     take these away again'
 	@echo 'make bench         the time of each call, against the Rust'
 	@echo 'make differential  the comparison with the Rust: SECONDS=300 SEED=1'
@@ -20,7 +20,7 @@ demo: target/staticlib/librook_row.a
 	$(CC) -std=c11 -Wall -Wextra -Werror -O2 -Iinclude examples/demo.c target/staticlib/librook_row.a -o target/demo
 	target/demo
 
-# The library, its header and its pkg-config file: make install PREFIX=/usr/local DESTDIR=
+# The library, its headers and its pkg-config file: make install PREFIX=/usr/local DESTDIR=
 PREFIX = /usr/local
 DESTDIR =
 VERSION = 0.2.0
@@ -28,10 +28,11 @@ folder = $(DESTDIR)$(abspath $(PREFIX))
 install: target/staticlib/librook_row.a
 	install -d $(folder)/lib/pkgconfig $(folder)/include
 	install -m 644 target/staticlib/librook_row.a $(folder)/lib/
-	install -m 644 include/rook_row.h $(folder)/include/
+	install -m 644 include/rook_row.h include/rook_list.h $(folder)/include/
 	sed 's|@PREFIX@|$(abspath $(PREFIX))|; s|@VERSION@|$(VERSION)|' rook_row.pc.in > $(folder)/lib/pkgconfig/rook_row.pc
 uninstall:
-	rm -f $(folder)/lib/librook_row.a $(folder)/include/rook_row.h $(folder)/lib/pkgconfig/rook_row.pc
+	rm -f $(folder)/lib/librook_row.a $(folder)/include/rook_row.h $(folder)/include/rook_list.h \
+	    $(folder)/lib/pkgconfig/rook_row.pc
 
 # Time of each call, against the Rust.
 bench: target/staticlib/librook_row.a target/staticlib/librook_probe.a

@@ -5,53 +5,43 @@
 #include <string.h>
 #include <time.h>
 
-#include "rook_row.h"
+#include "rook_list.h"
 
 enum { COLUMNS = 6, ROOM = 128 };
 
 /* A column: its record in the schema, the bytes of its slot (a Varchar has an offset instead), and what they are. */
 static const struct {
     const char *name, *type;
-    uint8_t record[3];
-    size_t record_length, slot;
+    uint8_t kind;
+    uint16_t n;
+    size_t slot;
     const char *note;
 } columns[COLUMNS] = {
-    {"platform", "Varchar(4)", {11, 4, 0}, 3, 0, ""},
-    {"unit", "Varchar(16)", {11, 16, 0}, 3, 0, ""},
-    {"arrival", "Timestamp", {15}, 1, 8, ": microseconds from 1970-01-01"},
-    {"departure", "Timestamp", {15}, 1, 8, ": microseconds from 1970-01-01"},
-    {"cars", "SmallInt", {1}, 1, 2, ""},
-    {"boarding", "Bool", {8}, 1, 1, ": 1 is true"},
+    {"platform", "Varchar(4)", ROOK_VARCHAR, 4, 0, ""},
+    {"unit", "Varchar(16)", ROOK_VARCHAR, 16, 0, ""},
+    {"arrival", "Timestamp", ROOK_TIMESTAMP, 0, 8, ": microseconds from 1970-01-01"},
+    {"departure", "Timestamp", ROOK_TIMESTAMP, 0, 8, ": microseconds from 1970-01-01"},
+    {"cars", "SmallInt", ROOK_SMALL_INT, 0, 2, ""},
+    {"boarding", "Bool", ROOK_BOOL, 0, 1, ": 1 is true"},
 };
 
 static uint8_t schema[3 * COLUMNS];
 static size_t schema_length;
 
-/* A value list: records end to end, and the text area in which their texts lie. */
+/* A value list and its text area. */
 struct list {
-    uint8_t values[18 * COLUMNS], text[ROOM];
-    size_t length, text_length;
+    uint8_t records[ROOK_MAX_RECORD * COLUMNS], text[ROOM];
+    rook_values values;
 };
+
+static void start(struct list *list) {
+    list->values = rook_values_in(list->records, sizeof list->records, list->text, sizeof list->text);
+}
 
 struct row {
     uint8_t bytes[ROOM];
     size_t length;
 };
-
-/* A record: its kind, then a number of so many bytes, the low one first. */
-static void put(struct list *list, uint8_t kind, size_t size, int64_t number) {
-    list->values[list->length++] = kind;
-    for (size_t i = 0; i < size; i++)
-        list->values[list->length++] = (uint8_t)((uint64_t)number >> 8 * i);
-}
-
-/* A Varchar: where its text starts in the text area, and its length, two bytes each. */
-static void put_text(struct list *list, const char *text) {
-    size_t length = strlen(text);
-    put(list, 9, 4, (int64_t)(list->text_length | length << 16));
-    memcpy(list->text + list->text_length, text, length);
-    list->text_length += length;
-}
 
 /* Microseconds from 1970-01-01 to a time of 2026-11-16, which is day 20773. */
 static int64_t at(int hour, int minute, int second) {
@@ -60,26 +50,31 @@ static int64_t at(int hour, int minute, int second) {
 
 static size_t done(rook_row_answer answer) {
     if (answer.number != 0) {
-        printf("refused with %u at %zu\n", answer.number, answer.place);
+        printf("refused with %u at %zu: %s\n", answer.number, answer.place, rook_number_text(answer.number));
         exit(1);
     }
     return answer.length;
 }
 
 static void build(struct row *row, const struct list *list) {
-    row->length = done(rook_row_build(schema, schema_length, list->values, list->length, list->text, list->text_length,
-                                      row->bytes, ROOM));
+    row->length = done(rook_row_build(schema, schema_length, list->records, list->values.records.length, list->text,
+                                      list->values.text.length, row->bytes, ROOM));
 }
 
 static void show_schema(void) {
+    rook_list list = rook_list_in(schema, sizeof schema);
     for (size_t i = 0; i < COLUMNS; i++) {
         char hex[10] = "";
-        for (size_t k = 0; k < columns[i].record_length; k++)
-            sprintf(hex + 3 * k, "%02X ", columns[i].record[k]);
+        size_t from = list.length;
+        if (columns[i].slot == 0)
+            rook_schema_put_sized(&list, columns[i].kind, columns[i].n);
+        else
+            rook_schema_put(&list, columns[i].kind);
+        for (size_t k = from; k < list.length; k++)
+            sprintf(hex + 3 * (k - from), "%02X ", schema[k]);
         printf("  %-10s%-11s%s\n", hex, columns[i].name, columns[i].type);
-        memcpy(schema + schema_length, columns[i].record, columns[i].record_length);
-        schema_length += columns[i].record_length;
     }
+    schema_length = list.length;
 }
 
 /* One line: where the bytes start, the bytes, their region, what they say. Hands back where they end. */
@@ -91,13 +86,6 @@ static size_t line(const struct row *row, size_t start, size_t count, const char
     return start + count;
 }
 
-static int64_t number(const uint8_t *bytes, size_t size) {
-    uint64_t n = 0;
-    for (size_t i = 0; i < size; i++)
-        n |= (uint64_t)bytes[i] << 8 * i;
-    return (int64_t)n;
-}
-
 static int is_null(const struct row *row, size_t column) {
     return rook_row_is_null(row->bytes, row->length, column).flag == 1;
 }
@@ -105,7 +93,7 @@ static int is_null(const struct row *row, size_t column) {
 /* Header and bitmap; hands back where they end. */
 static size_t show_head(const struct row *row) {
     char says[ROOM];
-    sprintf(says, "%d columns", (int)number(row->bytes, 2));
+    sprintf(says, "%d columns", (int)rook_number_at(row->bytes, 2));
     line(row, 0, 2, "header", says);
     sprintf(says, "%d Varchars; 80: slots are packed, end to end", row->bytes[2]);
     line(row, 2, 2, "header", says);
@@ -125,7 +113,7 @@ static size_t show_offsets(const struct row *row, size_t start) {
         if (is_null(row, i))
             sprintf(says, "%s: null", columns[i].name);
         else
-            sprintf(says, "%s: its text starts at byte %d", columns[i].name, (int)number(row->bytes + start, 2));
+            sprintf(says, "%s: its text starts at byte %d", columns[i].name, (int)rook_number_at(row->bytes + start, 2));
         start = line(row, start, 2, "offsets", says);
     }
     return start;
@@ -153,34 +141,33 @@ static void show_payloads(const struct row *row) {
     }
 }
 
-/* The record of a value list as a value; hands back its length. */
-static size_t show_value(const uint8_t *record, const struct row *row) {
+/* A value of a row that was read; its text stands in the row. */
+static void show_value(const rook_value *value, const struct row *row) {
     char spelled[24];
     time_t seconds;
-    switch (record[0]) {
-    case 1:
-        printf("%d", (int16_t)number(record + 1, 2));
-        return 3;
-    case 7:
-        printf(record[1] ? "true" : "false");
-        return 2;
-    case 9: /* the text area is the row */
-        printf("\"%.*s\"", (int)number(record + 3, 2), (const char *)row->bytes + number(record + 1, 2));
-        return 5;
-    case 13:
-        seconds = (time_t)(number(record + 1, 8) / 1000000);
+    switch (value->kind) {
+    case ROOK_VALUE_SMALL_INT:
+        printf("%d", (int)value->number);
+        break;
+    case ROOK_VALUE_BOOL:
+        printf(value->number ? "true" : "false");
+        break;
+    case ROOK_VALUE_VARCHAR:
+        printf("\"%.*s\"", (int)value->length, (const char *)row->bytes + value->start);
+        break;
+    case ROOK_VALUE_TIMESTAMP:
+        seconds = (time_t)(value->number / 1000000);
         strftime(spelled, sizeof spelled, "%Y-%m-%d %H:%M:%S", gmtime(&seconds));
         printf("%s", spelled);
-        return 9;
+        break;
     default:
         printf("null");
-        return 1;
     }
 }
 
 static void show(const char *title, const struct row *row) {
     static const uint16_t all[COLUMNS] = {0, 1, 2, 3, 4, 5};
-    uint8_t list[18 * COLUMNS];
+    uint8_t list[ROOK_MAX_RECORD * COLUMNS];
     printf("\n%s: %zu bytes\n", title, row->length);
     printf("  from  %-25s%-10ssays\n", "bytes", "region");
     show_slots(row, show_offsets(row, show_head(row)));
@@ -188,49 +175,54 @@ static void show(const char *title, const struct row *row) {
     size_t length =
         done(rook_row_read(schema, schema_length, row->bytes, row->length, all, COLUMNS, list, sizeof list));
     printf("  values:");
-    for (size_t i = 0; i < length;) {
-        printf(i == 0 ? " " : " | ");
-        i += show_value(list + i, row);
+    rook_values_reader reader = rook_values_of(list, length);
+    rook_value value;
+    for (int first = 1; rook_values_next(&reader, &value); first = 0) {
+        printf(first ? " " : " | ");
+        show_value(&value, row);
     }
     printf("\n");
 }
 
 /* Two edits of a row, and one that is refused. */
 static void edit(struct row *row) {
-    struct list text = {0};
-    put_text(&text, "12b");
-    row->length = done(rook_row_set(schema, schema_length, row->bytes, ROOM, row->length, 0, text.values, text.length,
-                                    text.text, text.text_length));
+    struct list one;
+    start(&one);
+    rook_values_varchar(&one.values, "12b");
+    row->length = done(rook_row_set(schema, schema_length, row->bytes, ROOM, row->length, 0, one.records,
+                                    one.values.records.length, one.text, one.values.text.length));
     row->length = done(rook_row_set_null(schema, schema_length, row->bytes, ROOM, row->length, 3));
     show("Row 0, platform set to \"12b\" and departure to null", row);
-    rook_row_answer answer = rook_row_set(schema, schema_length, row->bytes, ROOM, row->length, 4, text.values,
-                                          text.length, text.text, text.text_length);
+    rook_row_answer answer = rook_row_set(schema, schema_length, row->bytes, ROOM, row->length, 4, one.records,
+                                          one.values.records.length, one.text, one.values.text.length);
     printf("\nRow 0, cars set to \"12b\": refused with %u, place %zu, the column. The row is as it was.\n",
            answer.number, answer.place);
 }
 
 int main(void) {
     struct row table[2];
-    struct list first = {0}, second = {0};
+    struct list first, second;
     printf("A table of platform occupations. Numbers have their low byte first. Its schema has a record for each\n"
            "column: a byte for the kind of type, then what the type is declared with.\n");
     show_schema();
 
-    put_text(&first, "7");
-    put_text(&first, "ET 41");
-    put(&first, 13, 8, at(6, 12, 0));
-    put(&first, 13, 8, at(6, 14, 30));
-    put(&first, 1, 2, 4);
-    put(&first, 7, 1, 1);
+    start(&first);
+    rook_values_varchar(&first.values, "7");
+    rook_values_varchar(&first.values, "ET 41");
+    rook_values_timestamp(&first.values, at(6, 12, 0));
+    rook_values_timestamp(&first.values, at(6, 14, 30));
+    rook_values_small_int(&first.values, 4);
+    rook_values_bool(&first.values, 1);
     build(&table[0], &first);
     show("Row 0, built", &table[0]);
 
-    put_text(&second, "2a");
-    put(&second, 0, 0, 0);
-    put(&second, 13, 8, at(6, 20, 0));
-    put(&second, 13, 8, at(6, 21, 30));
-    put(&second, 0, 0, 0);
-    put(&second, 7, 1, 0);
+    start(&second);
+    rook_values_varchar(&second.values, "2a");
+    rook_values_null(&second.values);
+    rook_values_timestamp(&second.values, at(6, 20, 0));
+    rook_values_timestamp(&second.values, at(6, 21, 30));
+    rook_values_null(&second.values);
+    rook_values_bool(&second.values, 0);
     build(&table[1], &second);
     show("Row 1, built", &table[1]);
 

@@ -30,6 +30,8 @@
  * What a refusal leaves. No lent byte is changed. What else the call hands out is 0, but the `length` of a refused
  * edit is the `row_length` that it got, so that it can be stored in any case.
  *
+ * Threads. The calls keep no state: any number may run at once, as long as none writes what another is lent.
+ *
  * Schema. A record for each column, end to end: a byte of kind, then its body. Numbers have their low byte first.
  *   1 SmallInt   2 Int   3 BigInt   4 Real   5 DoublePrecision   8 Bool   12 Date   13 Time   15 Timestamp   no body
  *   6 Numeric    7 Decimal                     precision, scale: a byte each
@@ -55,6 +57,92 @@
 #ifdef __cplusplus
 extern "C" {
 #endif
+
+/* The version of this interface. */
+#define ROOK_ROW_VERSION_MAJOR 0
+#define ROOK_ROW_VERSION_MINOR 2
+#define ROOK_ROW_VERSION "0.2.0"
+
+/* The most columns of a schema, the most bytes of a row and of a text area, and bytes that a value record always fits. */
+enum { ROOK_MAX_COLUMNS = 256, ROOK_MAX_ROW = 65535, ROOK_MAX_TEXT = 65535, ROOK_MAX_RECORD = 18 };
+
+/* Schema kinds. */
+enum {
+    ROOK_SMALL_INT = 1,
+    ROOK_INT = 2,
+    ROOK_BIG_INT = 3,
+    ROOK_REAL = 4,
+    ROOK_DOUBLE_PRECISION = 5,
+    ROOK_NUMERIC = 6,
+    ROOK_DECIMAL = 7,
+    ROOK_BOOL = 8,
+    ROOK_CHAR = 9,
+    ROOK_CHARACTER = 10,
+    ROOK_VARCHAR = 11,
+    ROOK_DATE = 12,
+    ROOK_TIME = 13,
+    ROOK_BIT = 14,
+    ROOK_TIMESTAMP = 15
+};
+
+/* Value kinds. */
+enum {
+    ROOK_VALUE_NULL = 0,
+    ROOK_VALUE_SMALL_INT = 1,
+    ROOK_VALUE_INT = 2,
+    ROOK_VALUE_BIG_INT = 3,
+    ROOK_VALUE_REAL = 4,
+    ROOK_VALUE_DOUBLE_PRECISION = 5,
+    ROOK_VALUE_NUMERIC = 6,
+    ROOK_VALUE_BOOL = 7,
+    ROOK_VALUE_CHAR = 8,
+    ROOK_VALUE_VARCHAR = 9,
+    ROOK_VALUE_DATE = 10,
+    ROOK_VALUE_TIME = 11,
+    ROOK_VALUE_BIT = 12,
+    ROOK_VALUE_TIMESTAMP = 13
+};
+
+/* Numbers of answers. */
+enum {
+    ROOK_DONE = 0,
+    ROOK_BAD_RECORD = 1,
+    ROOK_BAD_SCHEMA = 2,
+    ROOK_ROW_TOO_SHORT = 3,
+    ROOK_ROW_TOO_LONG = 4,
+    ROOK_WRONG_COLUMN_COUNT = 5,
+    ROOK_WRONG_VARLEN_COUNT = 6,
+    ROOK_BAD_RANGE = 7,
+    ROOK_NO_VALUE = 8,
+    ROOK_NO_SUCH_COLUMN = 9,
+    ROOK_BAD_VALUE_LIST = 10,
+    ROOK_WRONG_KIND = 11,
+    ROOK_UNSUITABLE = 12,
+    ROOK_ROW_LIMIT = 13,
+    ROOK_NO_ROOM = 14,
+    ROOK_NOT_SOUND = 15
+};
+
+/* What a number says, for people. */
+static inline const char *rook_number_text(uint32_t number) {
+    static const char *const texts[] = {"done",
+                                        "a schema record of unknown kind, or cut off",
+                                        "a schema that no row can have",
+                                        "the row is too short",
+                                        "the row is above 65,535 bytes",
+                                        "the row has another number of columns than the schema",
+                                        "the row has another number of Varchars than the schema",
+                                        "a Varchar's range leaves the row",
+                                        "a column's bytes are no value of its type",
+                                        "no such column",
+                                        "the value list is not what is due",
+                                        "a value of another kind than the column's type",
+                                        "a value that the column's type does not hold",
+                                        "the row would pass 65,535 bytes",
+                                        "no room",
+                                        "the row to be edited is not sound"};
+    return number < sizeof texts / sizeof *texts ? texts[number] : "a number that this header does not know";
+}
 
 typedef struct {
     uint32_t number;

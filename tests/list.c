@@ -1,0 +1,148 @@
+/* include/rook_list.h: a value of every kind written, built into a row, read again and compared; stored forms of
+ * docs/FORMAT.md; lists that do not fit, are cut, or have an unknown kind. */
+#include <stdio.h>
+#include <string.h>
+
+#include "rook_list.h"
+
+static int faults;
+
+static void expect(int holds, const char *what) {
+    if (!holds) {
+        printf("%s\n", what);
+        faults++;
+    }
+}
+
+static size_t make_schema(uint8_t *bytes, size_t capacity) {
+    rook_list s = rook_list_in(bytes, capacity);
+    rook_schema_put(&s, ROOK_SMALL_INT);
+    rook_schema_put(&s, ROOK_INT);
+    rook_schema_put(&s, ROOK_BIG_INT);
+    rook_schema_put(&s, ROOK_REAL);
+    rook_schema_put(&s, ROOK_DOUBLE_PRECISION);
+    rook_schema_put_digits(&s, ROOK_NUMERIC, 4, 2);
+    rook_schema_put(&s, ROOK_BOOL);
+    rook_schema_put_sized(&s, ROOK_CHAR, 4);
+    rook_schema_put_sized(&s, ROOK_VARCHAR, 5);
+    rook_schema_put(&s, ROOK_DATE);
+    rook_schema_put(&s, ROOK_TIME);
+    rook_schema_put_sized(&s, ROOK_BIT, 3);
+    rook_schema_put(&s, ROOK_TIMESTAMP);
+    rook_schema_put_digits(&s, ROOK_DECIMAL, 38, 0);
+    rook_schema_put_sized(&s, ROOK_CHARACTER, 0);
+    return rook_list_fits(&s) ? s.length : 0;
+}
+
+static void put_values(rook_values *v) {
+    static const uint8_t bits[] = {0xBF};
+    rook_values_small_int(v, -2);
+    rook_values_int(v, -70000);
+    rook_values_big_int(v, INT64_MIN);
+    rook_values_real(v, -0.5f);
+    rook_values_double(v, 1e300);
+    rook_values_numeric(v, -1234, 2);
+    rook_values_bool(v, 7);
+    rook_values_char(v, "ab");
+    rook_values_varchar(v, "\xC3\xA9t\xC3\xA9");
+    rook_values_date(v, -719162);
+    rook_values_time(v, 86399999999);
+    rook_values_bits(v, bits, sizeof bits);
+    rook_values_timestamp(v, -1);
+    rook_values_numeric_halves(v, 1, 2, 0);
+    rook_values_null(v);
+}
+
+/* The next value of kind k. */
+static rook_value next(rook_values_reader *reader, uint8_t k) {
+    rook_value value;
+    int there = rook_values_next(reader, &value);
+    expect(there && value.kind == k, "a value of another kind, or none");
+    return value;
+}
+
+static int is_text(const rook_value *value, const uint8_t *row, const char *bytes, size_t count) {
+    return value->length == count && memcmp(row + value->start, bytes, count) == 0;
+}
+
+static void every_kind(void) {
+    uint8_t schema[64], records[ROOK_MAX_RECORD * 15], text[64], row[256], list[ROOK_MAX_RECORD * 15];
+    uint16_t all[15];
+    size_t schema_length = make_schema(schema, sizeof schema);
+    rook_values v = rook_values_in(records, sizeof records, text, sizeof text);
+    put_values(&v);
+    expect(rook_values_fit(&v), "the values do not fit");
+    rook_row_answer built = rook_row_build(schema, schema_length, records, v.records.length, text, v.text.length, row,
+                                           sizeof row);
+    expect(built.number == ROOK_DONE, rook_number_text(built.number));
+    for (uint16_t i = 0; i < 15; i++)
+        all[i] = i;
+    rook_row_answer read = rook_row_read(schema, schema_length, row, built.length, all, 15, list, sizeof list);
+    expect(read.number == ROOK_DONE, rook_number_text(read.number));
+
+    rook_values_reader reader = rook_values_of(list, read.length);
+    rook_value value = next(&reader, ROOK_VALUE_SMALL_INT);
+    expect(value.number == -2, "SmallInt");
+    expect((value = next(&reader, ROOK_VALUE_INT)).number == -70000, "Int");
+    expect((value = next(&reader, ROOK_VALUE_BIG_INT)).number == INT64_MIN, "BigInt");
+    expect((value = next(&reader, ROOK_VALUE_REAL), rook_value_real(&value)) == -0.5f, "Real");
+    expect((value = next(&reader, ROOK_VALUE_DOUBLE_PRECISION), rook_value_double(&value)) == 1e300, "DoublePrecision");
+    value = next(&reader, ROOK_VALUE_NUMERIC);
+    expect(value.number == -1 && value.low == (uint64_t)-1234 && value.scale == 2, "Numeric");
+    expect((value = next(&reader, ROOK_VALUE_BOOL)).number == 1, "Bool");
+    value = next(&reader, ROOK_VALUE_CHAR);
+    expect(is_text(&value, row, "ab  ", 4), "Char with its blanks");
+    value = next(&reader, ROOK_VALUE_VARCHAR);
+    expect(is_text(&value, row, "\xC3\xA9t\xC3\xA9", 5), "Varchar");
+    expect((value = next(&reader, ROOK_VALUE_DATE)).number == -719162, "Date");
+    expect((value = next(&reader, ROOK_VALUE_TIME)).number == 86399999999, "Time");
+    value = next(&reader, ROOK_VALUE_BIT);
+    expect(is_text(&value, row, "\xA0", 1), "Bit without its spare bits");
+    expect((value = next(&reader, ROOK_VALUE_TIMESTAMP)).number == -1, "Timestamp");
+    value = next(&reader, ROOK_VALUE_NUMERIC);
+    expect(value.number == 1 && value.low == 2 && value.scale == 0, "Decimal in two halves");
+    next(&reader, ROOK_VALUE_NULL);
+    expect(!rook_values_next(&reader, &value), "a value past the last");
+}
+
+/* Numeric(4,2) of -12.34 is 01 23 4D, Numeric(3,0) of 7 is 00 7C. */
+static void numerics(void) {
+    uint8_t schema[8], records[64], row[32];
+    rook_list s = rook_list_in(schema, sizeof schema);
+    rook_schema_put_digits(&s, ROOK_NUMERIC, 4, 2);
+    rook_schema_put_digits(&s, ROOK_NUMERIC, 3, 0);
+    rook_values v = rook_values_in(records, sizeof records, NULL, 0);
+    rook_values_numeric(&v, -1234, 2);
+    rook_values_numeric(&v, 7, 0);
+    rook_row_answer built =
+        rook_row_build(schema, s.length, records, v.records.length, NULL, 0, row, sizeof row);
+    static const uint8_t wanted[] = {2, 0, 0, 0x80, 0, 0x01, 0x23, 0x4D, 0x00, 0x7C};
+    expect(built.length == sizeof wanted && memcmp(row, wanted, sizeof wanted) == 0, "the row of two Numerics");
+}
+
+static void limits(void) {
+    uint8_t room[8] = {0xEE, 0xEE, 0xEE, 0xEE, 0xEE, 0xEE, 0xEE, 0xEE};
+    rook_values v = rook_values_in(room, 3, room + 4, 2);
+    rook_values_small_int(&v, 0x0201);
+    expect(rook_values_fit(&v) && memcmp(room, "\x01\x01\x02\xEE", 4) == 0, "a record that fits");
+    rook_values_varchar(&v, "abc");
+    expect(!rook_values_fit(&v) && v.records.length == 8 && v.text.length == 3, "what is needed");
+    expect(memcmp(room, "\x01\x01\x02\xEE\xEE\xEE\xEE\xEE", 8) == 0, "bytes past the room");
+
+    rook_value value;
+    rook_values_reader cut = rook_values_of((const uint8_t *)"\x02\x01\x00\x00", 4);
+    rook_values_reader unknown = rook_values_of((const uint8_t *)"\x0E", 1);
+    expect(!rook_values_next(&cut, &value) && cut.at == 0, "a record that is cut off");
+    expect(!rook_values_next(&unknown, &value), "a record of unknown kind");
+    expect(strcmp(rook_number_text(ROOK_NOT_SOUND), "the row to be edited is not sound") == 0, "the text of 15");
+    expect(strstr(rook_number_text(16), "not know") != NULL, "the text of an unknown number");
+}
+
+int main(void) {
+    every_kind();
+    numerics();
+    limits();
+    if (faults == 0)
+        printf("schemas and value lists, written and read by include/rook_list.h, are the library's\n");
+    return faults != 0;
+}
