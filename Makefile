@@ -65,6 +65,9 @@ attack: target/staticlib/librook_row.a target/staticlib/librook_probe.a
 clean:
 	rm -rf target native/target oracle/target bindings/rust/target
 
-sources := $(shell find crates -name '*.rt' -o -name '*.antt')
-target/staticlib/lib%.a: crates.txt $(sources)
-	rt staticlib $*
+# An archive is made again where a crate that it is made of changed.
+archives = target/staticlib/librook_row.a target/staticlib/librook_probe.a
+target/staticlib/librook_row.a: $(shell tools/archive --sources rook_row)
+target/staticlib/librook_probe.a: $(shell tools/archive --sources rook_probe)
+$(archives): target/staticlib/lib%.a:
+	tools/archive $*
