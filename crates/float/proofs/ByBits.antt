@@ -13,7 +13,7 @@ use lib.Ieee.Bits.{toBits-ofBits}
 use borrow.Author.Tests.{eqb-true, eq-eqb}
 use Rattle.laws.proofs.Truths.{and-left, and-right, same}
 use Rattle.float.specs.Same.{sameFloat, sameValue}
-use Rattle.float.specs.Patterns.{magnitude, zeroPattern, nanPattern, sameBits, Alike, nans, zeros, equal}
+use Rattle.float.specs.Patterns.{withoutSign, zeroPattern, nanPattern, sameBits, Alike, nans, zeros, equal}
 use Rattle.float.proofs.Nan.{nan-pattern}
 
 -- ---- the three cases of `sameBits`
@@ -33,7 +33,7 @@ module _ (f : Format) (a b : ℕ) where
       either (nanPattern f a && nanPattern f b) ((zeroPattern f a && zeroPattern f b) || eqb a b) h
       (λ n. nans (and-left (nanPattern f a) (nanPattern f b) n) (and-right (nanPattern f a) (nanPattern f b) n))
       (λ r. either (zeroPattern f a && zeroPattern f b) (eqb a b) r
-      (λ z. zeros (eqb-true (magnitude f a) 0 (and-left (zeroPattern f a) (zeroPattern f b) z)) (eqb-true (magnitude f b) 0 (and-right (zeroPattern f a) (zeroPattern f b) z)))
+      (λ z. zeros (eqb-true (withoutSign f a) 0 (and-left (zeroPattern f a) (zeroPattern f b) z)) (eqb-true (withoutSign f b) 0 (and-right (zeroPattern f a) (zeroPattern f b) z)))
       (λ e. equal (eqb-true a b e)))
 
 -- ---- floats that are `eq` have equal bits, but for the sign of a zero
@@ -49,7 +49,7 @@ module _ (f : Format) (s : Bool) (m : ℕ) (e : ℤ) (n : ℕ) (d : ℤ) (h : m 
   unfolding toBits
   same-toBits = rw same-count
 
-zero-magnitude : (f : Format) (s : Bool) (e : ℤ) → magnitude f (toBits f (fin s 0 e)) ≡ 0
+zero-magnitude : (f : Format) (s : Bool) (e : ℤ) → withoutSign f (toBits f (fin s 0 e)) ≡ 0
 unfolding toBits
 zero-magnitude binary32 true e = simp (zero-mul, zero-div)
 zero-magnitude binary32 false e = simp (zero-mul, zero-div)
@@ -90,11 +90,11 @@ same-float (inf false) = refl
 same-float (fin true m e) = simp (eq-eqb (m * up e * down e) (m * up e * down e) refl)
 same-float (fin false m e) = simp (eq-eqb (m * up e * down e) (m * up e * down e) refl)
 
-zero-float : (f : Format) (a : ℕ) → magnitude f a ≡ 0 → ofBits f a ≡ fin (leb (top f) a) 0 (pos 0)
+zero-float : (f : Format) (a : ℕ) → withoutSign f a ≡ 0 → ofBits f a ≡ fin (leb (top f) a) 0 (pos 0)
 unfolding ofBits
 zero-float f a h = rw (h, digits f a h, zero-div)
   where
-    digits : (f : Format) (a : ℕ) → magnitude f a ≡ 0 → a % hid f ≡ 0
+    digits : (f : Format) (a : ℕ) → withoutSign f a ≡ 0 → a % hid f ≡ 0
     digits binary32 a h = omega arith
     digits binary64 a h = omega arith
 

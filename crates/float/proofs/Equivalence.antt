@@ -5,7 +5,7 @@ use mathlib.Core.Bool.{true, false≢true}
 use lib.Ieee.{Format, binary32, binary64, top}
 use Rattle.laws.proofs.Truths.{same}
 use Rattle.float.specs.Same.{sameValue}
-use Rattle.float.specs.Patterns.{magnitude, nanPattern, Alike, nans, zeros, equal}
+use Rattle.float.specs.Patterns.{withoutSign, nanPattern, Alike, nans, zeros, equal}
 use Rattle.float.proofs.ByBits.{alike-value, value-alike}
 
 pub same-self : (f : Format) (a : ℕ) → sameValue f a a ≡ true
@@ -16,7 +16,7 @@ alike-sym (nans p q) = nans q p
 alike-sym (zeros p q) = zeros q p
 alike-sym (equal e) = equal (sym e)
 
-no-nan-zero : (f : Format) (a : ℕ) → nanPattern f a ≡ true → magnitude f a ≡ 0 → ⊥
+no-nan-zero : (f : Format) (a : ℕ) → nanPattern f a ≡ true → withoutSign f a ≡ 0 → ⊥
 no-nan-zero binary32 a p q = false≢true (rw q at p)
 no-nan-zero binary64 a p q = false≢true (rw q at p)
 
