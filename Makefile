@@ -41,6 +41,7 @@ bench: target/staticlib/librook_row.a target/staticlib/librook_probe.a
 	cd oracle && cargo run --release --offline --quiet --bin bench_read
 	cd oracle && cargo run --release --offline --quiet --bin bench_build
 	cd oracle && cargo run --release --offline --quiet --bin bench_edit
+	cd oracle && cargo run --release --offline --quiet --bin bench_same
 
 # The comparison with the Rust for longer: make differential SECONDS=600 SEED=7
 SECONDS = 300

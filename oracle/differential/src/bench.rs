@@ -4,9 +4,9 @@
 //! processor cannot learn them.
 
 use cases::rng::Rng;
-use rookdb::chrono::{Duration, NaiveDate};
+use rookdb::chrono::{Duration, NaiveDate, NaiveDateTime};
 use rookdb::types::datatype::DataType;
-use rookdb::types::value::DataValue;
+use rookdb::types::value::{DataValue, NumericValue, OrderedF32, OrderedF64};
 use std::hint::black_box;
 use std::time::Instant;
 
@@ -27,15 +27,18 @@ fn occupation(station: u16) -> [DataType; 8] {
     ]
 }
 
+/// A second of a day.
+fn second(rng: &mut Rng) -> NaiveDateTime {
+    let day = NaiveDate::from_ymd_opt(2026, 11, 15).and_then(|day| day.and_hms_opt(0, 0, 0));
+    day.expect("a day") + Duration::seconds(rng.below(86_400) as i64)
+}
+
 /// One occupation: no line for one in eight, no departure for one in eight. The
 /// station's name stands `repeats` times.
 fn values(rng: &mut Rng, repeats: usize) -> [Option<DataValue>; 8] {
     let station = rng.pick(&["Aber", "Neustadt Süd", "Bad Wilhelmsruh (Hauptbahnhof)"]);
     let line = rng.pick(&["RB 12", "RE 4", "S 41"]);
-    let arrival = NaiveDate::from_ymd_opt(2026, 11, 15)
-        .and_then(|day| day.and_hms_opt(0, 0, 0))
-        .expect("a day")
-        + Duration::seconds(rng.below(86_400) as i64);
+    let arrival = second(rng);
     let departure = arrival + Duration::seconds(30 + rng.below(600) as i64);
     let line = DataValue::Varchar(line.into());
     [
@@ -50,7 +53,73 @@ fn values(rng: &mut Rng, repeats: usize) -> [Option<DataValue>; 8] {
     ]
 }
 
-/// Rows of so many occupations side by side.
+/// A possession of a track: every type once, or eight of them.
+fn possession(short: bool) -> Vec<DataType> {
+    let mut types = vec![
+        DataType::Numeric {
+            precision: 9,
+            scale: 3,
+        },
+        DataType::Bit(12),
+        DataType::Char(6),
+        DataType::Date,
+        DataType::Timestamp,
+        DataType::Int,
+        DataType::Varchar(40),
+        DataType::Real,
+    ];
+    if !short {
+        types.extend([
+            DataType::SmallInt,
+            DataType::BigInt,
+            DataType::DoublePrecision,
+            DataType::Decimal {
+                precision: 24,
+                scale: 2,
+            },
+            DataType::Bool,
+            DataType::Character(3),
+            DataType::Time,
+        ]);
+    }
+    types
+}
+
+/// A value of a possession's column; null for one in eight.
+fn value(rng: &mut Rng, ty: &DataType) -> Option<DataValue> {
+    let numeric = |unscaled, scale| DataValue::Numeric(Box::new(NumericValue { unscaled, scale }));
+    let text = |rng: &mut Rng, most: u16| {
+        let text = rng.pick(&["T41", "Gleis 3", "Süd", "Weiche 12 bis 17, links"]);
+        let fits = text.chars().take(usize::from(most) / 2);
+        fits.collect::<String>()
+    };
+    let value = match *ty {
+        DataType::SmallInt => DataValue::SmallInt(rng.below(900) as i16),
+        DataType::Int => DataValue::Int(rng.between(10_000, 99_999) as i32),
+        DataType::BigInt => DataValue::BigInt(rng.next_u64() as i64),
+        DataType::Real => DataValue::Real(OrderedF32(rng.below(4_000) as f32 / 100.0 - 20.0)),
+        DataType::DoublePrecision => {
+            DataValue::DoublePrecision(OrderedF64(rng.below(1_000_000) as f64 / 1000.0))
+        }
+        DataType::Numeric { scale, .. } => {
+            numeric(i128::from(rng.between_i64(-99_999, 999_999_999)), scale)
+        }
+        DataType::Decimal { scale, .. } => {
+            let large = (rng.below(10_000) as i128) * 100_000_000_000_000_000_000;
+            numeric(large + i128::from(rng.next_u64() >> 1), scale)
+        }
+        DataType::Bool => DataValue::Bool(rng.one_in(2)),
+        DataType::Char(n) | DataType::Character(n) => DataValue::Char(text(rng, n)),
+        DataType::Varchar(n) => DataValue::Varchar(text(rng, n)),
+        DataType::Date => DataValue::Date(second(rng).date()),
+        DataType::Time => DataValue::Time(second(rng).time()),
+        DataType::Bit(n) => DataValue::Bit((0..n).map(|_| rng.pick(&['0', '1'])).collect()),
+        DataType::Timestamp => DataValue::Timestamp(second(rng)),
+    };
+    (!rng.one_in(8)).then_some(value)
+}
+
+/// Rows of so many occupations side by side, or of possessions.
 pub struct Table {
     pub name: String,
     pub types: Vec<DataType>,
@@ -76,7 +145,23 @@ impl Table {
     }
 }
 
-/// 8, 64 and 256 columns, and 8 with texts of 120 to 1,000 bytes.
+/// Of possessions, 8 columns and 15: every type.
+pub fn possessions() -> [Table; 2] {
+    let rng = &mut Rng::new(2);
+    [true, false].map(|short| {
+        let types = possession(short);
+        let mut row = || types.iter().map(|ty| value(rng, ty)).collect();
+        let rows = (0..1000).map(|_| row()).collect();
+        let which = if short { "mixed types" } else { "every type" };
+        Table {
+            name: format!("{} columns, {which}", types.len()),
+            types,
+            rows,
+        }
+    })
+}
+
+/// Of occupations, 8, 64 and 256 columns, and 8 with texts of 120 to 1,000 bytes.
 pub fn tables() -> [Table; 4] {
     let rng = &mut Rng::new(1);
     [

@@ -7,7 +7,7 @@
 use cases::rust;
 use cases::schema::write_schema;
 use cases::value::ValueList;
-use differential::bench::{least, tables, time};
+use differential::bench::{least, possessions, tables, time};
 use rook_row::{Builder, RowRef, Schema};
 use rookdb::types::datatype::DataType;
 use rookdb::types::row::{Row, serialize_nullable_typed_row};
@@ -75,7 +75,7 @@ fn main() {
         "{:<32}{:>10}{:>8}{:>10}{:>10}{:>10}{:>8}",
         "ns for a row", "the Rust", "raw", "the Rust", "Builder", "the Rust", "raw"
     );
-    for table in tables() {
+    for table in tables().into_iter().chain(possessions()) {
         let types = &table.types;
         let listed = |values: Vec<_>| {
             let list = ValueList::of_rust(&values).expect("texts that fit");

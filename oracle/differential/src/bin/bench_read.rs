@@ -6,7 +6,7 @@
 
 use cases::rust;
 use cases::schema::write_schema;
-use differential::bench::{least, tables, time};
+use differential::bench::{least, possessions, tables, time};
 use rook_row::{Reader, RowRef, Schema};
 use rookdb::types::datatype::DataType;
 use rookdb::types::row::{RowDecoder, deserialize_nullable_row};
@@ -93,7 +93,7 @@ fn main() {
         "raw",
         "..look"
     );
-    for table in tables() {
+    for table in tables().into_iter().chain(possessions()) {
         let types = &table.types;
         let build = |values: &Vec<_>| rust::build(types, values).ok().expect("a row");
         let rows: Vec<_> = table.rows.iter().map(build).collect();
