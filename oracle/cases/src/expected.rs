@@ -1,7 +1,9 @@
 //! What must be answered, from what the Rust answers on 01's domain and from
-//! what 01 says outside it. A disagreement of the two panics.
+//! what 01 says outside it. A disagreement of the two panics. The columns are
+//! such as the Rust knows; of others it tells nothing.
 
 use crate::LIMIT;
+use crate::column::RustColumns;
 use crate::history::Call;
 use crate::layout::{Layout, Place};
 use crate::row::{is_sound, offset};
@@ -31,7 +33,8 @@ impl Refusal {
 pub type Values = Vec<Option<DataValue>>;
 
 /// The values of a read, or its refusal.
-pub fn read(types: &[DataType], row: &[u8], wanted: &[u16]) -> Result<Values, Refusal> {
+pub fn read(columns: &RustColumns, row: &[u8], wanted: &[u16]) -> Result<Values, Refusal> {
+    let types = &columns.rust;
     if row.len() > LIMIT {
         return Err(Refusal::Number(4, 0));
     }
@@ -81,8 +84,8 @@ fn refused_column(
 }
 
 /// The value list of what the Rust read: a text or a Bit is a part of the row.
-pub fn list(types: &[DataType], row: &[u8], values: &[Option<DataValue>]) -> Vec<u8> {
-    let layout = Layout::of_row(types, row);
+pub fn list(columns: &RustColumns, row: &[u8], values: &[Option<DataValue>]) -> Vec<u8> {
+    let layout = Layout::of_row(columns.types, row);
     let mut bytes = Vec::new();
     for (value, place) in values.iter().zip(&layout.places) {
         record(value, row, &layout, *place).write(&mut bytes);
@@ -108,12 +111,12 @@ fn record(value: &Option<DataValue>, row: &[u8], layout: &Layout, place: Place) 
 
 /// The part of the row that is a column's text, the empty one for null, or the
 /// refusal.
-pub fn text(types: &[DataType], row: &[u8], column: usize) -> Result<TextRange, Refusal> {
-    match types.get(column) {
+pub fn text(columns: &RustColumns, row: &[u8], column: usize) -> Result<TextRange, Refusal> {
+    match columns.types.get(column) {
         None => Err(Refusal::Internal),
-        Some(DataType::Char(_) | DataType::Character(_) | DataType::Varchar(_)) => {
-            let values = read(types, row, &[column as u16])?;
-            let layout = Layout::of_row(types, row);
+        Some(ty) if ty.is_text() => {
+            let values = read(columns, row, &[column as u16])?;
+            let layout = Layout::of_row(columns.types, row);
             let record = record(&values[column], row, &layout, layout.places[column]);
             let null = TextRange {
                 start: 0,
@@ -126,10 +129,10 @@ pub fn text(types: &[DataType], row: &[u8], column: usize) -> Result<TextRange, 
 }
 
 /// Whether a read of all columns gives the same, or the refusal.
-pub fn same_content(types: &[DataType], a: &[u8], b: &[u8]) -> Result<bool, Refusal> {
-    let all: Vec<u16> = (0..types.len() as u16).collect();
-    let of_a = read(types, a, &all)?;
-    let of_b = read(types, b, &all)?;
+pub fn same_content(columns: &RustColumns, a: &[u8], b: &[u8]) -> Result<bool, Refusal> {
+    let all: Vec<u16> = (0..columns.types.len() as u16).collect();
+    let of_a = read(columns, a, &all)?;
+    let of_b = read(columns, b, &all)?;
     Ok(of_a.iter().zip(&of_b).all(|(a, b)| match (a, b) {
         (Some(DataValue::Real(a)), Some(DataValue::Real(b))) => {
             a.0 == b.0 || a.0.is_nan() && b.0.is_nan()
@@ -157,8 +160,8 @@ pub fn null_flag(row: &[u8], column: usize) -> Result<bool, Refusal> {
 }
 
 /// The row of nulls.
-pub fn fresh(types: &[DataType]) -> Vec<u8> {
-    match rust::fresh(types) {
+pub fn fresh(columns: &RustColumns) -> Vec<u8> {
+    match rust::fresh(&columns.rust) {
         Outcome::Ok(row) => row,
         other => panic!("a fresh row came to {other:?}"),
     }
@@ -166,20 +169,21 @@ pub fn fresh(types: &[DataType]) -> Vec<u8> {
 
 /// What the Rust says of a list with so many good records: its count is the one
 /// refusal 10 that the Rust has.
-pub fn counted(types: &[DataType], records: usize) -> Outcome<Vec<u8>> {
-    rust::build(types, &vec![None; records])
+pub fn counted(columns: &RustColumns, records: usize) -> Outcome<Vec<u8>> {
+    rust::build(&columns.rust, &vec![None; records])
 }
 
 /// The row of a build, or its refusal. After a refusal the columns are built one
 /// by one, the others null, to learn the place.
-pub fn build(types: &[DataType], list: &ValueList) -> Result<Vec<u8>, (u32, usize)> {
+pub fn build(columns: &RustColumns, list: &ValueList) -> Result<Vec<u8>, (u32, usize)> {
+    let types = &columns.rust;
     if let Ok(records) = list.all_records()
         && records.len() != types.len()
     {
-        assert_eq!(counted(types, records.len()), Outcome::Internal);
+        assert_eq!(counted(columns, records.len()), Outcome::Internal);
     }
     let given = list
-        .to_rust(types)
+        .to_rust(columns.types)
         .map_err(|refusal| (refusal.number, refusal.place))?;
     let whole = match given.outside {
         None => rust::build(types, &given.values),
@@ -212,13 +216,14 @@ pub fn build(types: &[DataType], list: &ValueList) -> Result<Vec<u8>, (u32, usiz
 }
 
 /// The row after an edit, or its refusal: 15, 9, 10, 11, 12, 13.
-pub fn edit(types: &[DataType], row: &[u8], call: &Call) -> Result<Vec<u8>, (u32, usize)> {
-    if !is_sound(types, row) {
+pub fn edit(columns: &RustColumns, row: &[u8], call: &Call) -> Result<Vec<u8>, (u32, usize)> {
+    if !is_sound(columns, row) {
         return Err((15, 0));
     }
+    let types = &columns.rust;
     let (outcome, column) = match call {
         Call::SetNull { column } => (rust::set_null(types, row, *column), *column),
-        Call::Set { column, values } => (set(types, row, *column, values)?, *column),
+        Call::Set { column, values } => (set(columns, row, *column, values)?, *column),
     };
     match outcome {
         Outcome::Ok(row) if row.len() > LIMIT => Err((13, 0)),
@@ -232,12 +237,13 @@ pub fn edit(types: &[DataType], row: &[u8], call: &Call) -> Result<Vec<u8>, (u32
 
 /// What the Rust makes of a set, or the refusal of a value that it has not.
 fn set(
-    types: &[DataType],
+    columns: &RustColumns,
     row: &[u8],
     column: usize,
     values: &ValueList,
 ) -> Result<Outcome<Vec<u8>>, (u32, usize)> {
-    let Some(ty) = types.get(column) else {
+    let types = &columns.rust;
+    let Some(ty) = columns.types.get(column) else {
         return Ok(rust::set(types, row, column, &DataValue::Bool(false)));
     };
     let records = values

@@ -1,8 +1,8 @@
 //! A history of edits, and what the Rust makes of it on 01's domain.
 
+use crate::column::RustColumns;
 use crate::value::{self, Outside, ValueList};
 use crate::{LIMIT, rust};
-use rookdb::types::datatype::DataType;
 use rookdb::types::value::DataValue;
 use rust::Outcome;
 
@@ -37,15 +37,15 @@ pub struct Replay {
 
 /// Runs the calls on a fresh row of the Rust. A refused call leaves the row and
 /// the sheet as they were.
-pub fn replay(types: &[DataType], calls: &[Call]) -> Replay {
-    let row = rust::fresh(types).ok().expect("a fresh row");
+pub fn replay(columns: &RustColumns, calls: &[Call]) -> Replay {
+    let row = rust::fresh(&columns.rust).ok().expect("a fresh row");
     let mut replay = Replay {
         row,
-        sheet: vec![None; types.len()],
+        sheet: vec![None; columns.types.len()],
         answers: Vec::new(),
     };
     for call in calls {
-        let answer = match apply(types, &replay.row, call) {
+        let answer = match apply(columns, &replay.row, call) {
             Ok(edit) => {
                 replay.row = edit.row;
                 replay.sheet[edit.column] = edit.value;
@@ -66,11 +66,12 @@ struct Edit {
 }
 
 /// Refusals in 01's order: 9, 10, 11, 12, 13.
-fn apply(types: &[DataType], row: &[u8], call: &Call) -> Result<Edit, Answer> {
+fn apply(columns: &RustColumns, row: &[u8], call: &Call) -> Result<Edit, Answer> {
+    let types = &columns.rust;
     let (outcome, column, value) = match call {
         Call::SetNull { column } => (rust::set_null(types, row, *column), *column, None),
         Call::Set { column, values } => {
-            let value = set_value(types, row, *column, values)?;
+            let value = set_value(columns, row, *column, values)?;
             (rust::set(types, row, *column, &value), *column, Some(value))
         }
     };
@@ -85,14 +86,14 @@ fn apply(types: &[DataType], row: &[u8], call: &Call) -> Result<Edit, Answer> {
 
 /// The value that a set gives the Rust.
 fn set_value(
-    types: &[DataType],
+    columns: &RustColumns,
     row: &[u8],
     column: usize,
     values: &ValueList,
 ) -> Result<DataValue, Answer> {
-    let Some(ty) = types.get(column) else {
+    let Some(ty) = columns.types.get(column) else {
         // 9 comes before the value list is read: the Rust's answer to any value.
-        let outcome = rust::set(types, row, column, &DataValue::Bool(false));
+        let outcome = rust::set(&columns.rust, row, column, &DataValue::Bool(false));
         assert_eq!(outcome, Outcome::Internal);
         return Err(Answer::Internal);
     };

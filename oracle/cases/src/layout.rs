@@ -1,7 +1,6 @@
-//! Where the parts of a row are, from 01's layout rules. Sizes and alignments
-//! are the Rust's `fixed_size` and `alignment`, as 01 says.
+//! Where the parts of a row are, from 01's layout rules.
 
-use rookdb::types::datatype::DataType;
+use crate::column::ColumnType;
 
 /// Set in the header's second number of a packed row.
 pub const PACKED: u16 = 0x8000;
@@ -29,16 +28,16 @@ pub struct Layout {
 }
 
 impl Layout {
-    pub fn packed(types: &[DataType]) -> Self {
+    pub fn packed(types: &[ColumnType]) -> Self {
         Self::new(types, |_| 1)
     }
 
-    pub fn padded(types: &[DataType]) -> Self {
-        Self::new(types, |ty| ty.alignment() as usize)
+    pub fn padded(types: &[ColumnType]) -> Self {
+        Self::new(types, ColumnType::alignment)
     }
 
     /// The layout that a row's header names; the row has four bytes or more.
-    pub fn of_row(types: &[DataType], row: &[u8]) -> Self {
+    pub fn of_row(types: &[ColumnType], row: &[u8]) -> Self {
         if is_packed(row) {
             Self::packed(types)
         } else {
@@ -46,20 +45,20 @@ impl Layout {
         }
     }
 
-    fn new(types: &[DataType], alignment: impl Fn(&DataType) -> usize) -> Self {
+    fn new(types: &[ColumnType], alignment: impl Fn(&ColumnType) -> usize) -> Self {
         let varchars = types.iter().filter(|ty| ty.is_variable_length()).count();
         let table = BITMAP + types.len().div_ceil(8);
         let fixed = table + 2 * varchars;
         // The end of the fixed columns so far, counted from the first fixed byte.
         let mut end: usize = 0;
         let mut ranks = 0..varchars;
-        let place = |ty: &DataType| match ty.fixed_size() {
+        let place = |ty: &ColumnType| match ty.fixed_size() {
             Some(size) => {
                 let start = end.next_multiple_of(alignment(ty));
-                end = start + size as usize;
+                end = start + size;
                 Place::Fixed {
                     start: fixed + start,
-                    size: size as usize,
+                    size,
                 }
             }
             None => Place::Varchar {

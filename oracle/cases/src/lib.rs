@@ -4,7 +4,8 @@
 //! back, and "the Rust" is the original, the crate `rookdb`.
 //!
 //! What 01 says, written once more and apart from the port:
-//! - `schema`: schema bytes and `Vec<DataType>`, refusals 1 and 2;
+//! - `column`: the types of columns, and the Rust's types for them;
+//! - `schema`: schema bytes and their columns, refusals 1 and 2;
 //! - `value`: value lists with their text area and `Vec<Option<DataValue>>`,
 //!   refusal 10, and which values lie outside 01's domain;
 //! - `layout`: places in packed and padded rows;
@@ -23,6 +24,7 @@
 //! the Rust (`findings.rs`) and 01's statements about it (`statements.rs`). No
 //! program is here: a comparison with the port is built on this library.
 
+pub mod column;
 pub mod expected;
 pub mod generate;
 pub mod history;

@@ -1,8 +1,8 @@
 //! Row bytes, from 01: the padded form, soundness, null slots zeroed.
 
+use crate::column::{ColumnType, RustColumns};
 use crate::layout::{BITMAP, Layout, PACKED, Place};
 use crate::{LIMIT, rust, value};
-use rookdb::types::datatype::DataType;
 
 /// The column's bit in the null bitmap.
 pub fn null_bit(row: &[u8], column: usize) -> bool {
@@ -31,7 +31,7 @@ pub fn set_offset(row: &mut [u8], layout: &Layout, rank: usize, offset: u16) {
 /// The padded form of a sound packed row: the flag clear, each slot at its
 /// aligned start, `filler` between the slots, offsets moved with the payloads.
 /// `None` if it passes the row limit.
-pub fn padded(types: &[DataType], row: &[u8], filler: u8) -> Option<Vec<u8>> {
+pub fn padded(types: &[ColumnType], row: &[u8], filler: u8) -> Option<Vec<u8>> {
     let from = Layout::packed(types);
     let to = Layout::padded(types);
     let shift = to.minimum - from.minimum;
@@ -59,9 +59,9 @@ pub fn padded(types: &[DataType], row: &[u8], filler: u8) -> Option<Vec<u8>> {
 
 /// Whether a read of all columns gives 0: the Rust reads them, and the row and
 /// its dates are within 01's limits.
-pub fn reads(types: &[DataType], row: &[u8]) -> bool {
+pub fn reads(columns: &RustColumns, row: &[u8]) -> bool {
     row.len() <= LIMIT
-        && rust::read_all(types, row)
+        && rust::read_all(&columns.rust, row)
             .ok()
             .is_some_and(|values| values.iter().flatten().all(value::in_domain))
 }
@@ -69,11 +69,11 @@ pub fn reads(types: &[DataType], row: &[u8]) -> bool {
 /// Whether the row may be edited: all columns read, each Varchar has offset 0
 /// exactly if it is null, and the first other offset, or the row's length if
 /// there is none, is the minimum.
-pub fn is_sound(types: &[DataType], row: &[u8]) -> bool {
-    if !reads(types, row) {
+pub fn is_sound(columns: &RustColumns, row: &[u8]) -> bool {
+    if !reads(columns, row) {
         return false;
     }
-    let layout = Layout::of_row(types, row);
+    let layout = Layout::of_row(columns.types, row);
     let nulls_agree = layout
         .places
         .iter()
@@ -90,7 +90,7 @@ pub fn is_sound(types: &[DataType], row: &[u8]) -> bool {
 }
 
 /// Sets the slots of null fixed columns to zero, as demand 3 says.
-pub fn zero_null_slots(types: &[DataType], row: &mut [u8]) {
+pub fn zero_null_slots(types: &[ColumnType], row: &mut [u8]) {
     for (column, place) in Layout::of_row(types, row).places.into_iter().enumerate() {
         if let Place::Fixed { start, size } = place
             && null_bit(row, column)

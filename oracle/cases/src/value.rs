@@ -1,8 +1,8 @@
 //! Value lists with their text area, from 01, and the Rust's values for them.
 
+use crate::column::ColumnType;
 use crate::{LIMIT, Refusal};
 use rookdb::chrono::{Datelike, NaiveDate, NaiveDateTime, NaiveTime, Timelike};
-use rookdb::types::datatype::DataType;
 use rookdb::types::value::{DataValue, NumericValue, OrderedF32, OrderedF64};
 use std::ops::RangeInclusive;
 
@@ -143,21 +143,21 @@ impl Record {
     }
 
     /// Whether the record's kind is that of the column's type. Null has none.
-    pub fn matches(&self, ty: &DataType) -> bool {
+    pub fn matches(&self, ty: &ColumnType) -> bool {
         let kind = match ty {
-            DataType::SmallInt => 1,
-            DataType::Int => 2,
-            DataType::BigInt => 3,
-            DataType::Real => 4,
-            DataType::DoublePrecision => 5,
-            DataType::Numeric { .. } | DataType::Decimal { .. } => 6,
-            DataType::Bool => 7,
-            DataType::Char(_) | DataType::Character(_) => 8,
-            DataType::Varchar(_) => 9,
-            DataType::Date => 10,
-            DataType::Time => 11,
-            DataType::Bit(_) => 12,
-            DataType::Timestamp => 13,
+            ColumnType::SmallInt => 1,
+            ColumnType::Int => 2,
+            ColumnType::BigInt => 3,
+            ColumnType::Real => 4,
+            ColumnType::DoublePrecision => 5,
+            ColumnType::Numeric { .. } | ColumnType::Decimal { .. } => 6,
+            ColumnType::Bool => 7,
+            ColumnType::Char(_) | ColumnType::Character(_) => 8,
+            ColumnType::Varchar(_) => 9,
+            ColumnType::Date => 10,
+            ColumnType::Time => 11,
+            ColumnType::Bit(_) => 12,
+            ColumnType::Timestamp => 13,
         };
         self.kind() == kind
     }
@@ -246,7 +246,7 @@ impl ValueList {
     }
 
     /// The Rust's values for columns of these types, or refusal 10.
-    pub fn to_rust(&self, types: &[DataType]) -> Result<RustValues, Refusal> {
+    pub fn to_rust(&self, types: &[ColumnType]) -> Result<RustValues, Refusal> {
         let records = self.records(types.len())?;
         let mut values = Vec::new();
         for (ty, record) in types.iter().zip(&records) {
@@ -268,7 +268,11 @@ pub struct Outside;
 
 /// The Rust's value for a record in a column of this type. The kind is judged
 /// before the body, so where it does not match any value of that kind will do.
-pub fn to_rust(ty: &DataType, record: &Record, text: &[u8]) -> Result<Option<DataValue>, Outside> {
+pub fn to_rust(
+    ty: &ColumnType,
+    record: &Record,
+    text: &[u8],
+) -> Result<Option<DataValue>, Outside> {
     if *record == Record::Null {
         return Ok(None);
     }
@@ -279,7 +283,7 @@ pub fn to_rust(ty: &DataType, record: &Record, text: &[u8]) -> Result<Option<Dat
 }
 
 /// The value of a record that matches the type; `None` outside 01's domain.
-fn value_of(ty: &DataType, record: &Record, text: &[u8]) -> Option<DataValue> {
+fn value_of(ty: &ColumnType, record: &Record, text: &[u8]) -> Option<DataValue> {
     Some(match *record {
         Record::Bool(v) => DataValue::Bool(boolean(v)?),
         Record::Char(range) => DataValue::Char(string(range.of(text)?)?),
@@ -324,9 +328,9 @@ fn string(bytes: &[u8]) -> Option<String> {
     String::from_utf8(bytes.to_vec()).ok()
 }
 
-fn bit_length(ty: &DataType) -> usize {
+fn bit_length(ty: &ColumnType) -> usize {
     match *ty {
-        DataType::Bit(n) => usize::from(n),
+        ColumnType::Bit(n) => usize::from(n),
         _ => unreachable!("a Bit record matches a Bit column only"),
     }
 }

@@ -4,13 +4,13 @@
 
 mod common;
 
+use cases::column::ColumnType;
 use cases::generate::list::{Sort, list};
 use cases::generate::text::Fault;
 use cases::generate::value::TYPES;
 use cases::rng::Rng;
 use cases::value::{DATES, Record, TIMES, TIMESTAMPS, TextRange};
 use common::fault_of;
-use rookdb::types::datatype::DataType;
 use std::collections::BTreeSet;
 use std::fmt::Display;
 use std::num::FpCategory;
@@ -36,15 +36,15 @@ static SEEN: LazyLock<BTreeSet<String>> = LazyLock::new(|| {
 });
 
 /// One type of each kind, every precision, and lengths from none to the most.
-fn types() -> Vec<DataType> {
+fn types() -> Vec<ColumnType> {
     let mut types = TYPES.to_vec();
     for precision in 1..=38 {
         let scale = precision / 2;
-        types.push(DataType::Numeric { precision, scale });
+        types.push(ColumnType::Numeric { precision, scale });
     }
     for n in [0, 1, 2, 40, 60_000] {
-        types.extend([DataType::Char(n), DataType::Character(n)]);
-        types.extend([DataType::Varchar(n), DataType::Bit(n)]);
+        types.extend([ColumnType::Char(n), ColumnType::Character(n)]);
+        types.extend([ColumnType::Varchar(n), ColumnType::Bit(n)]);
     }
     types
 }
@@ -57,7 +57,7 @@ fn times(sort: Sort) -> usize {
     }
 }
 
-fn labels(ty: &DataType, record: &Record, text: &[u8]) -> Vec<String> {
+fn labels(ty: &ColumnType, record: &Record, text: &[u8]) -> Vec<String> {
     if !record.matches(ty) {
         return vec![format!("{ty:?} given kind {}", record.kind())];
     }
@@ -104,10 +104,10 @@ fn float_label(name: &str, negative: bool, class: FpCategory, bits: u64) -> Stri
     }
 }
 
-fn numeric_label(ty: &DataType, unscaled: i128, scale: u8) -> String {
+fn numeric_label(ty: &ColumnType, unscaled: i128, scale: u8) -> String {
     let (precision, own_scale) = match *ty {
-        DataType::Numeric { precision, scale } => (precision, scale),
-        DataType::Decimal { precision, scale } => (precision, scale),
+        ColumnType::Numeric { precision, scale } => (precision, scale),
+        ColumnType::Decimal { precision, scale } => (precision, scale),
         _ => unreachable!("a Numeric record matches these only"),
     };
     let above = 10_i128.pow(precision.into());
@@ -140,8 +140,8 @@ fn place_label(range: TextRange, text: usize) -> String {
     format!("range {place}")
 }
 
-fn content_label(ty: &DataType, bytes: &[u8]) -> String {
-    if matches!(ty, DataType::Bit(_)) {
+fn content_label(ty: &ColumnType, bytes: &[u8]) -> String {
+    if matches!(ty, ColumnType::Bit(_)) {
         return "bits".to_string();
     }
     match std::str::from_utf8(bytes) {
@@ -158,12 +158,12 @@ fn content_label(ty: &DataType, bytes: &[u8]) -> String {
 }
 
 /// How long the text or bit string is for the type.
-fn length_label(ty: &DataType, length: usize) -> Option<String> {
+fn length_label(ty: &ColumnType, length: usize) -> Option<String> {
     let (name, exactly) = match *ty {
-        DataType::Char(n) => ("Char", n.into()),
-        DataType::Character(n) => ("Character", n.into()),
-        DataType::Varchar(n) => ("Varchar", n.into()),
-        DataType::Bit(n) => ("Bit", usize::from(n).div_ceil(8)),
+        ColumnType::Char(n) => ("Char", n.into()),
+        ColumnType::Character(n) => ("Character", n.into()),
+        ColumnType::Varchar(n) => ("Varchar", n.into()),
+        ColumnType::Bit(n) => ("Bit", usize::from(n).div_ceil(8)),
         _ => return None,
     };
     let what = match length {

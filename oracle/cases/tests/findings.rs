@@ -2,7 +2,8 @@
 //! Where a build with overflow checks differs from one without, the test asks
 //! cfg!(debug_assertions), which goes with those checks in this workspace.
 
-use cases::row::{is_sound, padded};
+use cases::column::{RustColumns, of_rust_types};
+use cases::row::{self, padded};
 use cases::rust::{self, Outcome, guarded};
 use cases::value::DATES;
 use rookdb::chrono::{Datelike, NaiveDate, NaiveTime};
@@ -20,6 +21,11 @@ fn bit(bits: &str) -> DataValue {
 
 fn numeric(unscaled: i128, scale: u8) -> DataValue {
     DataValue::numeric(NumericValue { unscaled, scale })
+}
+
+fn is_sound(types: &[DataType], row: &[u8]) -> bool {
+    let types = of_rust_types(types);
+    row::is_sound(&RustColumns::of(&types).unwrap(), row)
 }
 
 /// The message of the panic in an edit of a row's column 0; `None` if there is
@@ -235,7 +241,7 @@ fn set_null_before_an_offset_in_the_header() {
 fn an_edited_padded_row_stays_padded() {
     let types = [DataType::Bool, DataType::SmallInt];
     let fresh = rust::fresh(&types).ok().unwrap();
-    let row = padded(&types, &fresh, 0xEE).unwrap();
+    let row = padded(&of_rust_types(&types), &fresh, 0xEE).unwrap();
     assert_eq!(row, [2, 0, 0, 0, 0b11, 0, 0xEE, 0, 0]);
     let row = rust::set(&types, &row, 1, &DataValue::SmallInt(-1));
     assert_eq!(

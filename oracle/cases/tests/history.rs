@@ -1,6 +1,7 @@
 //! Histories: calls of every sort are answered as they should be, and the row
 //! that the Rust is left with is the builder's row of the last accepted values.
 
+use cases::column::{ColumnType, RustColumns};
 use cases::generate::history::{Sort, call, history};
 use cases::generate::list::Sort as ListSort;
 use cases::generate::schema::any_types;
@@ -9,7 +10,6 @@ use cases::layout::Layout;
 use cases::rng::Rng;
 use cases::row::{is_sound, zero_null_slots};
 use cases::rust::{self, Outcome};
-use rookdb::types::datatype::DataType;
 use rookdb::types::value::DataValue;
 use std::collections::{BTreeMap, BTreeSet};
 
@@ -40,9 +40,10 @@ fn calls_are_answered_as_made() {
     let mut seen = BTreeSet::new();
     for _ in 0..2000 {
         let types = any_types(&mut rng);
+        let columns = RustColumns::of(&types).unwrap();
         for sort in Sort::ALL {
             if let Some(call) = call(&mut rng, &types, sort) {
-                let answer = replay(&types, &[call]).answers[0];
+                let answer = replay(&columns, &[call]).answers[0];
                 assert!(allowed(sort, answer), "{sort:?} {answer:?} {types:?}");
                 seen.insert((sort, answer));
             }
@@ -80,8 +81,9 @@ fn histories_leave_the_builders_row() {
         let types = any_types(&mut rng);
         let calls = history(&mut rng, &types, length);
         assert_eq!(calls.len(), length);
-        let left = replay(&types, &calls);
-        assert!(is_sound(&types, &left.row));
+        let columns = RustColumns::of(&types).unwrap();
+        let left = replay(&columns, &calls);
+        assert!(is_sound(&columns, &left.row));
         for answer in &left.answers {
             *answers.entry(*answer).or_default() += 1;
         }
@@ -90,7 +92,7 @@ fn histories_leave_the_builders_row() {
         zeroed += usize::from(row != left.row);
         longest = longest.max(row.len());
         assert_eq!(row.len(), length_by_sheet(&types, &left.sheet));
-        assert_eq!(rust::build(&types, &left.sheet), Outcome::Ok(row));
+        assert_eq!(rust::build(&columns.rust, &left.sheet), Outcome::Ok(row));
     }
     for answer in ANSWERS {
         assert!(answers[&answer] > 20, "{answers:?}");
@@ -99,7 +101,7 @@ fn histories_leave_the_builders_row() {
 }
 
 /// The layout's minimum and the payloads of the Varchars that are not null.
-fn length_by_sheet(types: &[DataType], sheet: &[Option<DataValue>]) -> usize {
+fn length_by_sheet(types: &[ColumnType], sheet: &[Option<DataValue>]) -> usize {
     let payload = |value: &DataValue| match value {
         DataValue::Varchar(text) => text.len(),
         _ => 0,
@@ -114,7 +116,8 @@ fn refused_calls_change_nothing() {
     for _ in 0..100 {
         let types = any_types(&mut rng);
         let calls = history(&mut rng, &types, 30);
-        let left = replay(&types, &calls);
+        let columns = RustColumns::of(&types).unwrap();
+        let left = replay(&columns, &calls);
         let accepted: Vec<Call> = calls
             .into_iter()
             .zip(&left.answers)
@@ -122,7 +125,7 @@ fn refused_calls_change_nothing() {
             .map(|(call, _)| call)
             .collect();
         refused += left.answers.len() - accepted.len();
-        let again = replay(&types, &accepted);
+        let again = replay(&columns, &accepted);
         assert_eq!((again.row, again.sheet), (left.row, left.sheet));
     }
     assert!(refused > 500, "{refused}");

@@ -1,6 +1,7 @@
 //! Pairs of rows: twins have one content in other bytes, near ones mostly not,
 //! and each type is met as both.
 
+use cases::column::RustColumns;
 use cases::expected::same_content;
 use cases::generate::pair::{Sort, any_pair, pair};
 use cases::generate::schema::{any_type, any_types};
@@ -13,10 +14,11 @@ fn twins_have_one_content() {
     let mut other_bytes = 0;
     for _ in 0..4000 {
         let types = any_types(&mut rng);
+        let columns = RustColumns::of(&types).unwrap();
         for sort in [Sort::Twins, Sort::Padded] {
             if let Some((a, b)) = pair(&mut rng, &types, sort) {
                 assert_eq!(
-                    same_content(&types, &a, &b),
+                    same_content(&columns, &a, &b),
                     Ok(true),
                     "{types:?}\n{a:X?}\n{b:X?}"
                 );
@@ -38,7 +40,7 @@ fn near_pairs_are_of_both_contents() {
         let name = format!("{:?}", types[0]);
         let name = name.split(['(', ' ']).next().unwrap().to_string();
         if let Some((a, b)) = pair(&mut rng, &types, Sort::Near)
-            && let Ok(same) = same_content(&types, &a, &b)
+            && let Ok(same) = same_content(&RustColumns::of(&types).unwrap(), &a, &b)
             && a[5..] != b[5..]
         {
             met.entry(name).or_default().insert(same);

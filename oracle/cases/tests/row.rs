@@ -2,6 +2,7 @@
 //! damaged ones are damaged as their sort says and reach every refusal of a
 //! read.
 
+use cases::column::{ColumnType, RustColumns, to_rust_types};
 use cases::generate::Expected;
 use cases::generate::list::{Sort as ListSort, list};
 use cases::generate::row::{Sort, any_row, row, sound_row};
@@ -12,12 +13,11 @@ use cases::rng::Rng;
 use cases::row::{is_sound, null_bit, offset, padded, zero_null_slots};
 use cases::rust::{self, Outcome};
 use cases::{LIMIT, value};
-use rookdb::types::datatype::DataType;
 use rookdb::types::value::DataValue;
 use std::collections::{BTreeMap, BTreeSet};
 
 /// Rows of every sort for schemas at random.
-fn generated(count: usize) -> impl Iterator<Item = (Vec<DataType>, Sort, Vec<u8>)> {
+fn generated(count: usize) -> impl Iterator<Item = (Vec<ColumnType>, Sort, Vec<u8>)> {
     let mut rng = Rng::new(1);
     (0..count).flat_map(move |_| {
         let types = any_types(&mut rng);
@@ -29,9 +29,9 @@ fn generated(count: usize) -> impl Iterator<Item = (Vec<DataType>, Sort, Vec<u8>
 }
 
 /// The values as a read gives them: Char with its blanks.
-fn blanked(types: &[DataType], values: &[Option<DataValue>]) -> Vec<Option<DataValue>> {
-    let blank = |(ty, value): (&DataType, &Option<DataValue>)| match (ty, value) {
-        (DataType::Char(n) | DataType::Character(n), Some(DataValue::Char(text))) => {
+fn blanked(types: &[ColumnType], values: &[Option<DataValue>]) -> Vec<Option<DataValue>> {
+    let blank = |(ty, value): (&ColumnType, &Option<DataValue>)| match (ty, value) {
+        (ColumnType::Char(n) | ColumnType::Character(n), Some(DataValue::Char(text))) => {
             let blanks = " ".repeat(usize::from(*n) - text.len());
             Some(DataValue::Char(format!("{text}{blanks}")))
         }
@@ -49,14 +49,15 @@ fn built_and_padded_rows_read_back() {
         let list = list(&mut rng, &types, ListSort::Good).unwrap();
         assert_eq!(list.expected, Expected::Accepted);
         let values = list.values.to_rust(&types).unwrap().values;
-        let packed = rust::build(&types, &values).ok().unwrap();
+        let columns = RustColumns::of(&types).unwrap();
+        let packed = rust::build(&columns.rust, &values).ok().unwrap();
         let read = Outcome::Ok(blanked(&types, &values));
-        assert_eq!(rust::read_all(&types, &packed), read);
+        assert_eq!(rust::read_all(&columns.rust, &packed), read);
         for filler in [0, 0xFF, rng.byte()] {
             if let Some(row) = padded(&types, &packed, filler) {
                 assert!(!is_packed(&row));
-                assert_eq!(rust::read_all(&types, &row), read);
-                assert!(is_sound(&types, &row));
+                assert_eq!(rust::read_all(&columns.rust, &row), read);
+                assert!(is_sound(&columns, &row));
                 moved += usize::from(row.len() > packed.len());
             }
         }
@@ -68,39 +69,48 @@ fn built_and_padded_rows_read_back() {
 fn padded_example() {
     // SmallInt 1, Varchar "AB", Int 2, Varchar "C": the Int starts at 12, not 10.
     let types = [
-        DataType::SmallInt,
-        DataType::Varchar(5),
-        DataType::Int,
-        DataType::Varchar(5),
+        ColumnType::SmallInt,
+        ColumnType::Varchar(5),
+        ColumnType::Int,
+        ColumnType::Varchar(5),
     ];
+    let rust_types = to_rust_types(&types).unwrap();
     let packed = b"\x04\0\x02\x80\0\x0F\0\x11\0\x01\0\x02\0\0\0ABC";
-    let values = rust::read_all(&types, packed).ok().unwrap();
-    assert_eq!(rust::build(&types, &values), Outcome::Ok(packed.to_vec()));
+    let values = rust::read_all(&rust_types, packed).ok().unwrap();
+    assert_eq!(
+        rust::build(&rust_types, &values),
+        Outcome::Ok(packed.to_vec())
+    );
     let row = padded(&types, packed, 0xEE).unwrap();
     assert_eq!(
         row,
         b"\x04\0\x02\0\0\x11\0\x13\0\x01\0\xEE\xEE\x02\0\0\0ABC"
     );
-    assert_eq!(rust::read_all(&types, &row), Outcome::Ok(values));
+    assert_eq!(rust::read_all(&rust_types, &row), Outcome::Ok(values));
 }
 
 #[test]
 fn a_padded_row_may_be_too_long() {
-    let types = [DataType::Bool, DataType::Int, DataType::Varchar(65_535)];
+    let types = [
+        ColumnType::Bool,
+        ColumnType::Int,
+        ColumnType::Varchar(65_535),
+    ];
     let values = |length| {
         let text = DataValue::Varchar("x".repeat(length));
         [None, None, Some(text)]
     };
     // The packed minimum is 12, the padded one 15.
-    let longest = rust::build(&types, &values(LIMIT - 15)).ok().unwrap();
+    let rust_types = to_rust_types(&types).unwrap();
+    let longest = rust::build(&rust_types, &values(LIMIT - 15)).ok().unwrap();
     assert_eq!(padded(&types, &longest, 0).unwrap().len(), LIMIT);
-    let longer = rust::build(&types, &values(LIMIT - 14)).ok().unwrap();
+    let longer = rust::build(&rust_types, &values(LIMIT - 14)).ok().unwrap();
     assert_eq!(padded(&types, &longer, 0), None);
 }
 
 #[test]
 fn soundness() {
-    let varchar = [DataType::Varchar(6)];
+    let is_sound = |ty: ColumnType, row: &[u8]| is_sound(&RustColumns::of(&[ty]).unwrap(), row);
     let examples: [(&[u8], bool); 9] = [
         (b"\x01\0\x01\x80\x01\0\0", true),
         (b"\x01\0\x01\x80\0\x07\0", true),
@@ -115,18 +125,22 @@ fn soundness() {
         (b"\x01\0\x01", false),
     ];
     for (row, sound) in examples {
-        assert_eq!(is_sound(&varchar, row), sound, "{row:02X?}");
+        assert_eq!(is_sound(ColumnType::Varchar(6), row), sound, "{row:02X?}");
     }
     // Spare bits are not looked at; a date past 9999 is no value of 01.
-    assert!(is_sound(&[DataType::Bool], b"\x01\0\0\x80\xFE\x02"));
+    assert!(is_sound(ColumnType::Bool, b"\x01\0\0\x80\xFE\x02"));
     let date = |days: i32| [&b"\x01\0\0\x80\0"[..], &days.to_le_bytes()].concat();
-    assert!(is_sound(&[DataType::Date], &date(2_932_896)));
-    assert!(!is_sound(&[DataType::Date], &date(2_932_897)));
+    assert!(is_sound(ColumnType::Date, &date(2_932_896)));
+    assert!(!is_sound(ColumnType::Date, &date(2_932_897)));
 }
 
 #[test]
 fn null_slots_zeroed() {
-    let types = [DataType::Bool, DataType::Varchar(1), DataType::SmallInt];
+    let types = [
+        ColumnType::Bool,
+        ColumnType::Varchar(1),
+        ColumnType::SmallInt,
+    ];
     let mut row = b"\x03\0\x01\x80\x05\x0A\0\x01\x02\x03A".to_vec();
     zero_null_slots(&types, &mut row);
     assert_eq!(row, b"\x03\0\x01\x80\x05\x0A\0\0\0\0A");
@@ -141,7 +155,8 @@ fn sound_rows_are_sound() {
     let mut packed = BTreeSet::new();
     for (types, sort, row) in generated(600) {
         if Sort::SOUND.contains(&sort) {
-            assert!(is_sound(&types, &row), "{sort:?} {types:?}");
+            let columns = RustColumns::of(&types).unwrap();
+            assert!(is_sound(&columns, &row), "{sort:?} {types:?}");
             packed.insert((sort, is_packed(&row)));
         }
     }
@@ -157,14 +172,15 @@ fn sound_rows_are_sound() {
     let mut rng = Rng::new(3);
     for _ in 0..200 {
         let types = any_types(&mut rng);
-        assert!(is_sound(&types, &sound_row(&mut rng, &types)));
+        let columns = RustColumns::of(&types).unwrap();
+        assert!(is_sound(&columns, &sound_row(&mut rng, &types)));
     }
 }
 
 /// The number of 01's answer to a read of all columns. The Rust gives what the
 /// table names for it.
-fn answer(types: &[DataType], row: &[u8]) -> (u32, &'static str) {
-    let outcome = rust::read_all(types, row);
+fn answer(types: &[ColumnType], row: &[u8]) -> (u32, &'static str) {
+    let outcome = rust::read_all(&to_rust_types(types).unwrap(), row);
     let field = |at: usize| u16::from_le_bytes([row[at], row[at + 1]]);
     let varchars = types.iter().filter(|ty| ty.is_variable_length()).count();
     let internal = match row.len() {
@@ -252,7 +268,7 @@ fn every_sort_and_refusal_is_generated() {
 }
 
 /// What each sort of damage promises, seen in the row.
-fn check_sort(types: &[DataType], sort: Sort, row: &[u8]) {
+fn check_sort(types: &[ColumnType], sort: Sort, row: &[u8]) {
     let varchars = || {
         let layout = Layout::of_row(types, row);
         let columns = layout.places.clone().into_iter().enumerate();
@@ -287,9 +303,9 @@ fn check_sort(types: &[DataType], sort: Sort, row: &[u8]) {
 fn random_rows_are_of_every_sort() {
     let mut rng = Rng::new(4);
     let types = [
-        DataType::Varchar(65_535),
-        DataType::Bool,
-        DataType::Varchar(9),
+        ColumnType::Varchar(65_535),
+        ColumnType::Bool,
+        ColumnType::Varchar(9),
     ];
     let sorts: BTreeSet<Sort> = (0..1000).map(|_| any_row(&mut rng, &types).0).collect();
     assert_eq!(sorts.into_iter().collect::<Vec<_>>(), Sort::ALL);
@@ -306,13 +322,17 @@ fn wanted_columns() {
         let row = sound_row(&mut rng, &types);
         let (sort, wanted) = any_wanted(&mut rng, types.len());
         sorts.insert(sort);
-        let mut expected = rust::read_all(&types, &row).ok().unwrap();
+        let rust_types = to_rust_types(&types).unwrap();
+        let mut expected = rust::read_all(&rust_types, &row).ok().unwrap();
         for (column, value) in expected.iter_mut().enumerate() {
             if !wanted.contains(&(column as u16)) {
                 *value = None;
             }
         }
-        assert_eq!(rust::read(&types, &row, &wanted), Outcome::Ok(expected));
+        assert_eq!(
+            rust::read(&rust_types, &row, &wanted),
+            Outcome::Ok(expected)
+        );
         let set: BTreeSet<u16> = wanted.iter().copied().collect();
         let known = set
             .iter()

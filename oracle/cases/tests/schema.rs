@@ -2,13 +2,13 @@
 //! generator knows of each schema; the layout against the Rust's; what the
 //! generator reaches.
 
+use cases::column::{ColumnType, of_rust_types, to_rust_types};
 use cases::generate::Expected;
 use cases::generate::schema::{Sort, any_schema, any_types, schema};
 use cases::layout::{Layout, Place};
 use cases::rng::Rng;
 use cases::schema::{read_records, read_schema, write_schema};
 use cases::{LIMIT, MAX_COLUMNS, Refusal};
-use rookdb::types::datatype::DataType;
 use rookdb::types::row_layout::{PhysicalSchema, RowLayout};
 use std::collections::BTreeSet;
 
@@ -42,34 +42,34 @@ fn read_as_made() {
 
 #[test]
 fn every_type_both_ways() {
-    let examples: [(DataType, &[u8]); 15] = [
-        (DataType::SmallInt, &[1]),
-        (DataType::Int, &[2]),
-        (DataType::BigInt, &[3]),
-        (DataType::Real, &[4]),
-        (DataType::DoublePrecision, &[5]),
+    let examples: [(ColumnType, &[u8]); 15] = [
+        (ColumnType::SmallInt, &[1]),
+        (ColumnType::Int, &[2]),
+        (ColumnType::BigInt, &[3]),
+        (ColumnType::Real, &[4]),
+        (ColumnType::DoublePrecision, &[5]),
         (
-            DataType::Numeric {
+            ColumnType::Numeric {
                 precision: 38,
                 scale: 38,
             },
             &[6, 38, 38],
         ),
         (
-            DataType::Decimal {
+            ColumnType::Decimal {
                 precision: 1,
                 scale: 0,
             },
             &[7, 1, 0],
         ),
-        (DataType::Bool, &[8]),
-        (DataType::Char(0), &[9, 0, 0]),
-        (DataType::Character(1), &[10, 1, 0]),
-        (DataType::Varchar(65_535), &[11, 255, 255]),
-        (DataType::Date, &[12]),
-        (DataType::Time, &[13]),
-        (DataType::Bit(258), &[14, 2, 1]),
-        (DataType::Timestamp, &[15]),
+        (ColumnType::Bool, &[8]),
+        (ColumnType::Char(0), &[9, 0, 0]),
+        (ColumnType::Character(1), &[10, 1, 0]),
+        (ColumnType::Varchar(65_535), &[11, 255, 255]),
+        (ColumnType::Date, &[12]),
+        (ColumnType::Time, &[13]),
+        (ColumnType::Bit(258), &[14, 2, 1]),
+        (ColumnType::Timestamp, &[15]),
     ];
     for (ty, bytes) in examples {
         assert_eq!(write_schema(std::slice::from_ref(&ty)), bytes);
@@ -126,12 +126,28 @@ fn refusals() {
 }
 
 #[test]
+fn types_are_the_rusts() {
+    let mut rng = Rng::new(4);
+    for _ in 0..3000 {
+        let types = any_types(&mut rng);
+        let rust = to_rust_types(&types).unwrap();
+        assert_eq!(of_rust_types(&rust), types);
+        for (ty, rust) in types.iter().zip(&rust) {
+            assert_eq!(ty.fixed_size(), rust.fixed_size().map(|size| size as usize));
+            assert_eq!(ty.alignment(), rust.alignment() as usize);
+            assert_eq!(ty.is_variable_length(), rust.is_variable_length());
+        }
+    }
+}
+
+#[test]
 fn layout_is_the_rusts() {
     let mut rng = Rng::new(2);
     let mut padding = 0;
     for _ in 0..3000 {
         let types = any_types(&mut rng);
-        let physical = PhysicalSchema::from_logical(&types);
+        let rust = to_rust_types(&types).unwrap();
+        let physical = PhysicalSchema::from_logical(&rust);
         let packed = Layout::packed(&types);
         let padded = Layout::padded(&types);
         check_layout(&packed, &physical, &RowLayout::compute(&physical));
@@ -162,12 +178,12 @@ fn check_layout(ours: &Layout, physical: &PhysicalSchema, theirs: &RowLayout) {
 }
 
 /// The lengths of a type with n, by name.
-fn length(ty: &DataType) -> Option<(&'static str, u16)> {
+fn length(ty: &ColumnType) -> Option<(&'static str, u16)> {
     match *ty {
-        DataType::Char(n) => Some(("Char", n)),
-        DataType::Character(n) => Some(("Character", n)),
-        DataType::Varchar(n) => Some(("Varchar", n)),
-        DataType::Bit(n) => Some(("Bit", n)),
+        ColumnType::Char(n) => Some(("Char", n)),
+        ColumnType::Character(n) => Some(("Character", n)),
+        ColumnType::Varchar(n) => Some(("Varchar", n)),
+        ColumnType::Bit(n) => Some(("Bit", n)),
         _ => None,
     }
 }
@@ -189,9 +205,9 @@ fn every_type_and_size_is_generated() {
         for ty in &types {
             kinds.insert(write_schema(std::slice::from_ref(ty))[0]);
             lengths.extend(length(ty));
-            if let DataType::Numeric { precision, scale } = *ty {
+            if let ColumnType::Numeric { precision, scale } = *ty {
                 numerics.insert((6, precision, scale));
-            } else if let DataType::Decimal { precision, scale } = *ty {
+            } else if let ColumnType::Decimal { precision, scale } = *ty {
                 numerics.insert((7, precision, scale));
             }
         }

@@ -1,6 +1,7 @@
 //! What 01 says of the Rust, seen in the Rust: the worked rows, the rules for
 //! reading, the Rust's column of the table.
 
+use cases::column::{RustColumns, of_rust_types};
 use cases::layout::Layout;
 use cases::rng::Rng;
 use cases::row::is_sound;
@@ -74,8 +75,8 @@ fn cases_1_to_4() {
 #[test]
 fn case_5() {
     let types = [DataType::SmallInt, DataType::Int];
-    assert_eq!(Layout::packed(&types).minimum, 11);
-    assert_eq!(Layout::padded(&types).minimum, 13);
+    assert_eq!(Layout::packed(&of_rust_types(&types)).minimum, 11);
+    assert_eq!(Layout::padded(&of_rust_types(&types)).minimum, 13);
     // The Rust reads from the minimum on.
     for (field, minimum) in [(0x80, 11), (0, 13)] {
         let mut row = vec![2, 0, 0, field, 0];
@@ -346,7 +347,8 @@ fn numerics_of_17_bytes_fall_back() {
     // Such a row is sound, though its value may not be written back.
     let types = [numeric_type(33, 1)];
     let row = row_of(&slot(-1, 2));
-    assert!(is_sound(&types, &row));
+    let columns = of_rust_types(&types);
+    assert!(is_sound(&RustColumns::of(&columns).unwrap(), &row));
     let back = rust::set(&types, &row, 0, &numeric(-1, 2));
     assert_eq!(back, Outcome::TypeMismatch);
     for (precision, size) in [(31, 16), (34, 18)] {

@@ -1,6 +1,7 @@
 //! Value lists: bytes and Rust values both ways, refusals as the generator
 //! knows them and as the Rust gives them.
 
+use cases::column::{ColumnType, to_rust_types};
 use cases::generate::Expected;
 use cases::generate::list::{List, Sort, any_list, list};
 use cases::generate::schema::any_types;
@@ -12,12 +13,11 @@ use cases::value::{
     DATES, Outside, Record, TIMES, TIMESTAMPS, TextRange, ValueList, is_value, to_rust,
 };
 use cases::{LIMIT, Refusal};
-use rookdb::types::datatype::DataType;
 use rookdb::types::value::{DataValue, NumericValue};
 use std::collections::BTreeSet;
 
 /// Lists of every sort for schemas at random.
-fn generated() -> impl Iterator<Item = (Vec<DataType>, Sort, List)> {
+fn generated() -> impl Iterator<Item = (Vec<ColumnType>, Sort, List)> {
     let mut rng = Rng::new(1);
     (0..3000).flat_map(move |_| {
         let types = any_types(&mut rng);
@@ -28,8 +28,9 @@ fn generated() -> impl Iterator<Item = (Vec<DataType>, Sort, List)> {
 }
 
 /// 01's answer to a build, its refusals 11 and 12 by the Rust where it is asked.
-fn answer(types: &[DataType], values: &ValueList) -> Result<Vec<u8>, Refusal> {
+fn answer(types: &[ColumnType], values: &ValueList) -> Result<Vec<u8>, Refusal> {
     let given = values.to_rust(types)?;
+    let types = to_rust_types(types).unwrap();
     for (column, value) in given.values.iter().enumerate() {
         let alone = std::slice::from_ref(value);
         match rust::build(&types[column..=column], alone) {
@@ -42,7 +43,7 @@ fn answer(types: &[DataType], values: &ValueList) -> Result<Vec<u8>, Refusal> {
     if let Some(column) = given.outside {
         return Err(Refusal::new(12, column));
     }
-    let row = rust::build(types, &given.values).ok().expect("a row");
+    let row = rust::build(&types, &given.values).ok().expect("a row");
     if row.len() > LIMIT {
         return Err(Refusal::new(13, 0));
     }
@@ -78,7 +79,7 @@ fn the_rust_refuses_by_rising_column() {
         if given.outside.is_some() {
             continue;
         }
-        let outcome = rust::build(&types, &given.values);
+        let outcome = rust::build(&to_rust_types(&types).unwrap(), &given.values);
         match answer(&types, &list.values) {
             Err(Refusal { number: 11, .. }) => {
                 assert_eq!(outcome, Outcome::Internal);
@@ -242,67 +243,76 @@ fn outside_the_domain() {
     let numeric = |unscaled| Record::Numeric { unscaled, scale: 2 };
     let nine = &TYPES[5];
     let outside = [
-        (&DataType::Bool, Record::Bool(2)),
-        (&DataType::Date, Record::Date(DATES.start() - 1)),
-        (&DataType::Date, Record::Date(DATES.end() + 1)),
-        (&DataType::Time, Record::Time(-1)),
-        (&DataType::Time, Record::Time(TIMES.end() + 1)),
+        (&ColumnType::Bool, Record::Bool(2)),
+        (&ColumnType::Date, Record::Date(DATES.start() - 1)),
+        (&ColumnType::Date, Record::Date(DATES.end() + 1)),
+        (&ColumnType::Time, Record::Time(-1)),
+        (&ColumnType::Time, Record::Time(TIMES.end() + 1)),
         (
-            &DataType::Timestamp,
+            &ColumnType::Timestamp,
             Record::Timestamp(TIMESTAMPS.start() - 1),
         ),
         (
-            &DataType::Timestamp,
+            &ColumnType::Timestamp,
             Record::Timestamp(TIMESTAMPS.end() + 1),
         ),
-        (&DataType::Timestamp, Record::Timestamp(i64::MIN)),
-        (&DataType::Varchar(9), Record::Varchar(range(2, 2))),
-        (&DataType::Varchar(9), Record::Varchar(range(1, 1))),
-        (&DataType::Char(9), Record::Char(range(3, 2))),
-        (&DataType::Char(9), Record::Char(range(5, 0))),
-        (&DataType::Bit(8), Record::Bit(range(0, 2))),
-        (&DataType::Bit(9), Record::Bit(range(0, 1))),
-        (&DataType::Bit(9), Record::Bit(range(3, 2))),
+        (&ColumnType::Timestamp, Record::Timestamp(i64::MIN)),
+        (&ColumnType::Varchar(9), Record::Varchar(range(2, 2))),
+        (&ColumnType::Varchar(9), Record::Varchar(range(1, 1))),
+        (&ColumnType::Char(9), Record::Char(range(3, 2))),
+        (&ColumnType::Char(9), Record::Char(range(5, 0))),
+        (&ColumnType::Bit(8), Record::Bit(range(0, 2))),
+        (&ColumnType::Bit(9), Record::Bit(range(0, 1))),
+        (&ColumnType::Bit(9), Record::Bit(range(3, 2))),
         (nine, numeric(i128::MIN)),
     ];
     for (ty, record) in outside {
         assert_eq!(to_rust(ty, &record, text), Err(Outside), "{record:?}");
         // In a column of another type the kind is refused first.
-        let int = to_rust(&DataType::Int, &record, text).unwrap().unwrap();
-        let fresh = rust::fresh(&[DataType::Int]).ok().unwrap();
-        let set = rust::set(&[DataType::Int], &fresh, 0, &int);
+        let int = to_rust(&ColumnType::Int, &record, text).unwrap().unwrap();
+        let types = to_rust_types(&[ColumnType::Int]).unwrap();
+        let fresh = rust::fresh(&types).ok().unwrap();
+        let set = rust::set(&types, &fresh, 0, &int);
         assert_eq!(set, Outcome::Internal);
     }
     let inside = [
-        (&DataType::Date, Record::Date(*DATES.start()), "0001-01-01"),
-        (&DataType::Date, Record::Date(*DATES.end()), "9999-12-31"),
-        (&DataType::Date, Record::Date(0), "1970-01-01"),
-        (&DataType::Time, Record::Time(0), "00:00:00.000000"),
         (
-            &DataType::Time,
+            &ColumnType::Date,
+            Record::Date(*DATES.start()),
+            "0001-01-01",
+        ),
+        (&ColumnType::Date, Record::Date(*DATES.end()), "9999-12-31"),
+        (&ColumnType::Date, Record::Date(0), "1970-01-01"),
+        (&ColumnType::Time, Record::Time(0), "00:00:00.000000"),
+        (
+            &ColumnType::Time,
             Record::Time(*TIMES.end()),
             "23:59:59.999999",
         ),
         (
-            &DataType::Timestamp,
+            &ColumnType::Timestamp,
             Record::Timestamp(*TIMESTAMPS.start()),
             "0001-01-01 00:00:00.000000",
         ),
         (
-            &DataType::Timestamp,
+            &ColumnType::Timestamp,
             Record::Timestamp(*TIMESTAMPS.end()),
             "9999-12-31 23:59:59.999999",
         ),
         (
-            &DataType::Timestamp,
+            &ColumnType::Timestamp,
             Record::Timestamp(-1),
             "1969-12-31 23:59:59.999999",
         ),
-        (&DataType::Varchar(1), Record::Varchar(range(0, 2)), "'é'"),
-        (&DataType::Varchar(1), Record::Varchar(range(4, 0)), "''"),
-        (&DataType::Bit(9), Record::Bit(range(1, 2)), "B'101010011'"),
-        (&DataType::Bit(0), Record::Bit(range(1, 0)), "B''"),
-        (&DataType::Bool, Record::Bool(1), "true"),
+        (&ColumnType::Varchar(1), Record::Varchar(range(0, 2)), "'é'"),
+        (&ColumnType::Varchar(1), Record::Varchar(range(4, 0)), "''"),
+        (
+            &ColumnType::Bit(9),
+            Record::Bit(range(1, 2)),
+            "B'101010011'",
+        ),
+        (&ColumnType::Bit(0), Record::Bit(range(1, 0)), "B''"),
+        (&ColumnType::Bool, Record::Bool(1), "true"),
         (nine, numeric(-1234), "-12.34"),
     ];
     for (ty, record, shown) in inside {
@@ -318,14 +328,14 @@ fn kinds_match_as_in_the_rust() {
     let kinds: Vec<u8> = TYPES.map(|ty| write_schema(&[ty])[0]).to_vec();
     assert_eq!(kinds, (1..=15).collect::<Vec<_>>());
     for ty in &TYPES {
-        let types = std::slice::from_ref(ty);
-        let fresh = rust::fresh(types).ok().unwrap();
+        let types = [ty.to_rust().unwrap()];
+        let fresh = rust::fresh(&types).ok().unwrap();
         for other in &TYPES {
             let list = list(&mut Rng::new(1), std::slice::from_ref(other), Sort::Values);
             let values = list.unwrap().values;
             let record = values.records(1).unwrap()[0];
             let value = to_rust(other, &record, &values.text).unwrap().unwrap();
-            let refused = rust::set(types, &fresh, 0, &value) == Outcome::Internal;
+            let refused = rust::set(&types, &fresh, 0, &value) == Outcome::Internal;
             assert_eq!(record.matches(ty), !refused, "{record:?} in {ty:?}");
         }
     }
@@ -335,9 +345,9 @@ fn kinds_match_as_in_the_rust() {
 fn random_lists_are_of_every_sort() {
     let mut rng = Rng::new(3);
     let types = [
-        DataType::Varchar(65_535),
-        DataType::Bool,
-        DataType::Varchar(9),
+        ColumnType::Varchar(65_535),
+        ColumnType::Bool,
+        ColumnType::Varchar(9),
     ];
     let mut sorts = BTreeSet::new();
     let mut random = BTreeSet::new();

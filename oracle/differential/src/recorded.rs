@@ -25,6 +25,7 @@
 use crate::compare::value::{self, Handed};
 use crate::compare::{build, edit, layout, null_flag, rows, text};
 use cases::LIMIT;
+use cases::column::{RustColumns, to_rust_types};
 use cases::expected::{self, Refusal};
 use cases::generate::history::{self, Sort};
 use cases::generate::list;
@@ -118,9 +119,9 @@ fn null_flag(rng: &mut Rng) -> Option<Record> {
 
 fn layout(rng: &mut Rng) -> Option<Record> {
     let (_, schema) = any_schema(rng);
-    read_schema(&schema.bytes).ok()?;
-    let wanted = layout::wanted(&schema.bytes);
-    let numbers = [wanted.columns, wanted.varlens, wanted.packed, wanted.padded];
+    let types = read_schema(&schema.bytes).ok()?;
+    let told = layout::rust(&types)?.probe;
+    let numbers = [told.columns, told.varlens, told.packed, told.padded];
     Some(Record {
         kind: LAYOUT,
         inputs: vec![schema.bytes],
@@ -175,9 +176,10 @@ fn slot_read(rng: &mut Rng) -> Option<Record> {
 /// What the Rust reads, where 01 says the same; 5 for each `Internal`.
 fn read_by_both(schema: &[u8], row: &[u8], wanted: &[u16]) -> Option<Handed> {
     let types = rows::columns(schema).ok()?;
-    let expected = expected::read(&types, row, wanted);
-    match (expected, rust::read(&types, row, wanted)) {
-        (Ok(values), _) => Some(Ok(expected::list(&types, row, &values))),
+    let columns = RustColumns::of(&types)?;
+    let expected = expected::read(&columns, row, wanted);
+    match (expected, rust::read(&columns.rust, row, wanted)) {
+        (Ok(values), _) => Some(Ok(expected::list(&columns, row, &values))),
         (Err(Refusal::Internal), _) => Some(Err(5)),
         (Err(Refusal::Number(8, _)), Outcome::TypeMismatch) => Some(Err(8)),
         (Err(Refusal::Number(7, _)), Outcome::Panicked) => Some(Err(7)),
@@ -202,7 +204,8 @@ fn row_built(rng: &mut Rng) -> Option<Record> {
         _ => build::any_given(rng),
     };
     let list = given.list;
-    let answer = match build::rust_row(&given.types, &list)? {
+    let columns = RustColumns::of(&given.types)?;
+    let answer = match build::rust_row(&columns, &list)? {
         Outcome::Ok(row) => Ok(row),
         Outcome::Internal => Err(11),
         Outcome::TypeMismatch => Err(12),
@@ -214,7 +217,7 @@ fn row_built(rng: &mut Rng) -> Option<Record> {
 
 fn row_fresh(rng: &mut Rng) -> Option<Record> {
     let types = rows::any_types(rng);
-    let row = rust::fresh(&types).ok()?;
+    let row = rust::fresh(&to_rust_types(&types)?).ok()?;
     handed(FRESH, vec![write_schema(&types)], Ok(row))
 }
 
@@ -243,7 +246,7 @@ fn edited(rng: &mut Rng, sort: Sort) -> Option<Record> {
     let row = sound_row(rng, &types);
     let spare = rng.between(0, 60);
     let buffer = [row.clone(), rng.bytes(spare)].concat();
-    let (variant, after) = match edit::rust_edit(&types, &row, &call)? {
+    let (variant, after) = match edit::rust_edit(&RustColumns::of(&types)?, &row, &call)? {
         // Most of them change a fixed column: half are enough.
         Outcome::Ok(after) if after.len() == row.len() && rng.one_in(2) => return None,
         Outcome::Ok(after) => (0, after),

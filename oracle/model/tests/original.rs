@@ -9,6 +9,7 @@
 
 mod common;
 
+use cases::column::{ColumnType, RustColumns, to_rust_types};
 use cases::expected::{self, Refusal};
 use cases::generate::{Expected, history, list, pair, row, schema, text, wanted};
 use cases::history::{Answer, Call, replay};
@@ -20,7 +21,6 @@ use cases::schema::{read_schema, write_schema};
 use cases::value::ValueList;
 use common::{FILL, ROOM};
 use model::RowAnswer;
-use rookdb::types::datatype::DataType;
 use rookdb::types::value::DataValue;
 use std::collections::BTreeMap;
 use std::fmt::Debug;
@@ -131,7 +131,7 @@ fn same<T: PartialEq + Debug>(
 }
 
 /// Columns of a good schema: often one to three, so that little hides a fault.
-fn any_types(rng: &mut Rng) -> Vec<DataType> {
+fn any_types(rng: &mut Rng) -> Vec<ColumnType> {
     match rng.below(2) {
         0 => {
             let columns = rng.between(1, 3);
@@ -205,7 +205,8 @@ fn fresh(rng: &mut Rng) -> Result<Vec<u32>, String> {
     let bytes = write_schema(&types);
     let mut numbers = Vec::new();
     let (answer, row) = with_rooms(|out| model::fresh(&bytes, out), &mut numbers);
-    let wanted = rust::fresh(&types).ok().ok_or((0, 0));
+    let rust_types = to_rust_types(&types).unwrap();
+    let wanted = rust::fresh(&rust_types).ok().ok_or((0, 0));
     same(result_of(answer, row), wanted, || format!("{types:?}"))?;
     Ok(numbers)
 }
@@ -223,7 +224,8 @@ fn build(rng: &mut Rng) -> Result<Vec<u32>, String> {
         format!("{sort:?} {types:?}\n  list {list}\n  text {text}")
     };
     let model = result_of(answer, row);
-    same(&model, &expected::build(&types, values), input)?;
+    let columns = RustColumns::of(&types).unwrap();
+    same(&model, &expected::build(&columns, values), input)?;
     if let Expected::Refused(refusal) = list.expected {
         same(&model, &Err((refusal.number, refusal.place)), input)?;
     }
@@ -243,12 +245,12 @@ fn stored_forms(rng: &mut Rng) -> Result<Vec<u32>, String> {
     let precision = rng.pick(&[precision, 31, 32, 33, 34]);
     let scale = rng.between(0, precision.into()) as u8;
     let ty = match rng.below(8) {
-        0..=2 => DataType::Time,
-        3..=5 => DataType::Numeric { precision, scale },
+        0..=2 => ColumnType::Time,
+        3..=5 => ColumnType::Numeric { precision, scale },
         _ => schema::any_type(rng, 20),
     };
     let types = match ty.is_variable_length() {
-        true => vec![DataType::Decimal { precision, scale }],
+        true => vec![ColumnType::Decimal { precision, scale }],
         false => vec![ty],
     };
     let mut numbers = Vec::new();
@@ -260,7 +262,7 @@ fn stored_forms(rng: &mut Rng) -> Result<Vec<u32>, String> {
 }
 
 fn read_of(
-    types: &[DataType],
+    types: &[ColumnType],
     row: &[u8],
     wanted: &[u16],
     sort: row::Sort,
@@ -274,8 +276,10 @@ fn read_of(
             hex(row)
         )
     };
-    match (result_of(answer, list), expected::read(types, row, wanted)) {
-        (Ok(list), Ok(values)) => same(list, expected::list(types, row, &values), input)?,
+    let columns = RustColumns::of(types).unwrap();
+    let wanted = expected::read(&columns, row, wanted);
+    match (result_of(answer, list), wanted) {
+        (Ok(list), Ok(values)) => same(list, expected::list(&columns, row, &values), input)?,
         (model, wanted) => {
             let model = model.map(|_| ()).map_err(Refusal::of);
             same(model, wanted.map(|_| ()), input)?;
@@ -301,7 +305,7 @@ fn edit(rng: &mut Rng) -> Result<Vec<u32>, String> {
     let wanted = if stated > room {
         Err((14, 0))
     } else {
-        expected::edit(&types, &row, &call)
+        expected::edit(&RustColumns::of(&types).unwrap(), &row, &call)
     };
     let wanted = wanted.and_then(|row| {
         let fits = row.len() <= room;
@@ -326,7 +330,7 @@ fn edit(rng: &mut Rng) -> Result<Vec<u32>, String> {
     Ok(vec![answer.number])
 }
 
-fn any_call(rng: &mut Rng, types: &[DataType]) -> Call {
+fn any_call(rng: &mut Rng, types: &[ColumnType]) -> Call {
     loop {
         let sort = match rng.below(4) {
             0 => history::Sort::Set(list::Sort::Values),
@@ -358,11 +362,11 @@ fn model_edit(schema: &[u8], buf: &mut [u8], length: usize, call: &Call) -> RowA
 fn whole_history(rng: &mut Rng) -> Result<Vec<u32>, String> {
     let mut types = any_types(rng);
     if types.is_empty() {
-        types.push(DataType::Varchar(9));
+        types.push(ColumnType::Varchar(9));
     }
     let length = rng.between(1, 12);
     let calls = history::history(rng, &types, length);
-    let wanted = replay(&types, &calls);
+    let wanted = replay(&RustColumns::of(&types).unwrap(), &calls);
     let bytes = write_schema(&types);
     let mut buf = vec![FILL; ROOM];
     let mut length = model::fresh(&bytes, &mut buf).length;
@@ -434,7 +438,8 @@ fn text_and_same(rng: &mut Rng) -> Result<Vec<u32>, String> {
         0 => Ok((answer.start, answer.length)),
         number => Err(Refusal::of((number, answer.place))),
     };
-    let wanted = expected::text(&types, &a, column);
+    let columns = RustColumns::of(&types).unwrap();
+    let wanted = expected::text(&columns, &a, column);
     let wanted = wanted.map(|range| (range.start.into(), range.length.into()));
     same(model, wanted, input)?;
     let mut numbers = vec![answer.number];
@@ -446,7 +451,7 @@ fn text_and_same(rng: &mut Rng) -> Result<Vec<u32>, String> {
         number => Err(Refusal::of((number, answer.place))),
     };
     let both = || format!("{types:?}\n  a {}\n  b {}", hex(&a), hex(&b));
-    same(model, expected::same_content(&types, &a, &b), both)?;
+    same(model, expected::same_content(&columns, &a, &b), both)?;
     numbers.push(answer.number);
     Ok(numbers)
 }

@@ -3,12 +3,12 @@
 
 mod common;
 
+use cases::column::{ColumnType, RustColumns};
 use cases::expected::{self, Refusal};
 use cases::history::Call;
 use cases::schema::write_schema;
 use cases::value::{Record, TextRange, ValueList};
 use common::{FILL, done, refused, with_output};
-use rookdb::types::datatype::DataType;
 
 /// A letter and the two bytes of another.
 const BYTES: [u8; 3] = [b'A', 0xC3, 0xA9];
@@ -28,7 +28,7 @@ fn lists<T: Copy>(members: &[T], length: usize) -> Vec<Vec<T>> {
 }
 
 /// All rows of up to this many bytes past the offset table.
-fn rows(types: &[DataType], past: usize) -> Vec<Vec<u8>> {
+fn rows(types: &[ColumnType], past: usize) -> Vec<Vec<u8>> {
     let varchars = types.iter().filter(|ty| ty.is_variable_length()).count();
     let table = 5;
     let most = table + 2 * varchars + past;
@@ -51,14 +51,15 @@ fn rows(types: &[DataType], past: usize) -> Vec<Vec<u8>> {
     rows
 }
 
-fn reads(types: &[DataType], row: &[u8], wanted: &[u16]) {
+fn reads(types: &[ColumnType], row: &[u8], wanted: &[u16]) {
     let schema = write_schema(types);
     let (answer, list) = with_output(99, |out| model::read(&schema, row, wanted, out));
     let input = || format!("{types:?} {row:X?} {wanted:?}");
-    match expected::read(types, row, wanted) {
+    let columns = RustColumns::of(types).unwrap();
+    match expected::read(&columns, row, wanted) {
         Ok(values) => {
             assert_eq!(answer, done(list.len()), "{}", input());
-            let wanted = expected::list(types, row, &values);
+            let wanted = expected::list(&columns, row, &values);
             assert_eq!(list, wanted, "{} {values:?}", input());
         }
         Err(refusal) => {
@@ -68,7 +69,7 @@ fn reads(types: &[DataType], row: &[u8], wanted: &[u16]) {
     }
 }
 
-fn edits(types: &[DataType], row: &[u8], call: &Call) {
+fn edits(types: &[ColumnType], row: &[u8], call: &Call) {
     let schema = write_schema(types);
     let mut before = row.to_vec();
     before.resize(row.len() + 2, FILL);
@@ -81,7 +82,7 @@ fn edits(types: &[DataType], row: &[u8], call: &Call) {
         }
     };
     let mut after = before;
-    let wanted = match expected::edit(types, row, call) {
+    let wanted = match expected::edit(&RustColumns::of(types).unwrap(), row, call) {
         Ok(new) if new.len() > after.len() => refused(14, 0, row.len()),
         Ok(new) => {
             after[..new.len()].copy_from_slice(&new);
@@ -97,7 +98,7 @@ fn edits(types: &[DataType], row: &[u8], call: &Call) {
 }
 
 /// A set to each short text, and set null.
-fn calls(types: &[DataType]) -> Vec<Call> {
+fn calls(types: &[ColumnType]) -> Vec<Call> {
     let mut calls = Vec::new();
     for column in 0..=types.len() {
         calls.push(Call::SetNull { column });
@@ -107,7 +108,7 @@ fn calls(types: &[DataType]) -> Vec<Call> {
                 length: text.len() as u16,
             };
             let record = match types.get(column) {
-                Some(DataType::Bool) => Record::Bool(text.len() as u8),
+                Some(ColumnType::Bool) => Record::Bool(text.len() as u8),
                 _ => Record::Varchar(range),
             };
             let values = ValueList::of_records(&[record], text.to_vec());
@@ -118,7 +119,7 @@ fn calls(types: &[DataType]) -> Vec<Call> {
 }
 
 /// The number of comparisons made.
-fn compare(types: &[DataType], past: usize) -> usize {
+fn compare(types: &[ColumnType], past: usize) -> usize {
     let columns: Vec<u16> = (0..types.len() as u16).collect();
     let calls = calls(types);
     let rows = rows(types, past);
@@ -144,20 +145,20 @@ fn compare(types: &[DataType], past: usize) -> usize {
 
 #[test]
 fn all_small_rows() {
-    let varchar = || DataType::Varchar(2);
+    let varchar = || ColumnType::Varchar(2);
     let mut compared = compare(&[varchar()], 4);
-    compared += compare(&[varchar(), DataType::Bool], 3);
-    compared += compare(&[DataType::Varchar(1), varchar()], 2);
+    compared += compare(&[varchar(), ColumnType::Bool], 3);
+    compared += compare(&[ColumnType::Varchar(1), varchar()], 2);
     println!("{compared} comparisons");
 }
 
 #[test]
 #[ignore = "takes minutes"]
 fn all_larger_rows() {
-    let varchar = || DataType::Varchar(2);
+    let varchar = || ColumnType::Varchar(2);
     let mut compared = compare(&[varchar()], 6);
     compared += compare(&[varchar(), varchar()], 3);
-    compared += compare(&[varchar(), DataType::SmallInt, varchar()], 3);
+    compared += compare(&[varchar(), ColumnType::SmallInt, varchar()], 3);
     compared += compare(&[varchar(), varchar(), varchar()], 1);
     println!("{compared} comparisons");
 }

@@ -3,11 +3,11 @@
 use super::list::{self, Sort as ListSort};
 use super::row::unknown_column;
 use crate::LIMIT;
+use crate::column::ColumnType;
 use crate::history::Call;
 use crate::layout::Layout;
 use crate::rng::Rng;
 use crate::value::{Record, TextRange, ValueList};
-use rookdb::types::datatype::DataType;
 
 #[derive(Debug, Clone, Copy, PartialEq, Eq, PartialOrd, Ord)]
 pub enum Sort {
@@ -45,7 +45,7 @@ impl Sort {
 }
 
 /// A call of this sort; `None` if the column tried has none.
-pub fn call(rng: &mut Rng, types: &[DataType], sort: Sort) -> Option<Call> {
+pub fn call(rng: &mut Rng, types: &[ColumnType], sort: Sort) -> Option<Call> {
     if sort == Sort::Column {
         return Some(on_unknown_column(rng, types));
     }
@@ -60,8 +60,8 @@ pub fn call(rng: &mut Rng, types: &[DataType], sort: Sort) -> Option<Call> {
 }
 
 /// A text for a Varchar that brings a row without other payloads to this length.
-fn long(types: &[DataType], column: usize, row: usize) -> Option<ValueList> {
-    let DataType::Varchar(n) = types[column] else {
+fn long(types: &[ColumnType], column: usize, row: usize) -> Option<ValueList> {
+    let ColumnType::Varchar(n) = types[column] else {
         return None;
     };
     let length = u16::try_from(row - Layout::packed(types).minimum).ok()?;
@@ -70,18 +70,18 @@ fn long(types: &[DataType], column: usize, row: usize) -> Option<ValueList> {
     (length <= n).then(|| ValueList::of_records(&[record], text))
 }
 
-fn on_unknown_column(rng: &mut Rng, types: &[DataType]) -> Call {
+fn on_unknown_column(rng: &mut Rng, types: &[ColumnType]) -> Call {
     let column = unknown_column(rng, types.len());
     if rng.one_in(2) {
         return Call::SetNull { column };
     }
-    let (_, list) = list::any_list(rng, &[DataType::Int]);
+    let (_, list) = list::any_list(rng, &[ColumnType::Int]);
     let values = list.values;
     Call::Set { column, values }
 }
 
 /// A history of this many calls, two thirds of them good or more.
-pub fn history(rng: &mut Rng, types: &[DataType], length: usize) -> Vec<Call> {
+pub fn history(rng: &mut Rng, types: &[ColumnType], length: usize) -> Vec<Call> {
     let mut calls = Vec::new();
     while calls.len() < length {
         let sort = match rng.below(6) {

@@ -3,10 +3,10 @@
 use super::Expected;
 use super::value::{TextArea, other_kind, outside, suitable, unsuitable};
 use crate::LIMIT;
+use crate::column::ColumnType;
 use crate::layout::Layout;
 use crate::rng::Rng;
 use crate::value::{Record, TextRange, ValueList, body_length};
-use rookdb::types::datatype::DataType;
 
 #[derive(Debug, Clone, Copy, PartialEq, Eq, PartialOrd, Ord)]
 pub enum Sort {
@@ -66,7 +66,7 @@ pub struct List {
 
 /// A list of this sort; `None` if these columns have none, or the column or the
 /// values tried do not give one.
-pub fn list(rng: &mut Rng, types: &[DataType], sort: Sort) -> Option<List> {
+pub fn list(rng: &mut Rng, types: &[ColumnType], sort: Sort) -> Option<List> {
     match sort {
         Sort::Good => Some(good(rng, types).accepted()),
         Sort::Values => values(rng, types).map(Draft::accepted),
@@ -86,7 +86,7 @@ pub fn list(rng: &mut Rng, types: &[DataType], sort: Sort) -> Option<List> {
 }
 
 /// A list of a sort at random, a good one half the time.
-pub fn any_list(rng: &mut Rng, types: &[DataType]) -> (Sort, List) {
+pub fn any_list(rng: &mut Rng, types: &[ColumnType]) -> (Sort, List) {
     loop {
         let sort = if rng.one_in(2) {
             Sort::Good
@@ -132,7 +132,7 @@ impl Draft {
     }
 
     /// The length of the packed row.
-    fn row_length(&self, types: &[DataType]) -> usize {
+    fn row_length(&self, types: &[ColumnType]) -> usize {
         let payload = |record: &Record| match record {
             Record::Varchar(range) => usize::from(range.length),
             _ => 0,
@@ -141,7 +141,7 @@ impl Draft {
     }
 }
 
-fn nulls(types: &[DataType]) -> Draft {
+fn nulls(types: &[ColumnType]) -> Draft {
     Draft {
         records: vec![Record::Null; types.len()],
         area: TextArea::default(),
@@ -149,7 +149,7 @@ fn nulls(types: &[DataType]) -> Draft {
 }
 
 /// A suitable value for each column; `None` if the row would be too long.
-fn values(rng: &mut Rng, types: &[DataType]) -> Option<Draft> {
+fn values(rng: &mut Rng, types: &[ColumnType]) -> Option<Draft> {
     let mut area = TextArea::default();
     let records = types
         .iter()
@@ -160,7 +160,7 @@ fn values(rng: &mut Rng, types: &[DataType]) -> Option<Draft> {
 }
 
 /// Null or a suitable value for each column.
-fn good(rng: &mut Rng, types: &[DataType]) -> Draft {
+fn good(rng: &mut Rng, types: &[ColumnType]) -> Draft {
     let mut draft = values(rng, types).unwrap_or_else(|| nulls(types));
     let null = rng.pick(&[2, 8, 64]);
     for record in &mut draft.records {
@@ -177,14 +177,14 @@ fn lengthen(rng: &mut Rng, text: &mut Vec<u8>, length: usize) {
     text.extend(rng.bytes(more));
 }
 
-fn text_at_limit(rng: &mut Rng, types: &[DataType]) -> List {
+fn text_at_limit(rng: &mut Rng, types: &[ColumnType]) -> List {
     let mut draft = good(rng, types);
     lengthen(rng, &mut draft.area.bytes, LIMIT);
     draft.accepted()
 }
 
 /// The text area above its limit, the columns good or bad.
-fn text_above(rng: &mut Rng, types: &[DataType]) -> List {
+fn text_above(rng: &mut Rng, types: &[ColumnType]) -> List {
     let mut draft = good_or_bad(rng, types);
     let length = LIMIT + rng.pick(&[1, 2, 70_000]);
     lengthen(rng, &mut draft.area.bytes, length);
@@ -193,13 +193,13 @@ fn text_above(rng: &mut Rng, types: &[DataType]) -> List {
 
 /// Suitable values that make a packed row of exactly this length, the Varchars
 /// sharing one text; `None` if the Varchars do not reach so far.
-fn row_of(rng: &mut Rng, types: &[DataType], length: usize) -> Option<Draft> {
+fn row_of(rng: &mut Rng, types: &[ColumnType], length: usize) -> Option<Draft> {
     let mut missing = length.checked_sub(Layout::packed(types).minimum)?;
     let mut draft = nulls(types);
     let mut columns: Vec<usize> = (0..types.len()).collect();
     shuffle(rng, &mut columns);
     for column in columns {
-        if let DataType::Varchar(n) = types[column] {
+        if let ColumnType::Varchar(n) = types[column] {
             let length = missing.min(n.into()) as u16;
             draft.records[column] = Record::Varchar(TextRange { start: 0, length });
             missing -= usize::from(length);
@@ -209,7 +209,7 @@ fn row_of(rng: &mut Rng, types: &[DataType], length: usize) -> Option<Draft> {
     (missing == 0).then_some(draft)
 }
 
-fn row_above(rng: &mut Rng, types: &[DataType]) -> Option<List> {
+fn row_above(rng: &mut Rng, types: &[ColumnType]) -> Option<List> {
     let above = rng.pick(&[1, 2, 1000]);
     Some(row_of(rng, types, LIMIT + above)?.refused(13, 0))
 }
@@ -223,7 +223,7 @@ fn shuffle(rng: &mut Rng, columns: &mut [usize]) {
 /// A bad record for a column, with its refusal's number.
 fn bad_record(
     rng: &mut Rng,
-    ty: &DataType,
+    ty: &ColumnType,
     sort: Sort,
     area: &mut TextArea,
 ) -> Option<(Record, u32)> {
@@ -236,7 +236,7 @@ fn bad_record(
 
 /// One bad column among good ones; `None` if the column tried cannot be bad in
 /// this way.
-fn one_bad(rng: &mut Rng, types: &[DataType], sort: Sort) -> Option<List> {
+fn one_bad(rng: &mut Rng, types: &[ColumnType], sort: Sort) -> Option<List> {
     if types.is_empty() {
         return None;
     }
@@ -249,7 +249,7 @@ fn one_bad(rng: &mut Rng, types: &[DataType], sort: Sort) -> Option<List> {
 
 /// Makes columns of a draft bad; the refusal of the first of them. Ranges that
 /// leave the text area come last, when it has its length.
-fn spoil(rng: &mut Rng, types: &[DataType], draft: &mut Draft) -> Option<(usize, u32)> {
+fn spoil(rng: &mut Rng, types: &[ColumnType], draft: &mut Draft) -> Option<(usize, u32)> {
     let mut columns: Vec<usize> = (0..types.len()).collect();
     shuffle(rng, &mut columns);
     columns.truncate(rng.between(1, 4));
@@ -268,13 +268,13 @@ fn spoil(rng: &mut Rng, types: &[DataType], draft: &mut Draft) -> Option<(usize,
     bad.into_iter().min()
 }
 
-fn several(rng: &mut Rng, types: &[DataType]) -> Option<List> {
+fn several(rng: &mut Rng, types: &[ColumnType]) -> Option<List> {
     let mut draft = good(rng, types);
     let (column, number) = spoil(rng, types, &mut draft)?;
     Some(draft.refused(number, column))
 }
 
-fn good_or_bad(rng: &mut Rng, types: &[DataType]) -> Draft {
+fn good_or_bad(rng: &mut Rng, types: &[ColumnType]) -> Draft {
     let mut draft = good(rng, types);
     if rng.one_in(4) {
         spoil(rng, types, &mut draft);
@@ -283,7 +283,7 @@ fn good_or_bad(rng: &mut Rng, types: &[DataType]) -> Draft {
 }
 
 /// Some records of a draft, perhaps all and more, to which a bad one is added.
-fn begun(rng: &mut Rng, types: &[DataType]) -> ValueList {
+fn begun(rng: &mut Rng, types: &[ColumnType]) -> ValueList {
     let mut draft = good_or_bad(rng, types);
     if rng.one_in(8) {
         draft.records.push(Record::Null);
@@ -293,7 +293,7 @@ fn begun(rng: &mut Rng, types: &[DataType]) -> ValueList {
     draft.list()
 }
 
-fn unknown_kind(rng: &mut Rng, types: &[DataType]) -> List {
+fn unknown_kind(rng: &mut Rng, types: &[ColumnType]) -> List {
     let mut values = begun(rng, types);
     let expected = Expected::refused(10, values.bytes.len());
     let kind = rng.between(14, 255) as u8;
@@ -303,7 +303,7 @@ fn unknown_kind(rng: &mut Rng, types: &[DataType]) -> List {
     List { values, expected }
 }
 
-fn cut(rng: &mut Rng, types: &[DataType]) -> List {
+fn cut(rng: &mut Rng, types: &[ColumnType]) -> List {
     let mut values = begun(rng, types);
     let expected = Expected::refused(10, values.bytes.len());
     let kind = rng.between(1, 13) as u8;
@@ -314,7 +314,7 @@ fn cut(rng: &mut Rng, types: &[DataType]) -> List {
     List { values, expected }
 }
 
-fn too_few(rng: &mut Rng, types: &[DataType]) -> Option<List> {
+fn too_few(rng: &mut Rng, types: &[ColumnType]) -> Option<List> {
     let mut draft = good_or_bad(rng, types);
     let fewer = types.len().checked_sub(1)?;
     let count = match rng.below(3) {
@@ -326,7 +326,7 @@ fn too_few(rng: &mut Rng, types: &[DataType]) -> Option<List> {
     Some(draft.miscounted())
 }
 
-fn too_many(rng: &mut Rng, types: &[DataType]) -> List {
+fn too_many(rng: &mut Rng, types: &[ColumnType]) -> List {
     let mut draft = good_or_bad(rng, types);
     for _ in 0..rng.pick(&[1, 2, 300]) {
         let record = rng.pick(&[Record::Null, Record::Bool(1), Record::Int(-1)]);

@@ -5,6 +5,7 @@ use crate::Refusal;
 
 pub mod history;
 pub mod list;
+pub mod made;
 pub mod pair;
 pub mod row;
 pub mod schema;

@@ -1,13 +1,13 @@
 //! Two rows of one schema whose content is the same, nearly the same, or not.
 
 use super::list::{self, Sort as ListSort};
+use super::made;
 use super::row::{any_row, sound_row, stored_form};
 use crate::LIMIT;
+use crate::column::ColumnType;
 use crate::layout::{BITMAP, Layout, Place, is_packed};
 use crate::rng::Rng;
 use crate::row::{clear_null_bit, padded, set_null_bit};
-use crate::rust;
-use rookdb::types::datatype::DataType;
 
 #[derive(Debug, Clone, Copy, PartialEq, Eq, PartialOrd, Ord)]
 pub enum Sort {
@@ -43,7 +43,7 @@ impl Sort {
 pub type Pair = (Vec<u8>, Vec<u8>);
 
 /// A pair of this sort; `None` if the schema has none.
-pub fn pair(rng: &mut Rng, types: &[DataType], sort: Sort) -> Option<Pair> {
+pub fn pair(rng: &mut Rng, types: &[ColumnType], sort: Sort) -> Option<Pair> {
     let (a, b) = match sort {
         Sort::SameBytes => {
             let row = any_row(rng, types).1;
@@ -64,7 +64,7 @@ pub fn pair(rng: &mut Rng, types: &[DataType], sort: Sort) -> Option<Pair> {
 }
 
 /// A pair of a sort at random.
-pub fn any_pair(rng: &mut Rng, types: &[DataType]) -> (Sort, Pair) {
+pub fn any_pair(rng: &mut Rng, types: &[ColumnType]) -> (Sort, Pair) {
     loop {
         let sort = rng.pick(&Sort::ALL);
         if let Some(pair) = pair(rng, types, sort) {
@@ -76,7 +76,7 @@ pub fn any_pair(rng: &mut Rng, types: &[DataType]) -> (Sort, Pair) {
 /// Two rows from one sound row: slots with two forms of one content, null slots
 /// with other bytes, other bits past the last column. With `near`, one slot has
 /// forms of another content.
-fn twins(rng: &mut Rng, types: &[DataType], near: bool) -> Pair {
+fn twins(rng: &mut Rng, types: &[ColumnType], near: bool) -> Pair {
     let mut a = sound_row(rng, types);
     let mut b = a.clone();
     let layout = Layout::of_row(types, &a);
@@ -112,19 +112,19 @@ fn twins(rng: &mut Rng, types: &[DataType], near: bool) -> Pair {
 }
 
 /// Two forms of one content, where the type has such.
-fn same_forms(rng: &mut Rng, ty: &DataType, size: usize) -> Option<Pair> {
+fn same_forms(rng: &mut Rng, ty: &ColumnType, size: usize) -> Option<Pair> {
     match *ty {
-        DataType::Bool => Some((vec![1], vec![rng.between(2, 255) as u8])),
-        DataType::Real => Some(match rng.below(2) {
+        ColumnType::Bool => Some((vec![1], vec![rng.between(2, 255) as u8])),
+        ColumnType::Real => Some(match rng.below(2) {
             0 => (real(0), real(1 << 31)),
             _ => (real(nan_32(rng)), real(nan_32(rng))),
         }),
-        DataType::DoublePrecision => Some(match rng.below(2) {
+        ColumnType::DoublePrecision => Some(match rng.below(2) {
             0 => (double(0), double(1 << 63)),
             _ => (double(nan_64(rng)), double(nan_64(rng))),
         }),
         // Below zero whole seconds alone read.
-        DataType::Time => {
+        ColumnType::Time => {
             let second = 1_000_000 * rng.between_i64(0, 86_399);
             let count = second + rng.between_i64(0, 999_999);
             let turns = 4_294_967_296_000_000 * rng.between_i64(0, 2_000);
@@ -134,13 +134,13 @@ fn same_forms(rng: &mut Rng, ty: &DataType, size: usize) -> Option<Pair> {
             };
             Some((one.to_le_bytes().into(), other.to_le_bytes().into()))
         }
-        DataType::Bit(n) if n % 8 != 0 => {
+        ColumnType::Bit(n) if n % 8 != 0 => {
             let a = rng.bytes(size);
             let mut b = a.clone();
             b[size - 1] ^= rng.byte() & (0xFF >> (n % 8));
             Some((a, b))
         }
-        DataType::Numeric { precision, scale } | DataType::Decimal { precision, scale } => {
+        ColumnType::Numeric { precision, scale } | ColumnType::Decimal { precision, scale } => {
             Some(same_numerics(rng, precision, scale, size))
         }
         _ => None,
@@ -200,20 +200,20 @@ fn same_numerics(rng: &mut Rng, precision: u8, scale: u8, size: usize) -> Pair {
 }
 
 /// Two forms that differ little: by one bit, one unit, or an edge of the type.
-fn near_forms(rng: &mut Rng, ty: &DataType, size: usize) -> Option<Pair> {
+fn near_forms(rng: &mut Rng, ty: &ColumnType, size: usize) -> Option<Pair> {
     if size == 0 {
         return None;
     }
     let edges = match ty {
-        DataType::Real => Some((
+        ColumnType::Real => Some((
             real(0x7F80_0000),
             real(rng.pick(&[0x7F80_0001, 0xFF80_0000])),
         )),
-        DataType::DoublePrecision => Some((
+        ColumnType::DoublePrecision => Some((
             double(0x7FF0_0000_0000_0000),
             double(rng.pick(&[0x7FF0_0000_0000_0001, 0xFFF0_0000_0000_0000])),
         )),
-        DataType::Numeric { scale, .. } | DataType::Decimal { scale, .. } if size == 17 => {
+        ColumnType::Numeric { scale, .. } | ColumnType::Decimal { scale, .. } if size == 17 => {
             let number = rng.next_i128().to_le_bytes();
             let other = scale ^ 1;
             Some((
@@ -239,23 +239,19 @@ fn near_forms(rng: &mut Rng, ty: &DataType, size: usize) -> Option<Pair> {
 }
 
 /// A sound row, and the row after one edit.
-fn edited(rng: &mut Rng, types: &[DataType]) -> Option<Pair> {
+fn edited(rng: &mut Rng, types: &[ColumnType]) -> Option<Pair> {
     if types.is_empty() {
         return None;
     }
     let row = sound_row(rng, types);
     let column = rng.below(types.len());
     let own = &types[column..=column];
-    let list = list::list(rng, own, ListSort::Good)?.values.to_rust(own);
-    let edit = match &list.expect("a good list").values[0] {
-        Some(value) => rust::set(types, &row, column, value),
-        None => rust::set_null(types, &row, column),
-    };
-    let edit = edit.ok().expect("an edit with a suitable value");
+    let list = list::list(rng, own, ListSort::Good)?;
+    let edit = made::edited(types, &row, column, &list.values);
     (edit.len() <= LIMIT).then_some((row, edit))
 }
 
-fn flipped(rng: &mut Rng, types: &[DataType]) -> Option<Pair> {
+fn flipped(rng: &mut Rng, types: &[ColumnType]) -> Option<Pair> {
     let row = sound_row(rng, types);
     if row.len() == BITMAP {
         return None;

@@ -1,12 +1,13 @@
 //! Rows: built by the Rust, padded, and damaged in each way; column numbers.
 
 use super::list::{self, Sort as ListSort};
+use super::made;
 use super::text::{self, Fault};
+use crate::LIMIT;
+use crate::column::ColumnType;
 use crate::layout::{BITMAP, Layout, PACKED, Place};
 use crate::rng::Rng;
 use crate::row::{clear_null_bit, offset, padded, set_offset};
-use crate::{LIMIT, rust};
-use rookdb::types::datatype::DataType;
 
 #[derive(Debug, Clone, Copy, PartialEq, Eq, PartialOrd, Ord)]
 pub enum Sort {
@@ -81,9 +82,9 @@ impl Sort {
 
 /// A row of this sort for a good schema; `None` if the schema has none, or the
 /// row tried has not what the sort damages.
-pub fn row(rng: &mut Rng, types: &[DataType], sort: Sort) -> Option<Vec<u8>> {
+pub fn row(rng: &mut Rng, types: &[ColumnType], sort: Sort) -> Option<Vec<u8>> {
     match sort {
-        Sort::Fresh => rust::fresh(types).ok(),
+        Sort::Fresh => Some(made::fresh(types)),
         Sort::Built => Some(built(rng, types)),
         Sort::Edited => Some(edited(rng, types)),
         Sort::Padded => Some(padded_row(rng, types)),
@@ -110,7 +111,7 @@ pub fn row(rng: &mut Rng, types: &[DataType], sort: Sort) -> Option<Vec<u8>> {
 }
 
 /// A row of a sort at random; long ones, which take long, less often.
-pub fn any_row(rng: &mut Rng, types: &[DataType]) -> (Sort, Vec<u8>) {
+pub fn any_row(rng: &mut Rng, types: &[ColumnType]) -> (Sort, Vec<u8>) {
     loop {
         let sort = rng.pick(&Sort::ALL);
         if matches!(sort, Sort::AtLimit | Sort::Above) && !rng.one_in(4) {
@@ -123,7 +124,7 @@ pub fn any_row(rng: &mut Rng, types: &[DataType]) -> (Sort, Vec<u8>) {
 }
 
 /// A sound row.
-pub fn sound_row(rng: &mut Rng, types: &[DataType]) -> Vec<u8> {
+pub fn sound_row(rng: &mut Rng, types: &[ColumnType]) -> Vec<u8> {
     loop {
         let sort = rng.pick(&Sort::SOUND);
         if let Some(row) = row(rng, types, sort) {
@@ -132,17 +133,16 @@ pub fn sound_row(rng: &mut Rng, types: &[DataType]) -> Vec<u8> {
     }
 }
 
-fn build(rng: &mut Rng, types: &[DataType], sort: ListSort) -> Option<Vec<u8>> {
+fn build(rng: &mut Rng, types: &[ColumnType], sort: ListSort) -> Option<Vec<u8>> {
     let list = list::list(rng, types, sort)?;
-    let values = list.values.to_rust(types).expect("a good list").values;
-    rust::build(types, &values).ok()
+    Some(made::built(types, &list.values))
 }
 
-fn built(rng: &mut Rng, types: &[DataType]) -> Vec<u8> {
+fn built(rng: &mut Rng, types: &[ColumnType]) -> Vec<u8> {
     build(rng, types, ListSort::Good).expect("a row of a good list")
 }
 
-fn edited(rng: &mut Rng, types: &[DataType]) -> Vec<u8> {
+fn edited(rng: &mut Rng, types: &[ColumnType]) -> Vec<u8> {
     let mut row = built(rng, types);
     if types.is_empty() {
         return row;
@@ -150,12 +150,7 @@ fn edited(rng: &mut Rng, types: &[DataType]) -> Vec<u8> {
     for _ in 0..rng.between(1, 6) {
         let column = rng.below(types.len());
         let list = list::list(rng, &types[column..=column], ListSort::Good).expect("a good list");
-        let values = list.values.to_rust(&types[column..=column]);
-        let edit = match &values.expect("a good list").values[0] {
-            Some(value) => rust::set(types, &row, column, value),
-            None => rust::set_null(types, &row, column),
-        };
-        let edit = edit.ok().expect("an edit with a suitable value");
+        let edit = made::edited(types, &row, column, &list.values);
         if edit.len() <= LIMIT {
             row = edit;
         }
@@ -163,7 +158,7 @@ fn edited(rng: &mut Rng, types: &[DataType]) -> Vec<u8> {
     row
 }
 
-fn padded_row(rng: &mut Rng, types: &[DataType]) -> Vec<u8> {
+fn padded_row(rng: &mut Rng, types: &[ColumnType]) -> Vec<u8> {
     let row = if rng.one_in(2) {
         built(rng, types)
     } else {
@@ -172,12 +167,12 @@ fn padded_row(rng: &mut Rng, types: &[DataType]) -> Vec<u8> {
     let filler = rng.byte();
     let filler = rng.pick(&[0, 0xFF, filler]);
     padded(types, &row, filler)
-        .or_else(|| padded(types, &rust::fresh(types).ok()?, filler))
+        .or_else(|| padded(types, &made::fresh(types), filler))
         .expect("a padded minimum within the limit")
 }
 
 /// A sound row to be damaged.
-fn base(rng: &mut Rng, types: &[DataType]) -> Vec<u8> {
+fn base(rng: &mut Rng, types: &[ColumnType]) -> Vec<u8> {
     match rng.below(4) {
         0 => edited(rng, types),
         1 => padded_row(rng, types),
@@ -185,7 +180,7 @@ fn base(rng: &mut Rng, types: &[DataType]) -> Vec<u8> {
     }
 }
 
-fn spare_bits(rng: &mut Rng, types: &[DataType]) -> Option<Vec<u8>> {
+fn spare_bits(rng: &mut Rng, types: &[ColumnType]) -> Option<Vec<u8>> {
     let used = types.len() % 8;
     if used == 0 {
         return None;
@@ -197,7 +192,7 @@ fn spare_bits(rng: &mut Rng, types: &[DataType]) -> Option<Vec<u8>> {
 }
 
 /// A column that is a Varchar, or one that is not.
-fn pick_column(rng: &mut Rng, types: &[DataType], varchar: bool) -> Option<usize> {
+fn pick_column(rng: &mut Rng, types: &[ColumnType], varchar: bool) -> Option<usize> {
     let columns: Vec<usize> = (0..types.len())
         .filter(|&column| types[column].is_variable_length() == varchar)
         .collect();
@@ -213,7 +208,7 @@ struct Target {
 }
 
 impl Target {
-    fn new(rng: &mut Rng, types: &[DataType]) -> Option<Self> {
+    fn new(rng: &mut Rng, types: &[ColumnType]) -> Option<Self> {
         let column = pick_column(rng, types, true)?;
         let row = base(rng, types);
         let layout = Layout::of_row(types, &row);
@@ -237,7 +232,7 @@ impl Target {
     }
 }
 
-fn stored(rng: &mut Rng, types: &[DataType]) -> Option<Vec<u8>> {
+fn stored(rng: &mut Rng, types: &[ColumnType]) -> Option<Vec<u8>> {
     let mut row = base(rng, types);
     let layout = Layout::of_row(types, &row);
     for _ in 0..rng.between(1, 3) {
@@ -252,16 +247,16 @@ fn stored(rng: &mut Rng, types: &[DataType]) -> Option<Vec<u8>> {
 }
 
 /// Bytes of a slot: at the edge of the type, or no value of it.
-pub fn stored_form(rng: &mut Rng, ty: &DataType, size: usize) -> Vec<u8> {
+pub fn stored_form(rng: &mut Rng, ty: &ColumnType, size: usize) -> Vec<u8> {
     match ty {
-        DataType::Bool => vec![rng.pick(&[0, 1, 2, 128, 255])],
-        DataType::Date => rng.pick(&STORED_DATES).to_le_bytes().to_vec(),
-        DataType::Time => stored_time(rng).to_le_bytes().to_vec(),
-        DataType::Timestamp => rng.pick(&STORED_TIMESTAMPS).to_le_bytes().to_vec(),
-        DataType::Numeric { precision, .. } | DataType::Decimal { precision, .. } => {
+        ColumnType::Bool => vec![rng.pick(&[0, 1, 2, 128, 255])],
+        ColumnType::Date => rng.pick(&STORED_DATES).to_le_bytes().to_vec(),
+        ColumnType::Time => stored_time(rng).to_le_bytes().to_vec(),
+        ColumnType::Timestamp => rng.pick(&STORED_TIMESTAMPS).to_le_bytes().to_vec(),
+        ColumnType::Numeric { precision, .. } | ColumnType::Decimal { precision, .. } => {
             stored_numeric(rng, *precision, size)
         }
-        DataType::Char(_) | DataType::Character(_) => stored_text(rng, size),
+        ColumnType::Char(_) | ColumnType::Character(_) => stored_text(rng, size),
         _ => rng.bytes(size),
     }
 }
@@ -341,7 +336,7 @@ fn stored_text(rng: &mut Rng, size: usize) -> Vec<u8> {
     text::any_valid(rng, size)
 }
 
-fn payload(rng: &mut Rng, types: &[DataType]) -> Option<Vec<u8>> {
+fn payload(rng: &mut Rng, types: &[ColumnType]) -> Option<Vec<u8>> {
     let mut target = Target::new(rng, types)?;
     let start = usize::from(target.offset(target.rank));
     if start == 0 {
@@ -357,7 +352,7 @@ fn payload(rng: &mut Rng, types: &[DataType]) -> Option<Vec<u8>> {
     Some(target.row)
 }
 
-fn flipped(rng: &mut Rng, types: &[DataType]) -> Vec<u8> {
+fn flipped(rng: &mut Rng, types: &[ColumnType]) -> Vec<u8> {
     let mut row = base(rng, types);
     for _ in 0..rng.between(1, 4) {
         let at = rng.below(row.len());
@@ -366,7 +361,7 @@ fn flipped(rng: &mut Rng, types: &[DataType]) -> Vec<u8> {
     row
 }
 
-fn cut(rng: &mut Rng, types: &[DataType]) -> Vec<u8> {
+fn cut(rng: &mut Rng, types: &[ColumnType]) -> Vec<u8> {
     let mut row = base(rng, types);
     let minimum = Layout::of_row(types, &row).minimum;
     let length = match rng.below(4) {
@@ -379,14 +374,14 @@ fn cut(rng: &mut Rng, types: &[DataType]) -> Vec<u8> {
     row
 }
 
-fn lengthened(rng: &mut Rng, types: &[DataType]) -> Vec<u8> {
+fn lengthened(rng: &mut Rng, types: &[ColumnType]) -> Vec<u8> {
     let mut row = base(rng, types);
     let more = rng.between(1, 16);
     row.extend(rng.bytes(more));
     row
 }
 
-fn changed_offset(rng: &mut Rng, types: &[DataType]) -> Option<Vec<u8>> {
+fn changed_offset(rng: &mut Rng, types: &[ColumnType]) -> Option<Vec<u8>> {
     let mut target = Target::new(rng, types)?;
     let old = target.offset(target.rank);
     let new = match rng.below(6) {
@@ -401,7 +396,7 @@ fn changed_offset(rng: &mut Rng, types: &[DataType]) -> Option<Vec<u8>> {
     Some(target.row)
 }
 
-fn offset_in_header(rng: &mut Rng, types: &[DataType]) -> Option<Vec<u8>> {
+fn offset_in_header(rng: &mut Rng, types: &[ColumnType]) -> Option<Vec<u8>> {
     let mut target = Target::new(rng, types)?;
     let inside = rng.between(1, target.layout.minimum - 1);
     let inside = rng.pick(&[1, BITMAP, target.layout.table, inside]);
@@ -410,14 +405,14 @@ fn offset_in_header(rng: &mut Rng, types: &[DataType]) -> Option<Vec<u8>> {
     Some(target.row)
 }
 
-fn zero_offset(rng: &mut Rng, types: &[DataType]) -> Option<Vec<u8>> {
+fn zero_offset(rng: &mut Rng, types: &[ColumnType]) -> Option<Vec<u8>> {
     let mut target = Target::new(rng, types)?;
     target.set_offset(0);
     clear_null_bit(&mut target.row, target.column);
     Some(target.row)
 }
 
-fn column_count(rng: &mut Rng, types: &[DataType]) -> Vec<u8> {
+fn column_count(rng: &mut Rng, types: &[ColumnType]) -> Vec<u8> {
     let mut row = base(rng, types);
     let count = types.len() as u16;
     let other = rng.between(1, 0xFFFF) as u16;
@@ -427,7 +422,7 @@ fn column_count(rng: &mut Rng, types: &[DataType]) -> Vec<u8> {
 }
 
 /// Another Varchar count, the flag as it was.
-fn varchar_count(rng: &mut Rng, types: &[DataType]) -> Vec<u8> {
+fn varchar_count(rng: &mut Rng, types: &[ColumnType]) -> Vec<u8> {
     let mut row = base(rng, types);
     let field = u16::from_le_bytes([row[2], row[3]]);
     let other = rng.between(1, 0x7FFF) as u16;
@@ -437,13 +432,13 @@ fn varchar_count(rng: &mut Rng, types: &[DataType]) -> Vec<u8> {
     row
 }
 
-fn flag(rng: &mut Rng, types: &[DataType]) -> Vec<u8> {
+fn flag(rng: &mut Rng, types: &[ColumnType]) -> Vec<u8> {
     let mut row = base(rng, types);
     row[3] ^= (PACKED >> 8) as u8;
     row
 }
 
-fn above(rng: &mut Rng, types: &[DataType]) -> Vec<u8> {
+fn above(rng: &mut Rng, types: &[ColumnType]) -> Vec<u8> {
     if let Some(row) = build(rng, types, ListSort::RowAbove) {
         return row;
     }
@@ -452,8 +447,8 @@ fn above(rng: &mut Rng, types: &[DataType]) -> Vec<u8> {
     row
 }
 
-fn random_body(rng: &mut Rng, types: &[DataType]) -> Vec<u8> {
-    let mut row = rust::fresh(types).ok().expect("a fresh row");
+fn random_body(rng: &mut Rng, types: &[ColumnType]) -> Vec<u8> {
+    let mut row = made::fresh(types);
     if rng.one_in(2) {
         row[3] &= !(PACKED >> 8) as u8;
     }

@@ -1,11 +1,11 @@
 //! Schemas: good ones, one for each fault, sizes at the limit, random bytes.
 
 use super::Expected;
+use crate::column::ColumnType;
 use crate::layout::Layout;
 use crate::rng::Rng;
 use crate::schema::{write_record, write_schema};
 use crate::{LIMIT, MAX_COLUMNS};
-use rookdb::types::datatype::DataType;
 
 #[derive(Debug, Clone, Copy, PartialEq, Eq, PartialOrd, Ord)]
 pub enum Sort {
@@ -99,7 +99,7 @@ pub fn any_schema(rng: &mut Rng) -> (Sort, Schema) {
 }
 
 /// The columns of a good schema, mostly a few.
-pub fn any_types(rng: &mut Rng) -> Vec<DataType> {
+pub fn any_types(rng: &mut Rng) -> Vec<ColumnType> {
     let columns = match rng.below(64) {
         0 => 0,
         1..=3 => 1,
@@ -112,7 +112,7 @@ pub fn any_types(rng: &mut Rng) -> Vec<DataType> {
     types(rng, columns)
 }
 
-fn good(types: Vec<DataType>) -> Schema {
+fn good(types: Vec<ColumnType>) -> Schema {
     Schema {
         bytes: write_schema(&types),
         expected: Expected::Accepted,
@@ -120,42 +120,42 @@ fn good(types: Vec<DataType>) -> Schema {
 }
 
 /// Good records whose padded minimum is above the limit.
-fn above(types: Vec<DataType>) -> Schema {
+fn above(types: Vec<ColumnType>) -> Schema {
     let bytes = write_schema(&types);
     let expected = Expected::refused(2, bytes.len());
     Schema { bytes, expected }
 }
 
 /// This many columns, 256 at most, with a padded minimum within the limit.
-pub fn types(rng: &mut Rng, columns: usize) -> Vec<DataType> {
+pub fn types(rng: &mut Rng, columns: usize) -> Vec<ColumnType> {
     let room = 60_000 / columns.max(1);
     (0..columns).map(|_| any_type(rng, room)).collect()
 }
 
 /// A type whose slot, if Char, Character or Bit, takes at most `room` bytes.
-pub fn any_type(rng: &mut Rng, room: usize) -> DataType {
+pub fn any_type(rng: &mut Rng, room: usize) -> ColumnType {
     match rng.below(18) {
-        0 => DataType::SmallInt,
-        1 => DataType::Int,
-        2 => DataType::BigInt,
-        3 => DataType::Real,
-        4 => DataType::DoublePrecision,
+        0 => ColumnType::SmallInt,
+        1 => ColumnType::Int,
+        2 => ColumnType::BigInt,
+        3 => ColumnType::Real,
+        4 => ColumnType::DoublePrecision,
         5 => {
             let (precision, scale) = numeric(rng);
-            DataType::Numeric { precision, scale }
+            ColumnType::Numeric { precision, scale }
         }
         6 => {
             let (precision, scale) = numeric(rng);
-            DataType::Decimal { precision, scale }
+            ColumnType::Decimal { precision, scale }
         }
-        7 => DataType::Bool,
-        8 => DataType::Char(length(rng, room)),
-        9 => DataType::Character(length(rng, room)),
-        10 => DataType::Date,
-        11 => DataType::Time,
-        12 => DataType::Bit(length(rng, 8 * room)),
-        13 => DataType::Timestamp,
-        _ => DataType::Varchar(length(rng, LIMIT)),
+        7 => ColumnType::Bool,
+        8 => ColumnType::Char(length(rng, room)),
+        9 => ColumnType::Character(length(rng, room)),
+        10 => ColumnType::Date,
+        11 => ColumnType::Time,
+        12 => ColumnType::Bit(length(rng, 8 * room)),
+        13 => ColumnType::Timestamp,
+        _ => ColumnType::Varchar(length(rng, LIMIT)),
     }
 }
 
@@ -186,42 +186,42 @@ fn length(rng: &mut Rng, most: usize) -> u16 {
 }
 
 /// The columns of a good schema with a padded minimum of exactly 65,535.
-pub fn at_limit(rng: &mut Rng) -> Vec<DataType> {
+pub fn at_limit(rng: &mut Rng) -> Vec<ColumnType> {
     with_minimum(rng, vec![], LIMIT)
 }
 
 /// Seven bytes of padding or more, and a padded minimum above the limit by at
 /// most seven, so that the packed minimum is not above it.
-fn above_by_padding(rng: &mut Rng) -> Vec<DataType> {
-    let padding = vec![DataType::Bool, DataType::BigInt];
+fn above_by_padding(rng: &mut Rng) -> Vec<ColumnType> {
+    let padding = vec![ColumnType::Bool, ColumnType::BigInt];
     let minimum = LIMIT + rng.between(1, 7);
     with_minimum(rng, padding, minimum)
 }
 
 /// These columns and more, with this padded minimum: the last fixed column has
 /// what the others leave.
-fn with_minimum(rng: &mut Rng, first: Vec<DataType>, minimum: usize) -> Vec<DataType> {
+fn with_minimum(rng: &mut Rng, first: Vec<ColumnType>, minimum: usize) -> Vec<ColumnType> {
     let columns = rng.between(0, 30);
     let mut types = [first, types(rng, columns)].concat();
     let last = types.len();
-    types.push(DataType::Char(0));
+    types.push(ColumnType::Char(0));
     for _ in 0..rng.below(4) {
-        types.push(DataType::Varchar(length(rng, LIMIT)));
+        types.push(ColumnType::Varchar(length(rng, LIMIT)));
     }
     let n = (minimum - Layout::padded(&types).minimum) as u16;
     types[last] = if rng.one_in(2) {
-        DataType::Char(n)
+        ColumnType::Char(n)
     } else {
-        DataType::Character(n)
+        ColumnType::Character(n)
     };
     types
 }
 
-fn far_above(rng: &mut Rng) -> Vec<DataType> {
+fn far_above(rng: &mut Rng) -> Vec<ColumnType> {
     let columns = rng.pick(&[2, 3, 10, MAX_COLUMNS]);
     (0..columns)
         .map(|_| rng.between(40_000, LIMIT) as u16)
-        .map(DataType::Char)
+        .map(ColumnType::Char)
         .collect()
 }
 
@@ -303,7 +303,7 @@ fn cut(rng: &mut Rng) -> Schema {
 /// 256 good records and the start of a further one, good or bad.
 fn column_257(rng: &mut Rng) -> Schema {
     let first = if rng.one_in(8) {
-        vec![DataType::Char(u16::MAX); MAX_COLUMNS]
+        vec![ColumnType::Char(u16::MAX); MAX_COLUMNS]
     } else {
         types(rng, MAX_COLUMNS)
     };

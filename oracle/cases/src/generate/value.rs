@@ -3,9 +3,9 @@
 
 use super::text::{self, Fault};
 use crate::LIMIT;
+use crate::column::ColumnType;
 use crate::rng::Rng;
 use crate::value::{DATES, Record, TIMES, TIMESTAMPS, TextRange, append};
-use rookdb::types::datatype::DataType;
 use std::ops::RangeInclusive;
 
 /// A text area that grows with the values put into it.
@@ -85,35 +85,35 @@ const DOUBLES: [u64; 18] = [
 ];
 
 /// A value that a column of this type takes.
-pub fn suitable(rng: &mut Rng, ty: &DataType, area: &mut TextArea) -> Record {
+pub fn suitable(rng: &mut Rng, ty: &ColumnType, area: &mut TextArea) -> Record {
     match *ty {
-        DataType::SmallInt => {
+        ColumnType::SmallInt => {
             Record::SmallInt(integer(rng, i16::MIN.into()..=i16::MAX.into()) as i16)
         }
-        DataType::Int => Record::Int(integer(rng, i32::MIN.into()..=i32::MAX.into()) as i32),
-        DataType::BigInt => Record::BigInt(integer(rng, i64::MIN..=i64::MAX)),
-        DataType::Real => Record::Real(match rng.below(2) {
+        ColumnType::Int => Record::Int(integer(rng, i32::MIN.into()..=i32::MAX.into()) as i32),
+        ColumnType::BigInt => Record::BigInt(integer(rng, i64::MIN..=i64::MAX)),
+        ColumnType::Real => Record::Real(match rng.below(2) {
             0 => rng.pick(&REALS),
             _ => rng.next_u64() as u32,
         }),
-        DataType::DoublePrecision => Record::DoublePrecision(match rng.below(2) {
+        ColumnType::DoublePrecision => Record::DoublePrecision(match rng.below(2) {
             0 => rng.pick(&DOUBLES),
             _ => rng.next_u64(),
         }),
-        DataType::Numeric { precision, scale } | DataType::Decimal { precision, scale } => {
+        ColumnType::Numeric { precision, scale } | ColumnType::Decimal { precision, scale } => {
             let unscaled = numeric(rng, precision);
             Record::Numeric { unscaled, scale }
         }
-        DataType::Bool => Record::Bool(rng.below(2) as u8),
-        DataType::Char(n) | DataType::Character(n) => Record::Char(text_range(rng, n, area)),
-        DataType::Varchar(n) => Record::Varchar(text_range(rng, n, area)),
-        DataType::Date => Record::Date(integer(rng, dates()) as i32),
-        DataType::Time => Record::Time(integer(rng, TIMES)),
-        DataType::Bit(n) => {
+        ColumnType::Bool => Record::Bool(rng.below(2) as u8),
+        ColumnType::Char(n) | ColumnType::Character(n) => Record::Char(text_range(rng, n, area)),
+        ColumnType::Varchar(n) => Record::Varchar(text_range(rng, n, area)),
+        ColumnType::Date => Record::Date(integer(rng, dates()) as i32),
+        ColumnType::Time => Record::Time(integer(rng, TIMES)),
+        ColumnType::Bit(n) => {
             let length = usize::from(n).div_ceil(8);
             Record::Bit(bytes_range(rng, length, area))
         }
-        DataType::Timestamp => Record::Timestamp(integer(rng, TIMESTAMPS)),
+        ColumnType::Timestamp => Record::Timestamp(integer(rng, TIMESTAMPS)),
     }
 }
 
@@ -196,28 +196,30 @@ fn bytes_range(rng: &mut Rng, length: usize, area: &mut TextArea) -> TextRange {
 
 /// A value of the column's kind that does not suit its type: the answer is 12.
 /// `None` if every value suits, or there is no room for the text.
-pub fn unsuitable(rng: &mut Rng, ty: &DataType, area: &mut TextArea) -> Option<Record> {
+pub fn unsuitable(rng: &mut Rng, ty: &ColumnType, area: &mut TextArea) -> Option<Record> {
     Some(match *ty {
-        DataType::Numeric { precision, scale } | DataType::Decimal { precision, scale } => {
+        ColumnType::Numeric { precision, scale } | ColumnType::Decimal { precision, scale } => {
             unsuitable_numeric(rng, precision, scale)
         }
-        DataType::Bool => Record::Bool(match rng.below(3) {
+        ColumnType::Bool => Record::Bool(match rng.below(3) {
             0 => 2,
             1 => 255,
             _ => rng.between(2, 255) as u8,
         }),
-        DataType::Char(n) | DataType::Character(n) => Record::Char(unsuitable_text(rng, n, area)?),
-        DataType::Varchar(n) => Record::Varchar(unsuitable_text(rng, n, area)?),
-        DataType::Date => {
+        ColumnType::Char(n) | ColumnType::Character(n) => {
+            Record::Char(unsuitable_text(rng, n, area)?)
+        }
+        ColumnType::Varchar(n) => Record::Varchar(unsuitable_text(rng, n, area)?),
+        ColumnType::Date => {
             Record::Date(past(rng, dates(), i32::MIN.into()..=i32::MAX.into()) as i32)
         }
-        DataType::Time if rng.one_in(4) => {
+        ColumnType::Time if rng.one_in(4) => {
             // Stored, such a count reads as 0; as a value it is refused.
             Record::Time(rng.pick(&[4_294_967_296_000_000, -4_294_967_296_000_000]))
         }
-        DataType::Time => Record::Time(past(rng, TIMES, i64::MIN..=i64::MAX)),
-        DataType::Bit(n) => Record::Bit(unsuitable_bits(rng, n, area)?),
-        DataType::Timestamp => Record::Timestamp(past(rng, TIMESTAMPS, i64::MIN..=i64::MAX)),
+        ColumnType::Time => Record::Time(past(rng, TIMES, i64::MIN..=i64::MAX)),
+        ColumnType::Bit(n) => Record::Bit(unsuitable_bits(rng, n, area)?),
+        ColumnType::Timestamp => Record::Timestamp(past(rng, TIMESTAMPS, i64::MIN..=i64::MAX)),
         _ => return None,
     })
 }
@@ -298,12 +300,12 @@ fn unsuitable_bits(rng: &mut Rng, n: u16, area: &mut TextArea) -> Option<TextRan
 
 /// A value whose text range leaves a text area of this length: the answer is
 /// 12. `None` for kinds without text.
-pub fn outside(rng: &mut Rng, ty: &DataType, text: usize) -> Option<Record> {
+pub fn outside(rng: &mut Rng, ty: &ColumnType, text: usize) -> Option<Record> {
     let range = outside_range(rng, text);
     match ty {
-        DataType::Char(_) | DataType::Character(_) => Some(Record::Char(range)),
-        DataType::Varchar(_) => Some(Record::Varchar(range)),
-        DataType::Bit(_) => Some(Record::Bit(range)),
+        ColumnType::Char(_) | ColumnType::Character(_) => Some(Record::Char(range)),
+        ColumnType::Varchar(_) => Some(Record::Varchar(range)),
+        ColumnType::Bit(_) => Some(Record::Bit(range)),
         _ => None,
     }
 }
@@ -328,33 +330,33 @@ fn outside_range(rng: &mut Rng, text: usize) -> TextRange {
 }
 
 /// One type of each schema kind.
-pub const TYPES: [DataType; 15] = [
-    DataType::SmallInt,
-    DataType::Int,
-    DataType::BigInt,
-    DataType::Real,
-    DataType::DoublePrecision,
-    DataType::Numeric {
+pub const TYPES: [ColumnType; 15] = [
+    ColumnType::SmallInt,
+    ColumnType::Int,
+    ColumnType::BigInt,
+    ColumnType::Real,
+    ColumnType::DoublePrecision,
+    ColumnType::Numeric {
         precision: 9,
         scale: 2,
     },
-    DataType::Decimal {
+    ColumnType::Decimal {
         precision: 9,
         scale: 2,
     },
-    DataType::Bool,
-    DataType::Char(3),
-    DataType::Character(3),
-    DataType::Varchar(3),
-    DataType::Date,
-    DataType::Time,
-    DataType::Bit(9),
-    DataType::Timestamp,
+    ColumnType::Bool,
+    ColumnType::Char(3),
+    ColumnType::Character(3),
+    ColumnType::Varchar(3),
+    ColumnType::Date,
+    ColumnType::Time,
+    ColumnType::Bit(9),
+    ColumnType::Timestamp,
 ];
 
 /// A value of another kind than the column's, its body good or not: the answer
 /// is 11 all the same.
-pub fn other_kind(rng: &mut Rng, ty: &DataType, area: &mut TextArea) -> Record {
+pub fn other_kind(rng: &mut Rng, ty: &ColumnType, area: &mut TextArea) -> Record {
     loop {
         let other = &TYPES[rng.below(TYPES.len())];
         let record = match rng.below(4) {

@@ -7,6 +7,7 @@ use super::judge::Told;
 use super::{Attack, Call};
 use crate::compare::{build, rows, text};
 use cases::LIMIT;
+use cases::column::ColumnType;
 use cases::generate::history::history;
 use cases::generate::list::any_list;
 use cases::generate::pair::any_pair;
@@ -17,7 +18,6 @@ use cases::history;
 use cases::rng::Rng;
 use cases::schema::write_schema;
 use cases::value::ValueList;
-use rookdb::types::datatype::DataType;
 use std::sync::LazyLock;
 
 /// The most calls of a round, and the bytes lent after which it ends.
@@ -58,7 +58,7 @@ const TRIED: [Call; 18] = [
 
 /// What the calls of a round begin with.
 struct Given {
-    types: Vec<DataType>,
+    types: Vec<ColumnType>,
     schema: Vec<u8>,
     rows: [Vec<u8>; 4],
     wanted: [Vec<u16>; 3],
@@ -352,14 +352,9 @@ fn any_handle(rng: &mut Rng, length: usize) -> Handle {
 }
 
 /// A column, one with text more often than not.
-fn text_column(rng: &mut Rng, types: &[DataType]) -> usize {
+fn text_column(rng: &mut Rng, types: &[ColumnType]) -> usize {
     let column = any_column(rng, types.len());
-    let is_text = |column: &usize| {
-        matches!(
-            types[*column],
-            DataType::Char(_) | DataType::Character(_) | DataType::Varchar(_)
-        )
-    };
+    let is_text = |column: &usize| types[*column].is_text();
     if column >= types.len() || rng.one_in(4) {
         return column;
     }

@@ -4,6 +4,7 @@
 //! of the columns; ours, the raw call, writes to a buffer that is lent. The
 //! `Builder` of the bindings makes the value list too; it keeps its memory.
 
+use cases::column::of_rust_types;
 use cases::rust;
 use cases::schema::write_schema;
 use cases::value::ValueList;
@@ -18,7 +19,7 @@ use std::hint::black_box;
 type Values = (Vec<Option<DataValue>>, ValueList);
 
 fn bench_build(types: &[DataType], rows: &[Values]) -> [f64; 3] {
-    let schema = write_schema(types);
+    let schema = write_schema(&of_rust_types(types));
     let mut out = vec![0; 65_535];
     let built: Vec<_> = rows
         .iter()
@@ -50,7 +51,7 @@ fn bench_build(types: &[DataType], rows: &[Values]) -> [f64; 3] {
 }
 
 fn bench_fresh(types: &[DataType]) -> [f64; 2] {
-    let schema = write_schema(types);
+    let schema = write_schema(&of_rust_types(types));
     let mut out = vec![0; 65_535];
     let times = [(); 1000];
     least(|| {

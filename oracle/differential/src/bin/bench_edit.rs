@@ -4,6 +4,7 @@
 //! each time. Ours is the raw call, and the `Editor` of the bindings, which is
 //! handed a value.
 
+use cases::column::of_rust_types;
 use cases::rust;
 use cases::schema::write_schema;
 use cases::value::ValueList;
@@ -47,7 +48,7 @@ fn by_editor(editor: &mut Editor, column: usize, (row, _, _, value): &Edit) {
 }
 
 fn bench(types: &[DataType], column: usize, edits: &[Edit]) -> [f64; 3] {
-    let schema = write_schema(types);
+    let schema = write_schema(&of_rust_types(types));
     let mut buffer = vec![0; 65_535];
     let mut editor = Editor::new(&Schema::from_bytes(&schema).expect("a schema"));
     for edit in edits {
@@ -92,7 +93,7 @@ fn main() {
     );
     for table in tables() {
         let types = &table.types;
-        let schema = Schema::from_bytes(&write_schema(types)).expect("a schema");
+        let schema = Schema::from_bytes(&write_schema(&of_rust_types(types))).expect("a schema");
         // The station and the train of the occupation in the middle.
         let station = types.len() / 2 / 8 * 8;
         for (name, column) in [

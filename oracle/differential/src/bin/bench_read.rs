@@ -4,6 +4,7 @@
 //! with what they give looked at: each record of the raw call's list by its kind,
 //! each value of the `Reader`.
 
+use cases::column::of_rust_types;
 use cases::rust;
 use cases::schema::write_schema;
 use differential::bench::{least, possessions, tables, time};
@@ -22,7 +23,7 @@ fn look(list: &[u8]) {
 }
 
 fn bench(name: &str, types: &[DataType], rows: &[Vec<u8>], wanted: &[u16]) {
-    let schema = write_schema(types);
+    let schema = write_schema(&of_rust_types(types));
     let columns: Vec<_> = wanted.iter().map(|&column| usize::from(column)).collect();
     let decoder = RowDecoder::new(types).only(columns.iter().copied());
     let mut out = vec![0; 18 * types.len()];

@@ -2,10 +2,11 @@
 //! by variant on 01's domain. The model judges all of it: number, place, length
 //! and every lent byte.
 
-use super::rows::{self, apart, counted, fitting, handed};
+use super::rows::{self, apart, apart_from_rust, counted, fitting, handed};
 use crate::lent::{After, any_output, called, written};
 use crate::{Compared, hex, port};
 use cases::LIMIT;
+use cases::column::{ColumnType, RustColumns};
 use cases::expected::{self, Refusal};
 use cases::generate::list::{self, any_list};
 use cases::generate::schema::any_type;
@@ -13,12 +14,11 @@ use cases::rng::Rng;
 use cases::rust::{self, Outcome};
 use cases::value::{Record, TextRange, ValueList};
 use model::RowAnswer;
-use rookdb::types::datatype::DataType;
 
 /// Columns, and a value list that was made for them.
 pub struct Given {
     pub sort: String,
-    pub types: Vec<DataType>,
+    pub types: Vec<ColumnType>,
     pub list: ValueList,
 }
 
@@ -34,7 +34,7 @@ pub fn any_given(rng: &mut Rng) -> Given {
     }
 }
 
-fn of_sort(sort: list::Sort, types: Vec<DataType>, list: ValueList) -> Given {
+fn of_sort(sort: list::Sort, types: Vec<ColumnType>, list: ValueList) -> Given {
     let sort = format!("list {sort:?}");
     Given { sort, types, list }
 }
@@ -58,7 +58,7 @@ fn long_row(rng: &mut Rng) -> Given {
             _ => vec![7, 33_000, 9, 33_000],
         };
         for n in long {
-            types.insert(rng.below(types.len() + 1), DataType::Varchar(n));
+            types.insert(rng.below(types.len() + 1), ColumnType::Varchar(n));
         }
         let sort = rng.pick(&[list::Sort::RowAtLimit, list::Sort::RowAbove]);
         if let Some(list) = list::list(rng, &types, sort) {
@@ -74,16 +74,16 @@ fn area_end(rng: &mut Rng) -> Given {
     let mut types: Vec<_> = (0..rng.below(3)).map(|_| any_type(rng, 40)).collect();
     let at = rng.below(types.len() + 1);
     let ty = match rng.below(4) {
-        0 => DataType::Bit(n),
-        1 => DataType::Char(n.min(40)),
-        2 => DataType::Character(n.min(40)),
-        _ => DataType::Varchar(n),
+        0 => ColumnType::Bit(n),
+        1 => ColumnType::Char(n.min(40)),
+        2 => ColumnType::Character(n.min(40)),
+        _ => ColumnType::Varchar(n),
     };
     types.insert(at, ty.clone());
     let length: usize = match ty {
         _ if rng.one_in(4) => 0,
-        DataType::Bit(n) => usize::from(n).div_ceil(8),
-        DataType::Char(n) | DataType::Character(n) => n.into(),
+        ColumnType::Bit(n) => usize::from(n).div_ceil(8),
+        ColumnType::Char(n) | ColumnType::Character(n) => n.into(),
         _ => n.into(),
     };
     let area = match rng.below(4) {
@@ -97,8 +97,8 @@ fn area_end(rng: &mut Rng) -> Given {
     let range = TextRange { start, length };
     let mut records = vec![Record::Null; types.len()];
     records[at] = match ty {
-        DataType::Bit(_) => Record::Bit(range),
-        DataType::Varchar(_) => Record::Varchar(range),
+        ColumnType::Bit(_) => Record::Bit(range),
+        ColumnType::Varchar(_) => Record::Varchar(range),
         _ => Record::Char(range),
     };
     let list = ValueList::of_records(&records, vec![b'x'; area]);
@@ -110,10 +110,10 @@ fn area_end(rng: &mut Rng) -> Given {
 }
 
 /// What the Rust comes to, where it has these values.
-pub fn rust_row(types: &[DataType], list: &ValueList) -> Option<Outcome<Vec<u8>>> {
-    let given = list.to_rust(types).ok()?;
+pub fn rust_row(columns: &RustColumns, list: &ValueList) -> Option<Outcome<Vec<u8>>> {
+    let given = list.to_rust(columns.types).ok()?;
     let all = given.outside.is_none();
-    all.then(|| rust::build(types, &given.values))
+    all.then(|| rust::build(&columns.rust, &given.values))
 }
 
 /// What a build is lent.
@@ -138,10 +138,11 @@ impl Lent<'_> {
     }
 
     /// The row of the Rust, or the refusal.
-    fn told(&self) -> Result<Vec<u8>, Refusal> {
-        let types = rows::columns(self.schema)?;
-        let row = expected::build(&types, self.list).map_err(Refusal::of)?;
-        fitting(row, &self.output)
+    fn told(&self) -> Option<Result<Vec<u8>, Refusal>> {
+        rows::by_rust(self.schema, |columns| {
+            let row = expected::build(columns, self.list).map_err(Refusal::of)?;
+            fitting(row, &self.output)
+        })
     }
 
     fn input(&self) -> String {
@@ -161,35 +162,32 @@ impl Lent<'_> {
         let difference = apart("model", &port, &self.model(), || self.input());
         (
             port.answer,
-            difference.or_else(|| apart("Rust", &handed(&port), &self.told(), || self.input())),
+            difference.or_else(|| apart_from_rust(&handed(&port), &self.told(), || self.input())),
         )
     }
 
     /// Who judges an answer beside the model: the Rust where its outcome is that
     /// of the number in 01's table, else 01 alone.
     fn judge(&self, number: u32) -> &'static str {
-        let by_rust = match number {
-            0 => true,
+        rows::judged(match number {
+            0 => rows::is_known(self.schema),
             10 => self.asked_count() == Some(Outcome::Internal),
             11 => self.asked() == Some(Outcome::Internal),
             12 => self.asked() == Some(Outcome::TypeMismatch),
             _ => false,
-        };
-        match by_rust {
-            true => "judged by the Rust",
-            false => "judged by 01 alone",
-        }
+        })
     }
 
     fn asked(&self) -> Option<Outcome<Vec<u8>>> {
-        rust_row(&rows::columns(self.schema).ok()?, self.list)
+        let types = rows::columns(self.schema).ok()?;
+        rust_row(&RustColumns::of(&types)?, self.list)
     }
 
     /// What the Rust says of the number of good records.
     fn asked_count(&self) -> Option<Outcome<Vec<u8>>> {
         let types = rows::columns(self.schema).ok()?;
         let records = self.list.all_records().ok()?;
-        Some(expected::counted(&types, records.len()))
+        Some(expected::counted(&RustColumns::of(&types)?, records.len()))
     }
 }
 
@@ -241,13 +239,13 @@ pub fn compare(rng: &mut Rng) -> Compared {
 mod tests {
     use super::Lent;
     use cases::LIMIT;
+    use cases::column::ColumnType;
     use cases::schema::write_schema;
     use cases::value::{DATES, Record, TIMES, TIMESTAMPS, TextRange, ValueList};
-    use rookdb::types::datatype::DataType;
 
     /// Number, place and length of a build in an output of this room, which the
     /// model and the Rust confirm.
-    fn built(types: &[DataType], list: &ValueList, room: usize) -> (u32, usize, usize) {
+    fn built(types: &[ColumnType], list: &ValueList, room: usize) -> (u32, usize, usize) {
         let lent = Lent {
             schema: &write_schema(types),
             list,
@@ -265,7 +263,11 @@ mod tests {
 
     #[test]
     fn case_10() {
-        let s = [DataType::Int, DataType::Varchar(5), DataType::SmallInt];
+        let s = [
+            ColumnType::Int,
+            ColumnType::Varchar(5),
+            ColumnType::SmallInt,
+        ];
         let of_s = |bytes: &[u8]| {
             let records = [Record::Int(1), text(bytes.len()), Record::Null];
             built(&s, &ValueList::of_records(&records, bytes.to_vec()), 40)
@@ -276,7 +278,7 @@ mod tests {
         let of_columns = |columns: usize| {
             let records = vec![Record::Bool(1); columns];
             let list = ValueList::of_records(&records, vec![]);
-            built(&vec![DataType::Bool; columns], &list, 400)
+            built(&vec![ColumnType::Bool; columns], &list, 400)
         };
         assert_eq!(of_columns(256), (0, 0, 4 + 32 + 256));
         assert_eq!(of_columns(257), (2, 256, 0));
@@ -284,7 +286,7 @@ mod tests {
         // Seven bytes stand before the payload.
         let of_length = |row: usize, room: usize| {
             let list = ValueList::of_records(&[text(row - 7)], vec![b'x'; LIMIT]);
-            built(&[DataType::Varchar(65_535)], &list, room)
+            built(&[ColumnType::Varchar(65_535)], &list, room)
         };
         assert_eq!(of_length(65_535, 65_535), (0, 0, 65_535));
         assert_eq!(of_length(65_535, 65_534), (14, 0, 0));
@@ -293,24 +295,24 @@ mod tests {
     }
 
     /// The ends of a type's values, which it takes, and what is one past them.
-    fn ends(ty: &DataType) -> (Vec<Record>, Vec<Record>) {
+    fn ends(ty: &ColumnType) -> (Vec<Record>, Vec<Record>) {
         match *ty {
-            DataType::SmallInt => ([i16::MIN, i16::MAX].map(Record::SmallInt).to_vec(), vec![]),
-            DataType::Int => ([i32::MIN, i32::MAX].map(Record::Int).to_vec(), vec![]),
-            DataType::BigInt => ([i64::MIN, i64::MAX].map(Record::BigInt).to_vec(), vec![]),
-            DataType::Real => (
+            ColumnType::SmallInt => ([i16::MIN, i16::MAX].map(Record::SmallInt).to_vec(), vec![]),
+            ColumnType::Int => ([i32::MIN, i32::MAX].map(Record::Int).to_vec(), vec![]),
+            ColumnType::BigInt => ([i64::MIN, i64::MAX].map(Record::BigInt).to_vec(), vec![]),
+            ColumnType::Real => (
                 [0, 0x8000_0000, 0x7F80_0000, u32::MAX]
                     .map(Record::Real)
                     .to_vec(),
                 vec![],
             ),
-            DataType::DoublePrecision => (
+            ColumnType::DoublePrecision => (
                 [0, 1 << 63, 0x7FF0_0000_0000_0000, u64::MAX]
                     .map(Record::DoublePrecision)
                     .to_vec(),
                 vec![],
             ),
-            DataType::Numeric { precision, scale } | DataType::Decimal { precision, scale } => {
+            ColumnType::Numeric { precision, scale } | ColumnType::Decimal { precision, scale } => {
                 let above = 10_i128.pow(precision.into());
                 let of = |unscaled| Record::Numeric { unscaled, scale };
                 let mut past = [above, -above, i128::MIN, i128::MAX].map(of).to_vec();
@@ -319,19 +321,19 @@ mod tests {
                 }
                 ([0, above - 1, 1 - above].map(of).to_vec(), past)
             }
-            DataType::Bool => (
+            ColumnType::Bool => (
                 [0, 1].map(Record::Bool).to_vec(),
                 [2, 255].map(Record::Bool).to_vec(),
             ),
-            DataType::Char(n) | DataType::Character(n) => (
+            ColumnType::Char(n) | ColumnType::Character(n) => (
                 [0, n].map(|n| Record::Char(range(n))).to_vec(),
                 vec![Record::Char(range(n + 1))],
             ),
-            DataType::Varchar(n) => (
+            ColumnType::Varchar(n) => (
                 [0, n].map(|n| Record::Varchar(range(n))).to_vec(),
                 vec![Record::Varchar(range(n + 1))],
             ),
-            DataType::Bit(n) => {
+            ColumnType::Bit(n) => {
                 let bytes = n.div_ceil(8);
                 (
                     vec![Record::Bit(range(bytes))],
@@ -340,19 +342,19 @@ mod tests {
                         .to_vec(),
                 )
             }
-            DataType::Date => (
+            ColumnType::Date => (
                 [*DATES.start(), *DATES.end()].map(Record::Date).to_vec(),
                 [DATES.start() - 1, DATES.end() + 1, i32::MIN, i32::MAX]
                     .map(Record::Date)
                     .to_vec(),
             ),
-            DataType::Time => (
+            ColumnType::Time => (
                 [*TIMES.start(), *TIMES.end()].map(Record::Time).to_vec(),
                 [-1, TIMES.end() + 1, i64::MIN, i64::MAX]
                     .map(Record::Time)
                     .to_vec(),
             ),
-            DataType::Timestamp => (
+            ColumnType::Timestamp => (
                 [*TIMESTAMPS.start(), *TIMESTAMPS.end()]
                     .map(Record::Timestamp)
                     .to_vec(),
@@ -377,11 +379,15 @@ mod tests {
         let mut types = cases::generate::value::TYPES.to_vec();
         for precision in 1..=38 {
             for scale in [0, precision / 2, precision] {
-                types.push(DataType::Numeric { precision, scale });
+                types.push(ColumnType::Numeric { precision, scale });
             }
         }
         for n in [0, 1, 8, 9, 16, 40, 300] {
-            types.extend([DataType::Char(n), DataType::Varchar(n), DataType::Bit(n)]);
+            types.extend([
+                ColumnType::Char(n),
+                ColumnType::Varchar(n),
+                ColumnType::Bit(n),
+            ]);
         }
         for ty in types {
             let (good, past) = ends(&ty);

@@ -1,26 +1,20 @@
 //! A column's text. The Rust has no such call: the model judges, and the part of
 //! the row is that which holds the text of the Rust's read of this column.
 
-use super::rows::{self, Given, apart, counted, judge};
+use super::rows::{self, Given, apart, apart_from_rust, counted};
 use crate::lent::{asked, told};
 use crate::{Compared, hex, port};
+use cases::column::ColumnType;
 use cases::expected::{self, Refusal};
 use cases::generate::row::any_column;
 use cases::rng::Rng;
 use cases::rust;
 use model::TextAnswer;
-use rookdb::types::datatype::DataType;
 
 /// A column, one that has text where there is one and more often than not.
-fn column(rng: &mut Rng, types: &[DataType]) -> usize {
-    let is_text = |ty: &DataType| {
-        matches!(
-            ty,
-            DataType::Char(_) | DataType::Character(_) | DataType::Varchar(_)
-        )
-    };
+fn column(rng: &mut Rng, types: &[ColumnType]) -> usize {
     let texts: Vec<usize> = (0..types.len())
-        .filter(|&column| is_text(&types[column]))
+        .filter(|&column| types[column].is_text())
         .collect();
     if texts.is_empty() || rng.one_in(4) {
         return any_column(rng, types.len());
@@ -29,9 +23,11 @@ fn column(rng: &mut Rng, types: &[DataType]) -> usize {
 }
 
 /// Where the text of the Rust's read stands and how long it is, or the refusal.
-fn wanted(schema: &[u8], row: &[u8], column: usize) -> Result<(usize, usize), Refusal> {
-    let range = expected::text(&rows::columns(schema)?, row, column)?;
-    Ok((range.start.into(), range.length.into()))
+fn wanted(schema: &[u8], row: &[u8], column: usize) -> Option<Result<(usize, usize), Refusal>> {
+    rows::by_rust(schema, |columns| {
+        let range = expected::text(columns, row, column)?;
+        Ok((range.start.into(), range.length.into()))
+    })
 }
 
 /// The part of the row that an answer names, or its refusal.
@@ -64,17 +60,20 @@ pub fn compare(rng: &mut Rng) -> Compared {
     let rust = wanted(&schema, &row, column);
     let number = port.answer.number;
     let difference = apart("model", &port, &model, input)
-        .or_else(|| apart("Rust", &part(port.answer), &rust, input));
+        .or_else(|| apart_from_rust(&part(port.answer), &rust, input));
+    let judge = rows::judge_of(&schema, number, |types| {
+        rust::read(types, &row, &[column as u16])
+    });
     let types = rows::columns(&schema).unwrap_or_default();
     sorts.extend([
         match types.get(column) {
-            Some(DataType::Varchar(_)) => "column Varchar".into(),
-            Some(DataType::Char(_) | DataType::Character(_)) => "column Char".into(),
+            Some(ColumnType::Varchar(_)) => "column Varchar".into(),
+            Some(ColumnType::Char(_) | ColumnType::Character(_)) => "column Char".into(),
             Some(_) => "column of no text".into(),
             None => "no such column".into(),
         },
         format!("answer {number}"),
-        judge(number, || rust::read(&types, &row, &[column as u16])).to_string(),
+        judge.to_string(),
     ]);
     Compared {
         sorts: counted(sorts),

@@ -4,11 +4,13 @@
 //! number, place, length and every lent byte. A history from a fresh row leaves
 //! what the builder makes of the last accepted values.
 
-use super::rows::{self, apart, fitting, handed};
+use super::rows::{self, apart, apart_from_rust, fitting, handed};
 use crate::lent::{After, called, written};
 use crate::{Compared, hex, port};
+use cases::column::{ColumnType, RustColumns};
 use cases::expected::{self, Refusal};
 use cases::generate::history::history;
+use cases::generate::made;
 use cases::generate::row::{any_row, sound_row};
 use cases::history::Call;
 use cases::rng::Rng;
@@ -17,7 +19,6 @@ use cases::rust::{self, Outcome};
 use cases::schema::write_schema;
 use cases::value::{self, Record, ValueList, append};
 use model::RowAnswer;
-use rookdb::types::datatype::DataType;
 use std::collections::BTreeMap;
 
 /// The calls that are compared: schema, buffer, row length, column, and for a set
@@ -68,11 +69,12 @@ impl Lent<'_> {
     }
 
     /// The row of the Rust, or the refusal.
-    fn told(&self) -> Result<Vec<u8>, Refusal> {
-        let types = rows::columns(self.schema)?;
-        let row = self.row().ok_or(Refusal::Number(14, 0))?;
-        let row = expected::edit(&types, row, self.call).map_err(Refusal::of)?;
-        fitting(row, self.buffer)
+    fn told(&self) -> Option<Result<Vec<u8>, Refusal>> {
+        rows::by_rust(self.schema, |columns| {
+            let row = self.row().ok_or(Refusal::Number(14, 0))?;
+            let row = expected::edit(columns, row, self.call).map_err(Refusal::of)?;
+            fitting(row, self.buffer)
+        })
     }
 
     fn input(&self) -> String {
@@ -89,46 +91,44 @@ impl Lent<'_> {
     fn compare(&self, calls: &Calls) -> (After<RowAnswer>, Option<String>) {
         let port = self.port(calls);
         let difference = apart("model", &port, &self.model(), || self.input())
-            .or_else(|| apart("Rust", &handed(&port), &self.told(), || self.input()));
+            .or_else(|| apart_from_rust(&handed(&port), &self.told(), || self.input()));
         (port, difference)
     }
 
     /// Who judges an answer beside the model: the Rust where its outcome is that
     /// of the number in 01's table, else 01 alone.
     fn judge(&self, number: u32) -> &'static str {
-        let by_rust = match number {
-            0 => true,
+        rows::judged(match number {
+            0 => rows::is_known(self.schema),
             9 | 11 => self.asked() == Some(Outcome::Internal),
             12 => self.asked() == Some(Outcome::TypeMismatch),
             _ => false,
-        };
-        match by_rust {
-            true => "judged by the Rust",
-            false => "judged by 01 alone",
-        }
+        })
     }
 
     /// What the Rust comes to, where it has this value.
     fn asked(&self) -> Option<Outcome<Vec<u8>>> {
         let types = rows::columns(self.schema).ok()?;
-        let row = self.row().filter(|row| is_sound(&types, row))?;
-        rust_edit(&types, row, self.call)
+        let columns = RustColumns::of(&types)?;
+        let row = self.row().filter(|row| is_sound(&columns, row))?;
+        rust_edit(&columns, row, self.call)
     }
 }
 
 /// What the Rust makes of an edit of a sound row, where it has this value.
-pub fn rust_edit(types: &[DataType], row: &[u8], call: &Call) -> Option<Outcome<Vec<u8>>> {
+pub fn rust_edit(columns: &RustColumns, row: &[u8], call: &Call) -> Option<Outcome<Vec<u8>>> {
+    let types = columns.types;
     match call {
-        Call::SetNull { column } => Some(rust::set_null(types, row, *column)),
+        Call::SetNull { column } => Some(rust::set_null(&columns.rust, row, *column)),
         Call::Set { column, values } => {
             // The column is judged before the value.
-            let ty = types.get(*column).unwrap_or(&DataType::Int);
+            let ty = types.get(*column).unwrap_or(&ColumnType::Int);
             let record = match column < &types.len() {
                 true => *values.records(1).ok()?.first()?,
                 false => Record::Int(0),
             };
             let value = value::to_rust(ty, &record, &values.text).ok()??;
-            Some(rust::set(types, row, *column, &value))
+            Some(rust::set(&columns.rust, row, *column, &value))
         }
     }
 }
@@ -171,9 +171,9 @@ const SHORT: usize = 12;
 const LONG: usize = 400;
 
 /// A row to begin with, and its sort.
-fn any_start(rng: &mut Rng, types: &[DataType]) -> (&'static str, Vec<u8>) {
+fn any_start(rng: &mut Rng, types: &[ColumnType]) -> (&'static str, Vec<u8>) {
     match rng.below(16) {
-        0..=7 => (FRESH, expected::fresh(types)),
+        0..=7 => (FRESH, made::fresh(types)),
         8..=14 => ("from a sound row", sound_row(rng, types)),
         _ => ("from any row", any_row(rng, types).1),
     }
@@ -275,12 +275,9 @@ pub fn compare_with(calls: &Calls, rng: &mut Rng) -> Compared {
         zero_null_slots(&types, &mut left);
         let list = sheet.list();
         let input = || format!("schema {}, last accepted {list:?}", hex(&schema));
-        difference = apart(
-            "Rust",
-            &Ok(left.clone()),
-            &expected::build(&types, &list),
-            input,
-        );
+        let columns = RustColumns::of(&types);
+        let by_rust = columns.map(|columns| expected::build(&columns, &list));
+        difference = apart_from_rust(&Ok(left.clone()), &by_rust, input);
         let built = called(
             &vec![0; length],
             [&schema, &list.bytes, &list.text],

@@ -1,26 +1,32 @@
 //! The row of nulls, against `Row::new` then `serialize`, byte for byte. The model
 //! judges number, place, length and every lent byte.
 
-use super::rows::{apart, columns, counted, fitting, handed, size};
+use super::rows::{self, apart, apart_from_rust, counted, fitting, handed, size};
 use crate::lent::{any_output, called, written};
 use crate::{Compared, hex, port};
 use cases::expected;
 use cases::generate::schema::any_schema;
+use cases::layout::Layout;
 use cases::rng::Rng;
 
 pub fn compare(rng: &mut Rng) -> Compared {
     let (sort, schema) = any_schema(rng);
     let schema = schema.bytes;
-    let wanted = columns(&schema).map(|types| (types.len(), expected::fresh(&types)));
-    let needed = wanted.as_ref().map_or(0, |(_, row)| row.len());
+    let types = rows::columns(&schema);
+    // The row has no payload.
+    let needed = types
+        .as_ref()
+        .map_or(0, |types| Layout::packed(types).minimum);
     let (room, output) = any_output(rng, needed);
     let input = || format!("schema {}, {} bytes of output", hex(&schema), output.len());
     let port = called(&output, [&schema], |[schema], out| port::fresh(schema, out));
     let model = written(&output, |out| model::fresh(&schema, out));
-    let size = wanted.as_ref().map_or("schema refused", |(n, _)| size(*n));
-    let told = wanted.and_then(|(_, row)| fitting(row, &output));
+    let size = types.map_or("schema refused", |types| size(types.len()));
+    let told = rows::by_rust(&schema, |columns| {
+        fitting(expected::fresh(columns), &output)
+    });
     let difference = apart("model", &port, &model, input)
-        .or_else(|| apart("Rust", &handed(&port), &told, input));
+        .or_else(|| apart_from_rust(&handed(&port), &told, input));
     let number = port.answer.number;
     Compared {
         sorts: counted(vec![
@@ -28,10 +34,7 @@ pub fn compare(rng: &mut Rng) -> Compared {
             size.into(),
             format!("output {room:?}"),
             format!("answer {number}"),
-            match number {
-                0 => "judged by the Rust".into(),
-                _ => "judged by 01 alone".into(),
-            },
+            rows::judged(number == 0 && rows::is_known(&schema)).into(),
         ]),
         difference,
     }

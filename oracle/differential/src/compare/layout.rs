@@ -1,48 +1,81 @@
-//! Schemas: the refusals against 01, and the counts, sizes and places of a good
-//! one against `RowLayout`.
+//! Schemas: the refusals, and the counts, sizes and places of a good one. The
+//! model judges, and `RowLayout`.
 
+use super::rows::{apart, apart_from_rust};
 use crate::probe::{self, LayoutProbe};
 use crate::{Compared, hex, lent};
+use cases::column::{ColumnType, to_rust_types};
 use cases::generate::schema::any_schema;
 use cases::rng::Rng;
 use cases::schema::{read_schema, write_schema};
-use rookdb::types::datatype::DataType;
+use model::layout::Place;
 use rookdb::types::row_layout::{PhysicalSchema, RowLayout};
 
-/// The Rust's counts and sizes, or 01's refusal.
-pub fn wanted(schema: &[u8]) -> LayoutProbe {
-    match read_schema(schema) {
-        Ok(types) => rust(&types),
-        Err(refusal) => LayoutProbe {
-            number: refusal.number,
-            place: refusal.place,
-            columns: 0,
-            varlens: 0,
-            packed: 0,
-            padded: 0,
-        },
-    }
+/// What is told of a schema.
+#[derive(Debug, PartialEq, Eq)]
+pub struct Told {
+    /// The refusal, or counts and sizes.
+    pub probe: LayoutProbe,
+    /// Where the fixed columns are, packed and padded, from the first fixed byte.
+    pub places: Vec<(usize, usize)>,
 }
 
-fn rust(types: &[DataType]) -> LayoutProbe {
-    let physical = PhysicalSchema::from_logical(types);
+fn refused(number: u32, place: usize) -> Told {
+    let probe = LayoutProbe {
+        number,
+        place,
+        columns: 0,
+        varlens: 0,
+        packed: 0,
+        padded: 0,
+    };
+    let places = vec![];
+    Told { probe, places }
+}
+
+/// The Rust's; `None` if it does not know one of the types.
+pub fn rust(types: &[ColumnType]) -> Option<Told> {
+    let physical = PhysicalSchema::from_logical(&to_rust_types(types)?);
     let packed = RowLayout::compute(&physical);
-    LayoutProbe {
+    let padded = RowLayout::compute_padded(&physical);
+    let probe = LayoutProbe {
         number: 0,
         place: 0,
         columns: packed.num_columns,
         varlens: packed.num_varlen_cols,
         packed: packed.fixed_data_size,
-        padded: RowLayout::compute_padded(&physical).fixed_data_size,
-    }
+        padded: padded.fixed_data_size,
+    };
+    let starts = packed.fixed_col_offsets.into_iter();
+    let places = starts.zip(padded.fixed_col_offsets).collect();
+    Some(Told { probe, places })
 }
 
-/// Where the Rust has the fixed columns, packed and padded.
-fn rust_places(types: &[DataType]) -> Vec<(usize, usize)> {
-    let physical = PhysicalSchema::from_logical(types);
-    let packed = RowLayout::compute(&physical).fixed_col_offsets;
-    let padded = RowLayout::compute_padded(&physical).fixed_col_offsets;
-    packed.into_iter().zip(padded).collect()
+fn model(schema: &[u8]) -> Told {
+    let types = match model::schema::check(schema) {
+        Ok(types) => types,
+        Err((number, place)) => return refused(number, place),
+    };
+    let packed = model::layout::Layout::packed(&types);
+    let padded = model::layout::Layout::padded(&types);
+    let probe = LayoutProbe {
+        number: 0,
+        place: 0,
+        columns: types.len(),
+        varlens: packed.varchars,
+        packed: packed.minimum - packed.fixed,
+        padded: padded.minimum - padded.fixed,
+    };
+    let fixed = packed.fixed;
+    let both = packed.places.into_iter().zip(padded.places);
+    let places = both.filter_map(|places| match places {
+        (Place::Slot { start, .. }, Place::Slot { start: at, .. }) => {
+            Some((start - fixed, at - fixed))
+        }
+        _ => None,
+    });
+    let places = places.collect();
+    Told { probe, places }
 }
 
 fn probed(schema: &[u8]) -> LayoutProbe {
@@ -53,11 +86,11 @@ fn probed(schema: &[u8]) -> LayoutProbe {
 
 /// Where the port has them. A column's packed place is the size of what stands
 /// before it; its padded place is that of its end, less its own size.
-fn port_places(types: &[DataType]) -> Vec<(usize, usize)> {
+fn port_places(types: &[ColumnType]) -> Vec<(usize, usize)> {
     let size = |columns: usize| probed(&write_schema(&types[..columns]));
     (0..types.len())
         .filter_map(|column| {
-            let own = types[column].fixed_size()? as usize;
+            let own = types[column].fixed_size()?;
             Some((size(column).packed, size(column + 1).padded - own))
         })
         .collect()
@@ -66,15 +99,27 @@ fn port_places(types: &[DataType]) -> Vec<(usize, usize)> {
 pub fn compare(rng: &mut Rng) -> Compared {
     let (sort, schema) = any_schema(rng);
     let input = || format!("schema {}", hex(&schema.bytes));
-    let probe = probed(&schema.bytes);
-    // The places take a probe of each prefix, so few of the larger schemas.
-    match read_schema(&schema.bytes) {
-        Ok(types) if types.len() < 12 || rng.one_in(16) => Compared::new(
-            sort,
-            (probe, port_places(&types)),
-            (rust(&types), rust_places(&types)),
-            input,
-        ),
-        _ => Compared::new(sort, probe, wanted(&schema.bytes), input),
+    let mut port = Told {
+        probe: probed(&schema.bytes),
+        places: vec![],
+    };
+    let mut model = model(&schema.bytes);
+    let types = read_schema(&schema.bytes);
+    let mut rust = match &types {
+        Ok(types) => rust(types),
+        Err(refusal) => Some(refused(refusal.number, refusal.place)),
+    };
+    match types {
+        // The places take a probe of each prefix, so few of the larger schemas.
+        Ok(types) if types.len() < 12 || rng.one_in(16) => port.places = port_places(&types),
+        _ => {
+            let judges = rust.iter_mut().chain([&mut model]);
+            judges.for_each(|told| told.places.clear());
+        }
+    }
+    Compared {
+        sorts: vec![(format!("{sort:?}"), 1)],
+        difference: apart("model", &port, &model, input)
+            .or_else(|| apart_from_rust(&port, &rust, input)),
     }
 }

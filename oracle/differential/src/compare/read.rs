@@ -2,7 +2,7 @@
 //! nulls and errors by variant on 01's domain. The model judges all of it:
 //! number, place, length and every lent byte.
 
-use super::rows::{self, Given, apart, counted, fitting, handed, judge};
+use super::rows::{self, Given, apart, apart_from_rust, counted, fitting, handed};
 use crate::lent::{After, Room, any_output, called, numbers, written};
 use crate::{Compared, hex, port};
 use cases::expected::{self, Refusal};
@@ -47,10 +47,11 @@ impl Lent<'_> {
     }
 
     /// The value list of what the Rust reads, or the refusal.
-    fn told(&self) -> Result<Vec<u8>, Refusal> {
-        let types = rows::columns(self.schema)?;
-        let values = expected::read(&types, self.row, self.wanted)?;
-        fitting(expected::list(&types, self.row, &values), &self.output)
+    fn told(&self) -> Option<Result<Vec<u8>, Refusal>> {
+        rows::by_rust(self.schema, |columns| {
+            let values = expected::read(columns, self.row, self.wanted)?;
+            fitting(expected::list(columns, self.row, &values), &self.output)
+        })
     }
 
     fn input(&self) -> String {
@@ -69,13 +70,14 @@ impl Lent<'_> {
         let difference = apart("model", &port, &self.model(), || self.input());
         (
             port.answer.number,
-            difference.or_else(|| apart("Rust", &handed(&port), &self.told(), || self.input())),
+            difference.or_else(|| apart_from_rust(&handed(&port), &self.told(), || self.input())),
         )
     }
 
     fn judge(&self, number: u32) -> &'static str {
-        let types = rows::columns(self.schema).unwrap_or_default();
-        judge(number, || rust::read(&types, self.row, self.wanted))
+        rows::judge_of(self.schema, number, |types| {
+            rust::read(types, self.row, self.wanted)
+        })
     }
 }
 

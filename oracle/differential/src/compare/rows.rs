@@ -2,6 +2,7 @@
 //! not, and what the Rust and 01 tell of it.
 
 use crate::lent::After;
+use cases::column::{ColumnType, RustColumns, to_rust_types};
 use cases::expected::Refusal;
 use cases::generate::row::any_row;
 use cases::generate::schema::{self, any_schema, any_type};
@@ -16,13 +17,13 @@ pub struct Given {
     pub sorts: Vec<String>,
     pub schema: Vec<u8>,
     /// The columns that the row was made for, often those of the schema.
-    pub types: Vec<DataType>,
+    pub types: Vec<ColumnType>,
     pub row: Vec<u8>,
 }
 
 /// Columns of a good schema: often a few with short slots, so that little hides a
 /// fault and much is run.
-pub fn any_types(rng: &mut Rng) -> Vec<DataType> {
+pub fn any_types(rng: &mut Rng) -> Vec<ColumnType> {
     let columns = match rng.below(64) {
         0 => rng.pick(&[0, 100, 255, 256, 256]),
         1..=7 => return schema::any_types(rng),
@@ -45,7 +46,7 @@ pub fn any_given(rng: &mut Rng) -> Given {
 }
 
 /// The schema of these columns; seldom one that differs by a column, or any.
-pub fn any_schema_for(rng: &mut Rng, types: &[DataType]) -> (String, Vec<u8>) {
+pub fn any_schema_for(rng: &mut Rng, types: &[ColumnType]) -> (String, Vec<u8>) {
     match rng.below(32) {
         0 => {
             let (sort, schema) = any_schema(rng);
@@ -71,7 +72,7 @@ pub fn size(columns: usize) -> &'static str {
 }
 
 /// A column changed, taken away or added, or two exchanged.
-fn other_schema(rng: &mut Rng, types: &[DataType]) -> Vec<u8> {
+fn other_schema(rng: &mut Rng, types: &[ColumnType]) -> Vec<u8> {
     let mut types = types.to_vec();
     let at = rng.below(types.len() + 1);
     let own = at < types.len();
@@ -88,23 +89,55 @@ fn other_schema(rng: &mut Rng, types: &[DataType]) -> Vec<u8> {
 }
 
 /// The columns of a schema, or the refusal that was added.
-pub fn columns(schema: &[u8]) -> Result<Vec<DataType>, Refusal> {
+pub fn columns(schema: &[u8]) -> Result<Vec<ColumnType>, Refusal> {
     read_schema(schema).map_err(|refusal| Refusal::Number(refusal.number, refusal.place))
 }
 
-/// Who judges an answer beside the model: the Rust where its outcome is that of
-/// the number in 01's table, else 01 alone.
+/// Whether the Rust knows the columns of a schema, one that is not refused.
+pub fn is_known(schema: &[u8]) -> bool {
+    columns(schema).is_ok_and(|types| to_rust_types(&types).is_some())
+}
+
+/// What the Rust tells of a schema's columns, or the refusal of the schema; `None`
+/// if the Rust does not know one of the columns: then the model judges alone.
+pub fn by_rust<T>(
+    schema: &[u8],
+    tell: impl FnOnce(&RustColumns) -> Result<T, Refusal>,
+) -> Option<Result<T, Refusal>> {
+    match columns(schema) {
+        Ok(types) => Some(tell(&RustColumns::of(&types)?)),
+        Err(refusal) => Some(Err(refusal)),
+    }
+}
+
+/// Who judges an answer beside the model.
+pub fn judged(by_rust: bool) -> &'static str {
+    match by_rust {
+        true => "judged by the Rust",
+        false => "judged by 01 alone",
+    }
+}
+
+/// Who judges what is told of rows: the Rust where its outcome is that of the
+/// number in 01's table, else 01 alone.
 pub fn judge<T>(number: u32, rust: impl FnOnce() -> Outcome<T>) -> &'static str {
-    let agrees = match number {
+    judged(match number {
         0 | 3 | 5 | 6 | 9 => true,
         7 => matches!(rust(), Outcome::Panicked),
         8 => matches!(rust(), Outcome::TypeMismatch),
         _ => false,
-    };
-    if agrees {
-        "judged by the Rust"
-    } else {
-        "judged by 01 alone"
+    })
+}
+
+/// Who judges what is told of rows of a schema, whose columns the Rust must know.
+pub fn judge_of<T>(
+    schema: &[u8],
+    number: u32,
+    rust: impl FnOnce(&[DataType]) -> Outcome<T>,
+) -> &'static str {
+    match to_rust_types(&columns(schema).unwrap_or_default()) {
+        Some(types) => judge(number, || rust(&types)),
+        None => judged(false),
     }
 }
 
@@ -139,4 +172,36 @@ pub fn apart<P: PartialEq + std::fmt::Debug>(
     input: impl FnOnce() -> String,
 ) -> Option<String> {
     (port != wanted).then(|| format!("{}\n  port   {port:?}\n  {judge:<6} {wanted:?}", input()))
+}
+
+/// An answer told apart from what the Rust tells, where it tells something.
+pub fn apart_from_rust<P: PartialEq + std::fmt::Debug>(
+    port: &P,
+    told: &Option<P>,
+    input: impl FnOnce() -> String,
+) -> Option<String> {
+    apart("Rust", port, told.as_ref()?, input)
+}
+
+#[cfg(test)]
+mod tests {
+    use super::{apart_from_rust, by_rust, is_known};
+    use cases::expected::Refusal;
+
+    #[test]
+    fn who_tells_nothing_is_no_judge() {
+        let apart = |told| apart_from_rust(&1, &told, String::new).is_some();
+        assert!(apart(Some(2)));
+        assert!(!apart(Some(1)));
+        assert!(!apart(None));
+    }
+
+    #[test]
+    fn a_refused_schema_is_told() {
+        let told = by_rust(&[2, 16], |columns| Ok(columns.types.len()));
+        assert_eq!(told, Some(Err(Refusal::Number(1, 1))));
+        let told = by_rust(&[2, 8], |columns| Ok(columns.rust.len()));
+        assert_eq!(told, Some(Ok(2)));
+        assert!(is_known(&[2, 8]) && !is_known(&[2, 16]));
+    }
 }

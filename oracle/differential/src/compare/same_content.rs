@@ -1,7 +1,7 @@
 //! Same content. The Rust has no such call: the model judges, and the values of
 //! the Rust's reads are compared by 01's rules.
 
-use super::rows::{self, apart, counted, judge};
+use super::rows::{self, apart, apart_from_rust, counted};
 use crate::lent::{asked, told};
 use crate::{Compared, hex, port};
 use cases::expected::{self, Refusal};
@@ -10,8 +10,8 @@ use cases::rng::Rng;
 use cases::rust::{self, Outcome};
 
 /// What the Rust's reads come to.
-fn wanted(schema: &[u8], a: &[u8], b: &[u8]) -> Result<bool, Refusal> {
-    expected::same_content(&rows::columns(schema)?, a, b)
+fn wanted(schema: &[u8], a: &[u8], b: &[u8]) -> Option<Result<bool, Refusal>> {
+    rows::by_rust(schema, |columns| expected::same_content(columns, a, b))
 }
 
 pub fn compare(rng: &mut Rng) -> Compared {
@@ -29,13 +29,14 @@ pub fn compare(rng: &mut Rng) -> Compared {
         number => Err(Refusal::of((number, answer.place))),
     };
     let difference = apart("model", &port, &model, input)
-        .or_else(|| apart("Rust", &flag, &wanted(&schema, &a, &b), input));
-    let columns = rows::columns(&schema).unwrap_or_default();
+        .or_else(|| apart_from_rust(&flag, &wanted(&schema, &a, &b), input));
     // The read that refuses is that of the first row, else of the second.
-    let rust = || match rust::read_all(&columns, &a) {
-        Outcome::Ok(_) => rust::read_all(&columns, &b),
-        refused => refused,
-    };
+    let judge = rows::judge_of(&schema, answer.number, |types| {
+        match rust::read_all(types, &a) {
+            Outcome::Ok(_) => rust::read_all(types, &b),
+            refused => refused,
+        }
+    });
     let sorts = vec![
         schema_sort,
         format!("pair {pair_sort:?}"),
@@ -44,7 +45,7 @@ pub fn compare(rng: &mut Rng) -> Compared {
             0 => format!("answer 0, flag {}, other bytes", answer.flag),
             number => format!("answer {number}"),
         },
-        judge(answer.number, rust).to_string(),
+        judge.to_string(),
     ];
     Compared {
         sorts: counted(sorts),

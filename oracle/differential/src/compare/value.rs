@@ -6,6 +6,7 @@ use crate::lent::{After, called};
 use crate::probe::{self, ValueProbe};
 use crate::{Compared, hex};
 use cases::LIMIT;
+use cases::column::ColumnType;
 use cases::generate::row::stored_form;
 use cases::generate::schema::any_type;
 use cases::generate::text::{self, Fault};
@@ -85,7 +86,7 @@ fn judged(
 }
 
 /// A type: each kind, numbers and times often, long slots seldom.
-pub fn any_column(rng: &mut Rng) -> DataType {
+pub fn any_column(rng: &mut Rng) -> ColumnType {
     let precision = rng.between(1, 38) as u8;
     let precision = rng.pick(&[precision, precision, 32, 33]);
     let scale = rng.between(0, precision.into()) as u8;
@@ -95,19 +96,19 @@ pub fn any_column(rng: &mut Rng) -> DataType {
         _ => 40,
     };
     match rng.below(8) {
-        0 => DataType::Numeric { precision, scale },
-        1 => DataType::Decimal { precision, scale },
+        0 => ColumnType::Numeric { precision, scale },
+        1 => ColumnType::Decimal { precision, scale },
         2 => match rng.below(3) {
-            0 => DataType::Date,
-            1 => DataType::Time,
-            _ => DataType::Timestamp,
+            0 => ColumnType::Date,
+            1 => ColumnType::Time,
+            _ => ColumnType::Timestamp,
         },
         _ => any_type(rng, room),
     }
 }
 
 /// Schema bytes that are not one good record.
-fn bad_schema(rng: &mut Rng, ty: &DataType) -> Vec<u8> {
+fn bad_schema(rng: &mut Rng, ty: &ColumnType) -> Vec<u8> {
     let mut bytes = write_schema(std::slice::from_ref(ty));
     let digits = rng.between(0, 45) as u8;
     match rng.below(6) {
@@ -122,7 +123,7 @@ fn bad_schema(rng: &mut Rng, ty: &DataType) -> Vec<u8> {
 }
 
 /// The one type of a schema, or 1 or 2: no record is 1, more after one is 2.
-fn one_type(schema: &[u8]) -> Result<DataType, u32> {
+fn one_type(schema: &[u8]) -> Result<ColumnType, u32> {
     let length = match schema.first() {
         None => return Err(1),
         Some(6 | 7 | 9 | 10 | 11 | 14) => 3,
@@ -137,23 +138,23 @@ fn one_type(schema: &[u8]) -> Result<DataType, u32> {
 }
 
 /// The model's name of a type.
-fn model_type(ty: &DataType) -> Type {
+fn model_type(ty: &ColumnType) -> Type {
     match *ty {
-        DataType::SmallInt => Type::SmallInt,
-        DataType::Int => Type::Int,
-        DataType::BigInt => Type::BigInt,
-        DataType::Real => Type::Real,
-        DataType::DoublePrecision => Type::DoublePrecision,
-        DataType::Numeric { precision, scale } => Type::Numeric { precision, scale },
-        DataType::Decimal { precision, scale } => Type::Decimal { precision, scale },
-        DataType::Bool => Type::Bool,
-        DataType::Char(n) => Type::Char(n.into()),
-        DataType::Character(n) => Type::Character(n.into()),
-        DataType::Varchar(n) => Type::Varchar(n.into()),
-        DataType::Date => Type::Date,
-        DataType::Time => Type::Time,
-        DataType::Bit(n) => Type::Bit(n.into()),
-        DataType::Timestamp => Type::Timestamp,
+        ColumnType::SmallInt => Type::SmallInt,
+        ColumnType::Int => Type::Int,
+        ColumnType::BigInt => Type::BigInt,
+        ColumnType::Real => Type::Real,
+        ColumnType::DoublePrecision => Type::DoublePrecision,
+        ColumnType::Numeric { precision, scale } => Type::Numeric { precision, scale },
+        ColumnType::Decimal { precision, scale } => Type::Decimal { precision, scale },
+        ColumnType::Bool => Type::Bool,
+        ColumnType::Char(n) => Type::Char(n.into()),
+        ColumnType::Character(n) => Type::Character(n.into()),
+        ColumnType::Varchar(n) => Type::Varchar(n.into()),
+        ColumnType::Date => Type::Date,
+        ColumnType::Time => Type::Time,
+        ColumnType::Bit(n) => Type::Bit(n.into()),
+        ColumnType::Timestamp => Type::Timestamp,
     }
 }
 
@@ -178,7 +179,7 @@ fn one_record(record: Record, area: TextArea) -> ValueList {
 }
 
 /// A body of random bytes for the type's kind; ranges near the area.
-fn any_body(rng: &mut Rng, ty: &DataType) -> ValueList {
+fn any_body(rng: &mut Rng, ty: &ColumnType) -> ValueList {
     let kind = suitable(rng, ty, &mut TextArea::default()).kind();
     let mut bytes = vec![kind];
     bytes.extend(rng.bytes(body_length(kind).expect("a known kind")));
@@ -205,10 +206,10 @@ fn bad_list(rng: &mut Rng, mut list: ValueList) -> ValueList {
 }
 
 /// A list for a column.
-pub fn any_list(rng: &mut Rng, ty: &DataType) -> (StoreSort, ValueList) {
+pub fn any_list(rng: &mut Rng, ty: &ColumnType) -> (StoreSort, ValueList) {
     let mut area = TextArea::default();
     if rng.one_in(4) {
-        suitable(rng, &DataType::Varchar(40), &mut area);
+        suitable(rng, &ColumnType::Varchar(40), &mut area);
     }
     match rng.below(256) {
         0..=99 => {
@@ -243,7 +244,7 @@ pub fn any_list(rng: &mut Rng, ty: &DataType) -> (StoreSort, ValueList) {
 }
 
 /// What 01 says of a list's one value: its stored form, or 10, 11 or 12.
-fn model_form(ty: &DataType, list: &ValueList) -> Handed {
+fn model_form(ty: &ColumnType, list: &ValueList) -> Handed {
     let values =
         model::value::check_list(&list.bytes, 1, list.text.len()).map_err(|_place| 10_u32)?;
     let ty = model_type(ty);
@@ -256,12 +257,14 @@ fn model_form(ty: &DataType, list: &ValueList) -> Handed {
     Ok(model::stored::write(ty, &values[0], &list.text))
 }
 
-/// What the Rust says of it; `None` outside its domain. The test of the kind is
-/// part of its building, which gives `Internal` there.
-pub fn rust_form(ty: &DataType, list: &ValueList) -> Option<Handed> {
+/// What the Rust says of it; `None` outside its domain, and for a type that it
+/// does not know. The test of the kind is part of its building, which gives
+/// `Internal` there.
+pub fn rust_form(ty: &ColumnType, list: &ValueList) -> Option<Handed> {
+    let rust_type = ty.to_rust()?;
     let record = list.records(1).ok()?[0];
     let value = to_rust(ty, &record, &list.text).ok()??;
-    Some(stored(ty, &value))
+    Some(stored(&rust_type, &value))
 }
 
 fn stored(ty: &DataType, value: &DataValue) -> Handed {
@@ -333,7 +336,7 @@ pub enum SlotSort {
     BadSchema,
 }
 
-fn good_form(rng: &mut Rng, ty: &DataType) -> Vec<u8> {
+fn good_form(rng: &mut Rng, ty: &ColumnType) -> Vec<u8> {
     let mut area = TextArea::default();
     let record = suitable(rng, ty, &mut area);
     model_form(ty, &one_record(record, area)).expect("a suitable value")
@@ -355,8 +358,8 @@ fn bad_payload(rng: &mut Rng, n: u16) -> Vec<u8> {
 }
 
 /// Bytes for a column.
-pub fn any_slot(rng: &mut Rng, ty: &DataType) -> (SlotSort, Vec<u8>) {
-    let size = ty.fixed_size().map(|size| size as usize);
+pub fn any_slot(rng: &mut Rng, ty: &ColumnType) -> (SlotSort, Vec<u8>) {
+    let size = ty.fixed_size();
     match rng.below(16) {
         0..=4 => (SlotSort::Stored, good_form(rng, ty)),
         5..=7 => {
@@ -368,7 +371,7 @@ pub fn any_slot(rng: &mut Rng, ty: &DataType) -> (SlotSort, Vec<u8>) {
             (SlotSort::Flipped, bytes)
         }
         8..=12 => match (ty, size) {
-            (DataType::Varchar(n), _) => (SlotSort::Edge, bad_payload(rng, *n)),
+            (ColumnType::Varchar(n), _) => (SlotSort::Edge, bad_payload(rng, *n)),
             (_, Some(size)) => (SlotSort::Edge, stored_form(rng, ty, size)),
             (_, None) => unreachable!("a Varchar alone has no slot"),
         },
@@ -390,14 +393,16 @@ pub fn any_slot(rng: &mut Rng, ty: &DataType) -> (SlotSort, Vec<u8>) {
 }
 
 /// What 01 says of bytes at a place: the value's record, or the refusal.
-fn model_record(ty: &DataType, bytes: &[u8], start: usize) -> Handed {
+fn model_record(ty: &ColumnType, bytes: &[u8], start: usize) -> Handed {
     let value = model::stored::read(model_type(ty), bytes, start);
     value.map(|value| value.record()).ok_or(8)
 }
 
-/// What the Rust says of them; `None` where it reads a date that 01 does not.
-pub fn rust_record(ty: &DataType, bytes: &[u8], start: usize) -> Option<Handed> {
-    match rust::call(|| DataValue::from_bytes(ty, bytes)) {
+/// What the Rust says of them; `None` where it reads a date that 01 does not, and
+/// for a type that it does not know.
+pub fn rust_record(ty: &ColumnType, bytes: &[u8], start: usize) -> Option<Handed> {
+    let rust_type = ty.to_rust()?;
+    match rust::call(|| DataValue::from_bytes(&rust_type, bytes)) {
         Outcome::Ok(value) if in_domain(&value) => Some(Ok(record_of(value, bytes, start))),
         Outcome::Ok(_) => None,
         Outcome::TypeMismatch => Some(Err(8)),
@@ -431,14 +436,11 @@ fn record_of(value: DataValue, bytes: &[u8], start: usize) -> Vec<u8> {
 
 /// What the probe refuses before it reads: 4 for numbers that a record does not
 /// hold, 3 for a slot of another length, 14 for room for less than any record.
-pub fn refused_slot(ty: &DataType, bytes: &[u8], start: usize, room: usize) -> Option<u32> {
+pub fn refused_slot(ty: &ColumnType, bytes: &[u8], start: usize, room: usize) -> Option<u32> {
     if start > LIMIT || bytes.len() > LIMIT {
         return Some(4);
     }
-    if ty
-        .fixed_size()
-        .is_some_and(|size| size as usize != bytes.len())
-    {
+    if ty.fixed_size().is_some_and(|size| size != bytes.len()) {
         return Some(3);
     }
     (room < 18).then_some(14)
