@@ -101,8 +101,8 @@ fn record(value: &Option<DataValue>, row: &[u8], layout: &Layout, place: Place) 
         return own;
     };
     let start = match place {
-        Place::Fixed { start, .. } => start as u16,
-        Place::Varchar { rank } => offset(row, layout, rank),
+        Place::Fixed { start, .. } => start,
+        Place::Varchar { rank } => offset(row, layout, rank).into(),
     };
     let record = own.with_range(TextRange { start, ..range });
     assert!(is_value(&record, row, value.as_ref()), "{value:?}");

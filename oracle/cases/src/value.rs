@@ -20,18 +20,34 @@ const DAY: i64 = 86_400_000_000;
 /// A part of the text area.
 #[derive(Debug, Clone, Copy, PartialEq, Eq)]
 pub struct TextRange {
-    pub start: u16,
-    pub length: u16,
+    pub start: usize,
+    pub length: usize,
 }
 
 impl TextRange {
     pub fn end(self) -> usize {
-        usize::from(self.start) + usize::from(self.length)
+        self.start + self.length
     }
 
     /// The bytes of the range, if it is inside the text area.
     pub fn of(self, text: &[u8]) -> Option<&[u8]> {
-        text.get(usize::from(self.start)..self.end())
+        text.get(self.start..self.end())
+    }
+
+    /// Both numbers in two bytes each, as a record of these kinds has them.
+    fn write(self, out: &mut Vec<u8>) {
+        for number in [self.start, self.length] {
+            let number = u16::try_from(number).expect("a number of two bytes");
+            out.extend(number.to_le_bytes());
+        }
+    }
+
+    fn read(body: &[u8]) -> Self {
+        let number = |bytes: &[u8]| usize::from(u16::from_le_bytes(array(bytes)));
+        TextRange {
+            start: number(&body[..2]),
+            length: number(&body[2..]),
+        }
     }
 }
 
@@ -91,8 +107,7 @@ impl Record {
             }
             Record::Bool(v) => out.push(v),
             Record::Char(range) | Record::Varchar(range) | Record::Bit(range) => {
-                out.extend(range.start.to_le_bytes());
-                out.extend(range.length.to_le_bytes());
+                range.write(out);
             }
         }
     }
@@ -114,11 +129,11 @@ impl Record {
                 scale: body[16],
             },
             7 => Record::Bool(body[0]),
-            8 => Record::Char(read_range(body)),
-            9 => Record::Varchar(read_range(body)),
+            8 => Record::Char(TextRange::read(body)),
+            9 => Record::Varchar(TextRange::read(body)),
             10 => Record::Date(i32::from_le_bytes(array(body))),
             11 => Record::Time(i64::from_le_bytes(array(body))),
-            12 => Record::Bit(read_range(body)),
+            12 => Record::Bit(TextRange::read(body)),
             _ => Record::Timestamp(i64::from_le_bytes(array(body))),
         };
         Some((record, 1 + length))
@@ -171,13 +186,6 @@ pub fn body_length(kind: u8) -> Option<usize> {
 
 fn array<const N: usize>(body: &[u8]) -> [u8; N] {
     body.try_into().expect("a body of this length")
-}
-
-fn read_range(body: &[u8]) -> TextRange {
-    TextRange {
-        start: u16::from_le_bytes(array(&body[..2])),
-        length: u16::from_le_bytes(array(&body[2..])),
-    }
 }
 
 /// A value list with its text area.
@@ -413,9 +421,10 @@ fn from_rust(value: &DataValue, text: &mut Vec<u8>) -> Option<Record> {
 
 /// Puts bytes at the end of the text area; `None` if it passes the limit.
 pub fn append(bytes: &[u8], text: &mut Vec<u8>) -> Option<TextRange> {
-    let start = u16::try_from(text.len()).ok()?;
-    let length = u16::try_from(bytes.len()).ok()?;
-    let range = TextRange { start, length };
+    let range = TextRange {
+        start: text.len(),
+        length: bytes.len(),
+    };
     (range.end() <= LIMIT).then(|| {
         text.extend(bytes);
         range

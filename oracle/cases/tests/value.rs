@@ -212,6 +212,17 @@ fn record_bytes() {
     }
 }
 
+/// A range is never cut to the two bytes of its record.
+#[test]
+fn a_range_past_two_bytes_is_not_written() {
+    let write = |start, length| {
+        let record = Record::Varchar(TextRange { start, length });
+        rust::guarded(|| ValueList::of_records(&[record], vec![]).bytes)
+    };
+    assert_eq!(write(65_535, 65_535), Ok(vec![9, 255, 255, 255, 255]));
+    assert!(write(65_536, 0).is_err() && write(0, 65_536).is_err());
+}
+
 #[test]
 fn refusals_10() {
     let refusal = |bytes: &[u8], count, text| {

@@ -440,7 +440,7 @@ fn text_and_same(rng: &mut Rng) -> Result<Vec<u32>, String> {
     };
     let columns = RustColumns::of(&types).unwrap();
     let wanted = expected::text(&columns, &a, column);
-    let wanted = wanted.map(|range| (range.start.into(), range.length.into()));
+    let wanted = wanted.map(|range| (range.start, range.length));
     same(model, wanted, input)?;
     let mut numbers = vec![answer.number];
 

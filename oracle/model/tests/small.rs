@@ -105,7 +105,7 @@ fn calls(types: &[ColumnType]) -> Vec<Call> {
         for text in [&b""[..], b"B", b"BC", b"BCD", b"\xC3"] {
             let range = TextRange {
                 start: 0,
-                length: text.len() as u16,
+                length: text.len(),
             };
             let record = match types.get(column) {
                 Some(ColumnType::Bool) => Record::Bool(text.len() as u8),

@@ -64,10 +64,10 @@ fn long(types: &[ColumnType], column: usize, row: usize) -> Option<ValueList> {
     let ColumnType::Varchar(n) = types[column] else {
         return None;
     };
-    let length = u16::try_from(row - Layout::packed(types).minimum).ok()?;
-    let text = vec![b'x'; length.into()];
+    let length = row - Layout::packed(types).minimum;
+    let text = vec![b'x'; length];
     let record = Record::Varchar(TextRange { start: 0, length });
-    (length <= n).then(|| ValueList::of_records(&[record], text))
+    (length <= n.into()).then(|| ValueList::of_records(&[record], text))
 }
 
 fn on_unknown_column(rng: &mut Rng, types: &[ColumnType]) -> Call {

@@ -134,7 +134,7 @@ impl Draft {
     /// The length of the packed row.
     fn row_length(&self, types: &[ColumnType]) -> usize {
         let payload = |record: &Record| match record {
-            Record::Varchar(range) => usize::from(range.length),
+            Record::Varchar(range) => range.length,
             _ => 0,
         };
         Layout::packed(types).minimum + self.records.iter().map(payload).sum::<usize>()
@@ -200,9 +200,9 @@ fn row_of(rng: &mut Rng, types: &[ColumnType], length: usize) -> Option<Draft> {
     shuffle(rng, &mut columns);
     for column in columns {
         if let ColumnType::Varchar(n) = types[column] {
-            let length = missing.min(n.into()) as u16;
+            let length = missing.min(n.into());
             draft.records[column] = Record::Varchar(TextRange { start: 0, length });
-            missing -= usize::from(length);
+            missing -= length;
         }
     }
     draft.area.bytes = vec![b'x'; LIMIT];

@@ -182,8 +182,8 @@ fn text_range(rng: &mut Rng, n: u16, area: &mut TextArea) -> TextRange {
 fn bytes_range(rng: &mut Rng, length: usize, area: &mut TextArea) -> TextRange {
     if length > area.room() {
         return TextRange {
-            start: rng.between(0, area.bytes.len() - length) as u16,
-            length: length as u16,
+            start: rng.between(0, area.bytes.len() - length),
+            length,
         };
     }
     let bytes = match rng.below(4) {
@@ -323,10 +323,7 @@ fn outside_range(rng: &mut Rng, text: usize) -> TextRange {
         }
         _ => (most, rng.between(1, most)),
     };
-    TextRange {
-        start: start as u16,
-        length: length as u16,
-    }
+    TextRange { start, length }
 }
 
 /// One type of each schema kind.

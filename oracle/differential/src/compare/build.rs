@@ -92,8 +92,7 @@ fn area_end(rng: &mut Rng) -> Given {
         _ => (length + rng.below(20)).min(LIMIT),
     };
     let past = rng.below(2);
-    let start = (area + past).saturating_sub(length).min(LIMIT) as u16;
-    let length = length as u16;
+    let start = (area + past).saturating_sub(length).min(LIMIT);
     let range = TextRange { start, length };
     let mut records = vec![Record::Null; types.len()];
     records[at] = match ty {
@@ -257,7 +256,6 @@ mod tests {
     }
 
     fn text(length: usize) -> Record {
-        let length = length as u16;
         Record::Varchar(TextRange { start: 0, length })
     }
 
@@ -371,6 +369,7 @@ mod tests {
     }
 
     fn range(length: u16) -> TextRange {
+        let length = length.into();
         TextRange { start: 0, length }
     }
 

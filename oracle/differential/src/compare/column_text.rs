@@ -26,7 +26,7 @@ fn column(rng: &mut Rng, types: &[ColumnType]) -> usize {
 fn wanted(schema: &[u8], row: &[u8], column: usize) -> Option<Result<(usize, usize), Refusal>> {
     rows::by_rust(schema, |columns| {
         let range = expected::text(columns, row, column)?;
-        Ok((range.start.into(), range.length.into()))
+        Ok((range.start, range.length))
     })
 }
 

@@ -423,8 +423,8 @@ fn record_of(value: DataValue, bytes: &[u8], start: usize) -> Vec<u8> {
         return vec![];
     }
     let range = TextRange {
-        start: start as u16,
-        length: bytes.len() as u16,
+        start,
+        length: bytes.len(),
     };
     let record = match record {
         Record::Char(_) => Record::Char(range),
