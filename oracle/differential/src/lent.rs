@@ -1,7 +1,8 @@
 //! What is lent to a call of the port, and what is left of it.
 
 use crate::hex;
-use crate::memory::{Lending, Part, Side, Slot};
+use crate::memory::{Lending, Part, Shape, Side, Slot};
+use cases::LIMIT;
 use cases::rng::Rng;
 use std::cell::RefCell;
 use std::fmt;
@@ -44,6 +45,13 @@ pub fn any_output(rng: &mut Rng, needed: usize) -> (Room, Vec<u8>) {
     (room, rng.bytes(length))
 }
 
+/// No comparison lends more bytes at a time. A list of whole numbers is aligned
+/// where its end is.
+const SHAPE: Shape = Shape {
+    size: 3 * LIMIT,
+    alignment: 1,
+};
+
 thread_local! {
     /// What slices are lent from, by as many as a call needs.
     static SLOTS: RefCell<Vec<Slot>> = const { RefCell::new(Vec::new()) };
@@ -59,7 +67,7 @@ pub fn called<A, const N: usize>(
 ) -> After<A> {
     SLOTS.with_borrow_mut(|slots| {
         slots.resize_with(slots.len().max(N + 1), || {
-            Slot::new(Lending::ToWrite, Side::End)
+            Slot::new(Lending::ToWrite, Side::End, SHAPE)
         });
         let (out, slots) = slots.split_first_mut().expect("a slot");
         let lent = std::array::from_fn(|i| slice(slots[i].put(inputs[i])));

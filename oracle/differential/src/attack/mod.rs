@@ -1,15 +1,18 @@
 //! The exported calls, on slices that end at unreadable pages, compared with the
 //! model alone: number, place, what is handed out, every byte of every lent slice
-//! and handle and the marks beside it. `rounds` makes the inputs.
+//! and handle and the marks beside it. `rounds` makes the inputs, `calls` has a
+//! method for each call.
 
+mod calls;
 mod handle;
 pub mod judge;
 mod rounds;
+mod slots;
 
-use crate::memory::{Lending, Part, Side, Slot};
-use crate::{hex, port};
-use handle::Handle;
-use judge::{Judge, Told, told};
+use crate::hex;
+use crate::memory::{Part, Side};
+use judge::{Judge, Told};
+use slots::{Given, Role, Slots};
 use std::fmt::Write;
 
 #[derive(Debug, Clone, Copy, PartialEq, Eq)]
@@ -59,12 +62,15 @@ impl Call {
     }
 }
 
+/// Answers are counted by their numbers, which are less than this.
+pub const NUMBERS: usize = 32;
+
 /// How many calls ran.
 #[derive(Default)]
 pub struct Counts {
     pub calls: u64,
     /// By call and answer: the number, of the text check 1 or 0.
-    pub answers: [[u64; 16]; Call::ALL.len()],
+    pub answers: [[u64; NUMBERS]; Call::ALL.len()],
     /// With a lent slice of 65,535 bytes or more.
     pub long: u64,
     /// With a schema or a value list for 256 columns or more.
@@ -73,14 +79,20 @@ pub struct Counts {
     pub damaged: u64,
 }
 
+/// What a call is given: slices that it only reads, slices that it may write to,
+/// and numbers.
+struct Lent<'a, const N: usize, const M: usize> {
+    inputs: [Given<'a>; N],
+    outputs: [Given<'a>; M],
+    numbers: [usize; 2],
+}
+
 pub struct Attack {
     judge: &'static Judge,
-    inputs: [Slot; 3],
-    output: Slot,
-    handle: Slot,
-    /// What the judge leaves of the output.
-    wanted: Vec<u8>,
-    /// The bytes that were lent, and some for each call.
+    slots: Slots,
+    /// What the judge leaves of each output.
+    wanted: Vec<Vec<u8>>,
+    /// The bytes that were lent, without those of handles, and some for each call.
     spent: usize,
     pub counts: Counts,
     pub difference: Option<String>,
@@ -92,12 +104,9 @@ impl Attack {
     /// Slices have this side at an unreadable page. With `blocks` they are blocks of
     /// their own, for valgrind.
     pub fn new(judge: &'static Judge, side: Side, blocks: bool) -> Self {
-        let lending = |to| if blocks { Lending::Block } else { to };
         Attack {
             judge,
-            inputs: [(); 3].map(|()| Slot::new(lending(Lending::ToRead), side)),
-            output: Slot::new(lending(Lending::ToWrite), side),
-            handle: Slot::new(lending(Lending::ToWrite), side),
+            slots: Slots::new(side, blocks),
             wanted: Vec::new(),
             spent: 0,
             counts: Counts::default(),
@@ -106,59 +115,88 @@ impl Attack {
         }
     }
 
-    /// One call on these inputs, this output and these numbers: by the port on what
-    /// it is lent, and by the judge on a copy of the output.
-    fn run<const N: usize>(
+    /// One call: by the port on what it is lent, and by the judge on copies of the
+    /// outputs.
+    fn run<const N: usize, const M: usize>(
         &mut self,
         call: Call,
-        inputs: [&[u8]; N],
-        output: &[u8],
-        numbers: [usize; 2],
-        port: impl FnOnce([Part; N], Part) -> Told,
-        judge: impl FnOnce(&mut [u8]) -> Told,
+        lent: Lent<N, M>,
+        port: impl FnOnce([Part; N], [Part; M]) -> Told,
+        judge: impl FnOnce([&mut [u8]; M]) -> Told,
     ) -> Told {
-        let lent = std::array::from_fn(|i| self.inputs[i].put(inputs[i]));
-        let told = port(lent, self.output.put(output));
-        self.wanted.clear();
-        self.wanted.extend_from_slice(output);
-        let wanted = judge(&mut self.wanted);
-        let mut lent = inputs.iter().zip(&self.inputs);
-        let kept = lent.all(|(input, slot)| slot.holds(input));
-        if told != wanted || !kept || !self.output.holds(&self.wanted) {
-            let input = self.told_input(call, &inputs, output, numbers);
-            let difference = format!(
-                "{input}\n  port   {told:?}, inputs and their marks kept: {kept}, marks of the output kept: {}, {}\n  wanted {wanted:?}, {}",
-                self.output.marked(),
-                self.bytes(self.output.bytes()),
-                self.bytes(&self.wanted),
-            );
+        let Lent {
+            inputs, outputs, ..
+        } = lent;
+        let told = port(self.slots.put(inputs), self.slots.put(outputs));
+        let wanted = judge(copies(&mut self.wanted, outputs));
+        let holds = |(role, bytes): Given| self.slots.of(role).holds(bytes);
+        let left = outputs.iter().zip(&self.wanted);
+        let same = inputs.into_iter().all(holds)
+            && left
+                .map(|((role, _), wanted)| (*role, &wanted[..]))
+                .all(holds);
+        if told != wanted || !same {
+            let difference = self.told_apart(call, &lent, told, wanted);
             self.difference.get_or_insert(difference);
         }
-        let lent: usize = inputs.iter().map(|input| input.len()).sum();
-        self.spent += 64 + lent + output.len();
-        self.counts.calls += 1;
-        let answer = match call {
-            Call::TextValid => wanted.handed[0],
-            _ => wanted.number as usize,
-        };
-        self.counts.answers[call as usize][answer % 16] += 1;
-        let long = |slice: &&[u8]| slice.len() >= 65_535;
-        self.counts.long += u64::from(inputs.iter().chain([&output]).any(long));
+        self.count(call, wanted, inputs.iter().chain(&outputs));
         told
     }
 
-    fn told_input(
+    /// Counts a call that answers so.
+    fn count<'a>(&mut self, call: Call, told: Told, lent: impl Iterator<Item = &'a Given<'a>>) {
+        let mut long = false;
+        self.spent += 64;
+        for (role, bytes) in lent {
+            long |= bytes.len() >= 65_535;
+            self.spent += if *role == Role::Handle {
+                0
+            } else {
+                bytes.len()
+            };
+        }
+        self.counts.calls += 1;
+        self.counts.long += u64::from(long);
+        let number = match call {
+            Call::TextValid => told.handed[0],
+            _ => told.number as usize,
+        };
+        match self.counts.answers[call as usize].get_mut(number) {
+            Some(count) => *count += 1,
+            None => {
+                let difference = format!("{}, answered {number}, which is no number", call.name());
+                self.difference.get_or_insert(difference);
+            }
+        }
+    }
+
+    /// The input, and what the port and the judge make of it.
+    fn told_apart<const N: usize, const M: usize>(
         &self,
         call: Call,
-        inputs: &[&[u8]],
-        output: &[u8],
-        numbers: [usize; 2],
+        lent: &Lent<N, M>,
+        told: Told,
+        wanted: Told,
     ) -> String {
-        let mut input = format!("{}, numbers {numbers:?}", call.name());
-        for slice in inputs.iter().chain([&output]) {
-            let _ = write!(input, "\n  lent   {}", self.bytes(slice));
+        let mut text = format!("{}, numbers {:?}", call.name(), lent.numbers);
+        for (role, bytes) in lent.inputs.iter().chain(&lent.outputs) {
+            let _ = write!(text, "\n  lent   {role:?}, {}", self.bytes(bytes));
         }
-        input
+        let _ = write!(text, "\n  port   {told:?}\n  wanted {wanted:?}");
+        let inputs = lent.inputs.iter().map(|(role, bytes)| (role, *bytes));
+        let left = lent.outputs.iter().zip(&self.wanted);
+        let outputs = left.map(|((role, _), wanted)| (role, &wanted[..]));
+        for (role, wanted) in inputs.chain(outputs) {
+            let slot = self.slots.of(*role);
+            if !slot.marked() {
+                let _ = write!(text, "\n  marks  of {role:?} changed");
+            }
+            if slot.bytes() != wanted {
+                let (left, wanted) = (self.bytes(slot.bytes()), self.bytes(wanted));
+                let _ = write!(text, "\n  left   {role:?}, {left}\n  wanted {wanted}");
+            }
+        }
+        text
     }
 
     fn bytes(&self, bytes: &[u8]) -> String {
@@ -167,230 +205,108 @@ impl Attack {
         let more = if first.len() < bytes.len() { ".." } else { "" };
         format!("{} bytes {}{more}", bytes.len(), hex(first))
     }
+}
 
-    fn fresh(&mut self, schema: &[u8], out: &[u8]) -> Told {
-        let judge = self.judge.fresh;
-        // SAFETY: here and below, each pointer and length is that of lent memory;
-        // only the output is lent for writing.
-        let port = |[s]: [Part; 1], o: Part| unsafe {
-            let answer = port::rook_row_fresh(s.pointer, s.length, o.pointer, o.length);
-            told!(answer, length)
-        };
-        self.run(Call::Fresh, [schema], out, [0, 0], port, |out| {
-            judge(schema, out)
-        })
-    }
+/// Copies of the outputs, for the judge.
+fn copies<'a, const M: usize>(
+    copies: &'a mut Vec<Vec<u8>>,
+    outputs: [Given; M],
+) -> [&'a mut [u8]; M] {
+    copies.resize(copies.len().max(M), Vec::new());
+    let mut copies = copies.iter_mut();
+    outputs.map(|(_, bytes)| {
+        let copy = copies.next().expect("a copy for each output");
+        copy.clear();
+        copy.extend_from_slice(bytes);
+        &mut copy[..]
+    })
+}
 
-    fn build(&mut self, schema: &[u8], values: &[u8], text: &[u8], out: &[u8]) -> Told {
-        let judge = self.judge.build;
-        let inputs = [schema, values, text];
-        let port = |[s, v, t]: [Part; 3], o: Part| unsafe {
-            let answer = port::rook_row_build(
-                s.pointer, s.length, v.pointer, v.length, t.pointer, t.length, o.pointer, o.length,
-            );
-            told!(answer, length)
-        };
-        self.run(Call::Build, inputs, out, [0, 0], port, |out| {
-            judge(schema, values, text, out)
-        })
-    }
+#[cfg(test)]
+mod tests {
+    use super::judge::{MODEL, Told};
+    use super::slots::Role;
+    use super::{Attack, Call, Lent, NUMBERS};
+    use crate::memory::{Part, Side};
 
-    fn read(&mut self, schema: &[u8], row: &[u8], wanted: &[u16], out: &[u8]) -> Told {
-        let judge = self.judge.read;
-        let bytes: Vec<u8> = wanted.iter().flat_map(|n| n.to_le_bytes()).collect();
-        let inputs = [schema, row, &bytes];
-        let port = |[s, r, w]: [Part; 3], o: Part| unsafe {
-            let numbers = w.pointer.cast();
-            let answer = port::rook_row_read(
-                s.pointer,
-                s.length,
-                r.pointer,
-                r.length,
-                numbers,
-                w.length / 2,
-                o.pointer,
-                o.length,
-            );
-            told!(answer, length)
-        };
-        self.run(Call::Read, inputs, out, [0, 0], port, |out| {
-            judge(schema, row, wanted, out)
-        })
-    }
-
-    fn set(
-        &mut self,
-        schema: &[u8],
-        buffer: &[u8],
-        [length, column]: [usize; 2],
-        values: &[u8],
-        text: &[u8],
-    ) -> Told {
-        let judge = self.judge.set;
-        let inputs = [schema, values, text];
-        let port = |[s, v, t]: [Part; 3], b: Part| unsafe {
-            let answer = port::rook_row_set(
-                s.pointer, s.length, b.pointer, b.length, length, column, v.pointer, v.length,
-                t.pointer, t.length,
-            );
-            told!(answer, length)
-        };
-        self.run(
-            Call::Set,
-            inputs,
-            buffer,
-            [length, column],
-            port,
-            |buffer| judge(schema, buffer, length, column, values, text),
-        )
-    }
-
-    fn set_null(&mut self, schema: &[u8], buffer: &[u8], [length, column]: [usize; 2]) -> Told {
-        let judge = self.judge.set_null;
-        let port = |[s]: [Part; 1], b: Part| unsafe {
-            let answer =
-                port::rook_row_set_null(s.pointer, s.length, b.pointer, b.length, length, column);
-            told!(answer, length)
-        };
-        let numbers = [length, column];
-        self.run(Call::SetNull, [schema], buffer, numbers, port, |buffer| {
-            judge(schema, buffer, length, column)
-        })
-    }
-
-    fn handle_set(
-        &mut self,
-        schema: &[u8],
-        buffer: &[u8],
-        handle: &Handle,
-        column: usize,
-        values: &[u8],
-        text: &[u8],
-    ) -> Told {
-        let judge = self.judge.set;
-        let lent = self.handle.put(handle);
-        let inputs = [schema, values, text];
-        let port = |[s, v, t]: [Part; 3], b: Part| unsafe {
-            let answer = port::rook_row_handle_set(
-                lent.pointer,
-                s.pointer,
-                s.length,
-                b.pointer,
-                b.length,
-                column,
-                v.pointer,
-                v.length,
-                t.pointer,
-                t.length,
-            );
-            told!(answer, length)
-        };
-        let length = handle::length(handle);
-        let numbers = [length, column];
-        let told = self.run(Call::HandleSet, inputs, buffer, numbers, port, |buffer| {
-            judge(schema, buffer, length, column, values, text)
-        });
-        self.handle_left(Call::HandleSet, schema, handle, told)
-    }
-
-    fn handle_set_null(
-        &mut self,
-        schema: &[u8],
-        buffer: &[u8],
-        handle: &Handle,
-        column: usize,
-    ) -> Told {
-        let judge = self.judge.set_null;
-        let lent = self.handle.put(handle);
-        let port = |[s]: [Part; 1], b: Part| unsafe {
-            let answer = port::rook_row_handle_set_null(
-                lent.pointer,
-                s.pointer,
-                s.length,
-                b.pointer,
-                b.length,
-                column,
-            );
-            told!(answer, length)
-        };
-        let length = handle::length(handle);
-        let (inputs, numbers) = ([schema], [length, column]);
-        let told = self.run(
-            Call::HandleSetNull,
-            inputs,
-            buffer,
-            numbers,
-            port,
-            |buffer| judge(schema, buffer, length, column),
-        );
-        self.handle_left(Call::HandleSetNull, schema, handle, told)
-    }
-
-    /// Every byte of the handle after a call that answered so.
-    fn handle_left(&mut self, call: Call, schema: &[u8], before: &Handle, told: Told) -> Told {
-        let wanted = handle::after(told, schema, &self.wanted, before);
-        if !self.handle.holds(&wanted) {
-            let difference = format!(
-                "{}, {told:?}, schema {}\n  lent   {}\n  handle {}, its marks kept: {}\n  wanted {}",
-                call.name(),
-                self.bytes(schema),
-                hex(before),
-                hex(self.handle.bytes()),
-                self.handle.marked(),
-                hex(&wanted),
-            );
-            self.difference.get_or_insert(difference);
-        }
-        told
-    }
-
-    fn text(&mut self, schema: &[u8], row: &[u8], column: usize) -> Told {
-        let judge = self.judge.text;
-        let port = |[s, r]: [Part; 2], _: Part| unsafe {
-            let answer = port::rook_row_text(s.pointer, s.length, r.pointer, r.length, column);
-            told!(answer, start, length)
-        };
-        self.run(Call::Text, [schema, row], &[], [column, 0], port, |_| {
-            judge(schema, row, column)
-        })
-    }
-
-    fn same_content(&mut self, schema: &[u8], a: &[u8], b: &[u8]) -> Told {
-        let judge = self.judge.same_content;
-        let port = |[s, a, b]: [Part; 3], _: Part| unsafe {
-            let answer = port::rook_row_same_content(
-                s.pointer, s.length, a.pointer, a.length, b.pointer, b.length,
-            );
-            told!(answer, flag)
-        };
-        self.run(Call::SameContent, [schema, a, b], &[], [0, 0], port, |_| {
-            judge(schema, a, b)
-        })
-    }
-
-    fn is_null(&mut self, row: &[u8], column: usize) -> Told {
-        let judge = self.judge.is_null;
-        let port = |[r]: [Part; 1], _: Part| unsafe {
-            let answer = port::rook_row_is_null(r.pointer, r.length, column);
-            told!(answer, flag)
-        };
-        self.run(Call::IsNull, [row], &[], [column, 0], port, |_| {
-            judge(row, column)
-        })
-    }
-
-    fn text_valid(&mut self, text: &[u8]) -> Told {
-        let judge = self.judge.text_valid;
-        let flag = |flag: usize| Told {
-            number: 0,
+    fn answer(number: u32) -> Told {
+        Told {
+            number,
             place: 0,
-            handed: [flag, 0],
+            handed: [0, 0],
+        }
+    }
+
+    const HANDLE: [u8; 40] = [7; 40];
+
+    fn lent<'a>() -> Lent<'a, 1, 2> {
+        Lent {
+            inputs: [(Role::Schema, &[2, 8])],
+            outputs: [(Role::Output, &[1, 2, 3]), (Role::Handle, &HANDLE)],
+            numbers: [0, 0],
+        }
+    }
+
+    /// A call with two outputs, of which the port and the judge change the first
+    /// byte; the port also the byte at this place of one of them.
+    fn called(at: Option<(usize, isize)>) -> Attack {
+        let mut attack = Attack::new(&MODEL, Side::End, false);
+        let port = |_: [Part; 1], outputs: [Part; 2]| {
+            for output in outputs {
+                // SAFETY: here and below, a byte of the output or a mark before it.
+                unsafe { *output.pointer ^= 1 };
+            }
+            if let Some((output, place)) = at {
+                unsafe { *outputs[output].pointer.offset(place) ^= 1 };
+            }
+            answer(0)
         };
-        let port = |[t]: [Part; 1], _: Part| unsafe {
-            flag(port::rook_text_valid(t.pointer, t.length) as usize)
-        };
-        self.run(Call::TextValid, [text], &[], [0, 0], port, |_| {
-            flag(judge(text).into())
-        })
+        attack.run(Call::Set, lent(), port, |outputs| {
+            outputs.into_iter().for_each(|output| output[0] ^= 1);
+            answer(0)
+        });
+        attack
+    }
+
+    #[test]
+    fn every_byte_of_every_output_is_seen() {
+        assert_eq!(called(None).difference, None);
+        for (output, length) in [(0, 3), (1, 40)] {
+            for place in -64..length {
+                let attack = called(Some((output, place)));
+                let difference = attack.difference.expect("a difference");
+                assert!(difference.starts_with("rook_row_set, "), "{difference}");
+            }
+        }
+    }
+
+    #[test]
+    fn numbers_are_counted_or_told() {
+        for number in [0, 15, 16, 31, 32, 33, 48, u32::MAX] {
+            let mut attack = Attack::new(&MODEL, Side::End, false);
+            attack.run(
+                Call::Read,
+                lent(),
+                |_, _| answer(number),
+                |_| answer(number),
+            );
+            let counted = attack.counts.answers[Call::Read as usize];
+            match counted.get(number as usize) {
+                Some(count) => assert_eq!((*count, attack.difference), (1, None)),
+                None => {
+                    let told = attack.difference.expect("a difference");
+                    assert!(told.starts_with("rook_row_read, answered"), "{told}");
+                }
+            }
+            assert_eq!(
+                counted.iter().sum::<u64>(),
+                u64::from(number < NUMBERS as u32)
+            );
+        }
+    }
+
+    #[test]
+    fn handles_are_not_spent() {
+        assert_eq!(called(None).spent, 64 + 2 + 3);
     }
 }

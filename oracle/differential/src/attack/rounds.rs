@@ -297,7 +297,7 @@ impl Attack {
     /// The row that an accepted edit left is edited further.
     fn accept(&self, given: &mut Given, told: Told) {
         if told.number == 0 {
-            given.buffer.clone_from(&self.wanted);
+            given.buffer.clone_from(&self.wanted[0]);
             given.length = told.handed[0];
         }
     }

@@ -1,0 +1,251 @@
+//! The exported calls, each with what it is lent and what the judge says of it.
+
+use super::handle::{self, Handle};
+use super::judge::{Told, told};
+use super::slots::{Given, Role};
+use super::{Attack, Call, Lent};
+use crate::memory::Part;
+use crate::port;
+
+impl Attack {
+    pub(super) fn fresh(&mut self, schema: &[u8], out: &[u8]) -> Told {
+        let judge = self.judge.fresh;
+        let lent = Lent {
+            inputs: [(Role::Schema, schema)],
+            outputs: [(Role::Output, out)],
+            numbers: [0, 0],
+        };
+        // SAFETY: here and below, each pointer and length is that of lent memory;
+        // only the outputs are lent for writing.
+        let port = |[s]: [Part; 1], [o]: [Part; 1]| unsafe {
+            let answer = port::rook_row_fresh(s.pointer, s.length, o.pointer, o.length);
+            told!(answer, length)
+        };
+        self.run(Call::Fresh, lent, port, |[out]| judge(schema, out))
+    }
+
+    pub(super) fn build(&mut self, schema: &[u8], values: &[u8], text: &[u8], out: &[u8]) -> Told {
+        let judge = self.judge.build;
+        let lent = Lent {
+            inputs: list_inputs(schema, values, text),
+            outputs: [(Role::Output, out)],
+            numbers: [0, 0],
+        };
+        let port = |[s, v, t]: [Part; 3], [o]: [Part; 1]| unsafe {
+            let answer = port::rook_row_build(
+                s.pointer, s.length, v.pointer, v.length, t.pointer, t.length, o.pointer, o.length,
+            );
+            told!(answer, length)
+        };
+        self.run(Call::Build, lent, port, |[out]| {
+            judge(schema, values, text, out)
+        })
+    }
+
+    pub(super) fn read(&mut self, schema: &[u8], row: &[u8], wanted: &[u16], out: &[u8]) -> Told {
+        let judge = self.judge.read;
+        let bytes: Vec<u8> = wanted.iter().flat_map(|n| n.to_le_bytes()).collect();
+        let lent = Lent {
+            inputs: [
+                (Role::Schema, schema),
+                (Role::Row, row),
+                (Role::Wanted, &bytes),
+            ],
+            outputs: [(Role::Output, out)],
+            numbers: [0, 0],
+        };
+        let port = |[s, r, w]: [Part; 3], [o]: [Part; 1]| unsafe {
+            let numbers = w.pointer.cast();
+            let answer = port::rook_row_read(
+                s.pointer,
+                s.length,
+                r.pointer,
+                r.length,
+                numbers,
+                w.length / 2,
+                o.pointer,
+                o.length,
+            );
+            told!(answer, length)
+        };
+        self.run(Call::Read, lent, port, |[out]| {
+            judge(schema, row, wanted, out)
+        })
+    }
+
+    pub(super) fn set(
+        &mut self,
+        schema: &[u8],
+        buffer: &[u8],
+        [length, column]: [usize; 2],
+        values: &[u8],
+        text: &[u8],
+    ) -> Told {
+        let judge = self.judge.set;
+        let lent = Lent {
+            inputs: list_inputs(schema, values, text),
+            outputs: [(Role::Output, buffer)],
+            numbers: [length, column],
+        };
+        let port = |[s, v, t]: [Part; 3], [b]: [Part; 1]| unsafe {
+            let answer = port::rook_row_set(
+                s.pointer, s.length, b.pointer, b.length, length, column, v.pointer, v.length,
+                t.pointer, t.length,
+            );
+            told!(answer, length)
+        };
+        self.run(Call::Set, lent, port, |[buffer]| {
+            judge(schema, buffer, length, column, values, text)
+        })
+    }
+
+    pub(super) fn set_null(
+        &mut self,
+        schema: &[u8],
+        buffer: &[u8],
+        [length, column]: [usize; 2],
+    ) -> Told {
+        let judge = self.judge.set_null;
+        let lent = Lent {
+            inputs: [(Role::Schema, schema)],
+            outputs: [(Role::Output, buffer)],
+            numbers: [length, column],
+        };
+        let port = |[s]: [Part; 1], [b]: [Part; 1]| unsafe {
+            let answer =
+                port::rook_row_set_null(s.pointer, s.length, b.pointer, b.length, length, column);
+            told!(answer, length)
+        };
+        self.run(Call::SetNull, lent, port, |[buffer]| {
+            judge(schema, buffer, length, column)
+        })
+    }
+
+    pub(super) fn handle_set(
+        &mut self,
+        schema: &[u8],
+        buffer: &[u8],
+        before: &Handle,
+        column: usize,
+        values: &[u8],
+        text: &[u8],
+    ) -> Told {
+        let judge = self.judge.set;
+        let length = handle::length(before);
+        let lent = Lent {
+            inputs: list_inputs(schema, values, text),
+            outputs: [(Role::Output, buffer), (Role::Handle, before)],
+            numbers: [length, column],
+        };
+        let port = |[s, v, t]: [Part; 3], [b, h]: [Part; 2]| unsafe {
+            let answer = port::rook_row_handle_set(
+                h.pointer, s.pointer, s.length, b.pointer, b.length, column, v.pointer, v.length,
+                t.pointer, t.length,
+            );
+            told!(answer, length)
+        };
+        self.run(Call::HandleSet, lent, port, |[buffer, handle]| {
+            let told = judge(schema, buffer, length, column, values, text);
+            handle.copy_from_slice(&handle::after(told, schema, buffer, before));
+            told
+        })
+    }
+
+    pub(super) fn handle_set_null(
+        &mut self,
+        schema: &[u8],
+        buffer: &[u8],
+        before: &Handle,
+        column: usize,
+    ) -> Told {
+        let judge = self.judge.set_null;
+        let length = handle::length(before);
+        let lent = Lent {
+            inputs: [(Role::Schema, schema)],
+            outputs: [(Role::Output, buffer), (Role::Handle, before)],
+            numbers: [length, column],
+        };
+        let port = |[s]: [Part; 1], [b, h]: [Part; 2]| unsafe {
+            let answer = port::rook_row_handle_set_null(
+                h.pointer, s.pointer, s.length, b.pointer, b.length, column,
+            );
+            told!(answer, length)
+        };
+        self.run(Call::HandleSetNull, lent, port, |[buffer, handle]| {
+            let told = judge(schema, buffer, length, column);
+            handle.copy_from_slice(&handle::after(told, schema, buffer, before));
+            told
+        })
+    }
+
+    pub(super) fn text(&mut self, schema: &[u8], row: &[u8], column: usize) -> Told {
+        let judge = self.judge.text;
+        let lent = Lent {
+            inputs: [(Role::Schema, schema), (Role::Row, row)],
+            outputs: [],
+            numbers: [column, 0],
+        };
+        let port = |[s, r]: [Part; 2], []: [Part; 0]| unsafe {
+            let answer = port::rook_row_text(s.pointer, s.length, r.pointer, r.length, column);
+            told!(answer, start, length)
+        };
+        self.run(Call::Text, lent, port, |[]| judge(schema, row, column))
+    }
+
+    pub(super) fn same_content(&mut self, schema: &[u8], a: &[u8], b: &[u8]) -> Told {
+        let judge = self.judge.same_content;
+        let lent = Lent {
+            inputs: [(Role::Schema, schema), (Role::Row, a), (Role::OtherRow, b)],
+            outputs: [],
+            numbers: [0, 0],
+        };
+        let port = |[s, a, b]: [Part; 3], []: [Part; 0]| unsafe {
+            let answer = port::rook_row_same_content(
+                s.pointer, s.length, a.pointer, a.length, b.pointer, b.length,
+            );
+            told!(answer, flag)
+        };
+        self.run(Call::SameContent, lent, port, |[]| judge(schema, a, b))
+    }
+
+    pub(super) fn is_null(&mut self, row: &[u8], column: usize) -> Told {
+        let judge = self.judge.is_null;
+        let lent = Lent {
+            inputs: [(Role::Row, row)],
+            outputs: [],
+            numbers: [column, 0],
+        };
+        let port = |[r]: [Part; 1], []: [Part; 0]| unsafe {
+            let answer = port::rook_row_is_null(r.pointer, r.length, column);
+            told!(answer, flag)
+        };
+        self.run(Call::IsNull, lent, port, |[]| judge(row, column))
+    }
+
+    pub(super) fn text_valid(&mut self, text: &[u8]) -> Told {
+        let judge = self.judge.text_valid;
+        let flag = |flag: usize| Told {
+            number: 0,
+            place: 0,
+            handed: [flag, 0],
+        };
+        let lent = Lent {
+            inputs: [(Role::Text, text)],
+            outputs: [],
+            numbers: [0, 0],
+        };
+        let port = |[t]: [Part; 1], []: [Part; 0]| unsafe {
+            flag(port::rook_text_valid(t.pointer, t.length) as usize)
+        };
+        self.run(Call::TextValid, lent, port, |[]| flag(judge(text).into()))
+    }
+}
+
+/// A schema, and a value list with its text area.
+fn list_inputs<'a>(schema: &'a [u8], values: &'a [u8], text: &'a [u8]) -> [Given<'a>; 3] {
+    [
+        (Role::Schema, schema),
+        (Role::Values, values),
+        (Role::Text, text),
+    ]
+}
