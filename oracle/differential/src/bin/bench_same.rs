@@ -3,6 +3,7 @@
 //! against both rows decoded by a `RowDecoder` built once, and their values
 //! compared. In one run on the same rows; ours are the raw calls.
 
+use cases::column::of_rust_types;
 use cases::rust;
 use cases::schema::write_schema;
 use differential::bench::{least, possessions, tables, time};
@@ -15,7 +16,7 @@ use std::hint::black_box;
 type Pair = (Vec<u8>, Vec<u8>, usize);
 
 fn bench_same(types: &[DataType], pairs: &[Pair]) -> [f64; 2] {
-    let schema = write_schema(types);
+    let schema = write_schema(&of_rust_types(types));
     let decoder = RowDecoder::new(types);
     let by_rust = |a: &[u8], b: &[u8]| decoder.decode(a).ok() == decoder.decode(b).ok();
     for (a, b, _) in pairs {
