@@ -23,7 +23,7 @@ demo: target/staticlib/librook_row.a
 # The library, its headers and its pkg-config file: make install PREFIX=/usr/local DESTDIR=
 PREFIX = /usr/local
 DESTDIR =
-VERSION = 0.2.0
+VERSION := $(shell sed -n 's/^.define ROOK_ROW_VERSION "\(.*\)"/\1/p' include/rook_row.h)
 folder = $(DESTDIR)$(abspath $(PREFIX))
 install: target/staticlib/librook_row.a
 	install -d $(folder)/lib/pkgconfig $(folder)/include

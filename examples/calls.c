@@ -92,5 +92,10 @@ int main(void) {
 
     printf("%-28s%u\n", "text: an umlaut", rook_text_valid(bytes("Z\xC3\xBCrich"), 7));
     printf("%-28s%u\n", "text: an umlaut, cut", rook_text_valid(bytes("Z\xC3\xBCrich"), 2));
+
+    uint32_t version = rook_row_version();
+    printf("%-28s%u.%u.%u\n", "version of the library", version >> 16, version >> 8 & 255, version & 255);
+    printf("%-28s%s\n", "version of the header", ROOK_ROW_VERSION);
+    printf("%-28s%s\n", "the same series", rook_row_0_2() >> 8 == ROOK_ROW_VERSION_NUMBER >> 8 ? "yes" : "no");
     return 0;
 }

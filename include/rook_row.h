@@ -58,10 +58,14 @@
 extern "C" {
 #endif
 
-/* The version of this interface. */
+/* The version of this interface: of this header. The first two numbers are its series, within which no call changes its
+ * form. The last line is the version as rook_row_version answers it for the library. */
 #define ROOK_ROW_VERSION_MAJOR 0
 #define ROOK_ROW_VERSION_MINOR 2
+#define ROOK_ROW_VERSION_PATCH 0
 #define ROOK_ROW_VERSION "0.2.0"
+#define ROOK_ROW_VERSION_NUMBER \
+    ((uint32_t)ROOK_ROW_VERSION_MAJOR << 16 | ROOK_ROW_VERSION_MINOR << 8 | ROOK_ROW_VERSION_PATCH)
 
 /* The most columns of a schema, the most bytes of a row and of a text area, and bytes that a value record always fits. */
 enum { ROOK_MAX_COLUMNS = 256, ROOK_MAX_ROW = 65535, ROOK_MAX_TEXT = 65535, ROOK_MAX_RECORD = 18 };
@@ -260,6 +264,16 @@ rook_flag_answer rook_row_is_null(const uint8_t *row, size_t row_length, size_t 
  * Gets any bytes; writes nothing, refuses nothing.
  * Answers with 1 for text, else 0. */
 uint32_t rook_text_valid(const uint8_t *text, size_t text_length);
+
+/* The version of the library.
+ * Gets nothing, writes nothing, refuses nothing.
+ * Answers with a byte for each of its numbers: 0x000200 for 0.2.0. The library goes with this header if it is of the
+ * same series: rook_row_version() >> 8 == ROOK_ROW_VERSION_NUMBER >> 8. */
+uint32_t rook_row_version(void);
+
+/* As rook_row_version. A library of another series does not have this function, so that a program which calls it, or
+ * only refers to it, does not link with one. */
+uint32_t rook_row_0_2(void);
 
 #ifdef __cplusplus
 }

@@ -83,3 +83,18 @@ pub use value::Value;
 
 /// The greatest length of a row, and of the texts of one value list.
 pub const MAX_LENGTH: usize = 65_535;
+
+/// The version of this crate.
+pub const VERSION: &str = env!("CARGO_PKG_VERSION");
+
+/// The version of the library that was linked: major, minor, patch. The first two are those of the crate, since
+/// `build.rs` refuses another library.
+///
+/// ```
+/// let (major, minor, _) = rook_row::library_version();
+/// assert!(rook_row::VERSION.starts_with(&format!("{major}.{minor}.")));
+/// ```
+pub fn library_version() -> (u8, u8, u8) {
+    let [patch, minor, major, _] = raw::version().to_le_bytes();
+    (major, minor, patch)
+}

@@ -177,6 +177,7 @@ extern "C" {
     ) -> FlagAnswer;
     fn rook_row_is_null(row: *const u8, row_length: usize, column: usize) -> FlagAnswer;
     fn rook_text_valid(text: *const u8, text_length: usize) -> u32;
+    fn rook_row_version() -> u32;
 }
 
 /// What the call handed out, if it was done.
@@ -378,4 +379,10 @@ pub fn is_null(row: &[u8], column: usize) -> Result<bool, Refusal> {
 pub fn text_valid(text: &[u8]) -> bool {
     // SAFETY: as in `fresh`; the call writes nothing.
     unsafe { rook_text_valid(text.as_ptr(), text.len()) == 1 }
+}
+
+/// The library's version, with a byte for each of its numbers: `0x000200` for 0.2.0.
+pub fn version() -> u32 {
+    // SAFETY: the call gets nothing.
+    unsafe { rook_row_version() }
 }

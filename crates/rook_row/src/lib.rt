@@ -16,6 +16,7 @@ ghost use Rattle.row_same.specs.Rows.{sameCall};
 ghost use Rattle.row_text.specs.Text.{textCall};
 ghost use Rattle.text.specs.Rfc3629.{isText};
 ghost use Rattle.rook_row.specs.Answers.{rowAnswer, rowOutcome, handleOutcome, flagAnswer, textAnswer};
+ghost use Rattle.rook_row.specs.Version.{version};
 
 #[repr(C)]
 pub struct RowAnswer {
@@ -259,4 +260,20 @@ pub extern "C" fn rook_text_valid(s: &[u8]) -> u32
     ensures { λ r. ⌜ r ≡ bitValue (isText (now (s .entry))) ⌝ }
 {
     text::is_valid(s) as u32
+}
+
+// The version of this interface, 0.2.0, with a byte for each of its numbers.
+#[no_mangle]
+pub extern "C" fn rook_row_version() -> u32
+    ensures { λ r. ⌜ r ≡ version ⌝ }
+{
+    0x000200
+}
+
+// The same, by a name that says the series: what is made for another one does not link.
+#[no_mangle]
+pub extern "C" fn rook_row_0_2() -> u32
+    ensures { λ r. ⌜ r ≡ version ⌝ }
+{
+    rook_row_version()
 }
