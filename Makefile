@@ -1,4 +1,4 @@
-.PHONY: help test demo install uninstall bench differential attack clean
+.PHONY: help test demo install uninstall dist bench differential attack clean
 
 # What there is.
 help:
@@ -6,6 +6,7 @@ help:
 	@echo 'make test          the gate: all proofs, all programs, the comparison with the Rust'
 	@echo 'make install       the library, its headers and its pkg-config file: PREFIX=/usr/local DESTDIR='
 	@echo 'make uninstall     take these away again'
+	@echo 'make dist          a tar file for machines without the kit; after make test, or with VERDICT=none'
 	@echo 'make bench         the time of each call, against the Rust'
 	@echo 'make differential  the comparison with the Rust: SECONDS=300 SEED=1'
 	@echo 'make attack        the library as shipped against the model: CALLS=10000000 SEED=1'
@@ -33,6 +34,11 @@ install: target/staticlib/librook_row.a
 uninstall:
 	rm -f $(folder)/lib/librook_row.a $(folder)/include/rook_row.h $(folder)/include/rook_list.h \
 	    $(folder)/lib/pkgconfig/rook_row.pc
+
+# What a machine without the kit needs, in a tar file. It goes by the verdict of the gate; VERDICT=none packs without it.
+VERDICT = target/verdict
+dist: target/staticlib/librook_row.a
+	@tools/dist '$(VERSION)' '$(VERDICT)'
 
 # Time of each call, against the Rust.
 bench: target/staticlib/librook_row.a target/staticlib/librook_probe.a
