@@ -2,6 +2,7 @@
 use crate::data_type::padded;
 use crate::ParseError;
 use alloc::borrow::Cow;
+use alloc::boxed::Box;
 use alloc::string::String;
 use alloc::vec;
 use core::cmp::Ordering;
@@ -21,64 +22,80 @@ use core::str::FromStr;
 /// # Ok::<(), rook_row::ParseError>(())
 /// ```
 #[derive(Clone)]
-pub struct Bits<'a> {
-    bytes: Cow<'a, [u8]>,
-    count: u16,
+pub struct Bits<'a>(Held<'a>);
+
+// With the count in its cases it takes 24 bytes, so that a `Value` of 32 has room for a tag of its own, which is told
+// faster than one that hides in a length.
+#[derive(Clone)]
+enum Held<'a> {
+    Borrowed(u16, &'a [u8]),
+    Owned(u16, Box<[u8]>),
 }
 
 impl<'a> Bits<'a> {
     /// The first `count` bits of these bytes; none if the bytes are not as many as that many bits fill.
+    #[inline]
     pub fn new(bytes: impl Into<Cow<'a, [u8]>>, count: u16) -> Option<Bits<'a>> {
         let bytes = bytes.into();
-        (bytes.len() == usize::from(count).div_ceil(8)).then_some(Bits { bytes, count })
+        if bytes.len() != usize::from(count).div_ceil(8) {
+            return None;
+        }
+        Some(Bits(match bytes {
+            Cow::Borrowed(bytes) => Held::Borrowed(count, bytes),
+            Cow::Owned(bytes) => Held::Owned(count, bytes.into()),
+        }))
     }
 
     /// The bytes in which the bits stand.
+    #[inline]
     pub fn as_bytes(&self) -> &[u8] {
-        &self.bytes
+        match &self.0 {
+            Held::Borrowed(_, bytes) => bytes,
+            Held::Owned(_, bytes) => bytes,
+        }
     }
 
     /// The number of bits.
+    #[inline]
     pub fn len(&self) -> u16 {
-        self.count
+        match self.0 {
+            Held::Borrowed(count, _) | Held::Owned(count, _) => count,
+        }
     }
 
     /// Whether there is no bit.
     pub fn is_empty(&self) -> bool {
-        self.count == 0
+        self.len() == 0
     }
 
     /// A bit by its place from 0; none behind the last.
     pub fn get(&self, at: u16) -> Option<bool> {
-        let byte = self.bytes.get(usize::from(at / 8))?;
-        (at < self.count).then_some(byte >> (7 - at % 8) & 1 == 1)
+        let byte = self.as_bytes().get(usize::from(at / 8))?;
+        (at < self.len()).then_some(byte >> (7 - at % 8) & 1 == 1)
     }
 
     /// The bits, from the first on.
     pub fn iter(&self) -> impl Iterator<Item = bool> + '_ {
-        (0..self.count).filter_map(|at| self.get(at))
+        (0..self.len()).filter_map(|at| self.get(at))
     }
 
     /// The same bits with bytes of their own.
     pub fn into_owned(self) -> Bits<'static> {
-        Bits {
-            bytes: Cow::Owned(self.bytes.into_owned()),
-            count: self.count,
-        }
+        Bits(match self.0 {
+            Held::Borrowed(count, bytes) => Held::Owned(count, bytes.into()),
+            Held::Owned(count, bytes) => Held::Owned(count, bytes),
+        })
     }
 
     /// The same bits, borrowed.
     pub fn borrowed(&self) -> Bits<'_> {
-        Bits {
-            bytes: Cow::Borrowed(&self.bytes),
-            count: self.count,
-        }
+        Bits(Held::Borrowed(self.len(), self.as_bytes()))
     }
 }
 
 impl PartialEq for Bits<'_> {
     fn eq(&self, other: &Bits<'_>) -> bool {
-        self.count == other.count && self.iter().eq(other.iter())
+        self.len() == other.len() && self.iter().eq(other.iter())
     }
 }
 
@@ -87,7 +104,7 @@ impl Eq for Bits<'_> {}
 /// Bit strings of one length have an order, from the first bit on.
 impl PartialOrd for Bits<'_> {
     fn partial_cmp(&self, other: &Bits<'_>) -> Option<Ordering> {
-        (self.count == other.count).then(|| self.iter().cmp(other.iter()))
+        (self.len() == other.len()).then(|| self.iter().cmp(other.iter()))
     }
 }
 
@@ -118,9 +135,6 @@ impl FromStr for Bits<'static> {
                 _ => return Err(error()),
             }
         }
-        Ok(Bits {
-            bytes: Cow::Owned(bytes),
-            count,
-        })
+        Ok(Bits(Held::Owned(count, bytes.into())))
     }
 }

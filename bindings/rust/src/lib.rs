@@ -32,7 +32,8 @@
 //!
 //! [`RowRef`] borrows its bytes, [`RowBuf`] owns them, as `str` and `String` do; [`RowMut`] edits a row in lent
 //! memory. For many rows of one schema there are [`Reader`], [`Builder`] and [`Editor`], which keep their memory.
-//! [`raw`] has the calls themselves: slices in, numbers out.
+//! [`raw`] has the calls themselves: slices in, numbers out. The library keeps no state, so all of these may be used by
+//! any number of threads, a reader, builder or editor by one at a time.
 //!
 //! The crate needs no more than `alloc`. Its features: `chrono` (chrono's dates and times as values), `serde` (types,
 //! schemas and values), and `std`, which is on if nothing is said.

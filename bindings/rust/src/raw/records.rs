@@ -141,16 +141,11 @@ impl<'a> Records<'_, 'a> {
         let step = *self.steps.get(cursor.rank)?;
         let at = cursor.at + usize::from(step.skipped);
         cursor.rank += 1;
-        Some(decode(
-            self.list,
-            at,
-            step.bits,
-            self.row,
-            |value, length| {
-                cursor.at = at + length;
-                then(value)
-            },
-        ))
+        let list = self.list.get(at..).unwrap_or_default();
+        Some(decode(list, step.bits, self.row, |value, length| {
+            cursor.at = at + length;
+            then(value)
+        }))
     }
 
     /// All values from the cursor on, in turn.
@@ -161,12 +156,14 @@ impl<'a> Records<'_, 'a> {
         first: B,
         mut each: impl FnMut(B, Value<'a>) -> B,
     ) -> B {
-        let mut at = cursor.at;
+        let mut list = self.list.get(cursor.at..).unwrap_or_default();
         let mut result = first;
         for step in self.steps.get(cursor.rank..).unwrap_or_default() {
-            at += usize::from(step.skipped);
-            result = decode(self.list, at, step.bits, self.row, |value, length| {
-                at += length;
+            if step.skipped != 0 {
+                list = list.get(usize::from(step.skipped)..).unwrap_or_default();
+            }
+            result = decode(list, step.bits, self.row, |value, length| {
+                list = list.get(length..).unwrap_or_default();
                 each(result, value)
             });
         }
@@ -220,13 +217,8 @@ pub(crate) fn read_one<'a>(
     let number = u16::try_from(column).unwrap_or(u16::MAX);
     super::read(schema.as_bytes(), row, &[number], &mut list)?;
     let bits = schema.data_type(column).map_or(0, bits_of);
-    Ok(decode(
-        &list,
-        column.min(schema.len()),
-        bits,
-        row,
-        |value, _| value,
-    ))
+    let list = list.get(column..).unwrap_or_default();
+    Ok(decode(list, bits, row, |value, _| value))
 }
 
 /// The text of a column, or none for a null.
@@ -260,17 +252,16 @@ fn length_of(kind: u8) -> usize {
         .map_or(BEYOND, |&length| usize::from(length))
 }
 
-/// What `then` makes of the value of the record that begins at `at`, and of the record's length. It is handed each
-/// kind of value in an arm of its own, so that the compiler knows there which one it is.
+/// What `then` makes of the value of a list's first record, and of the record's length. It is handed each kind of value
+/// in an arm of its own, so that the compiler knows there which one it is.
 #[inline(always)]
 fn decode<'a, R>(
     list: &[u8],
-    at: usize,
     bits: u16,
     row: &'a [u8],
     then: impl FnOnce(Value<'a>, usize) -> R,
 ) -> R {
-    let Some(record) = list.get(at..).and_then(|rest| rest.first_chunk::<RECORD>()) else {
+    let Some(record) = list.first_chunk::<RECORD>() else {
         return then(Value::Unknown { kind: 255 }, BEYOND);
     };
     let int = || i32::from_le_bytes(body(record));
