@@ -23,7 +23,7 @@ use Rattle.value_list.specs.Lists.{Values, valuesOf, checked}
 use Rattle.value_list.proofs.Lists.{checked-taken, values-sized}
 use Rattle.value_list.specs.InnerLists.{AllSized}
 use Rattle.stored_form.specs.Write.{accepted, storedForm}
-use Rattle.row_build.specs.Stored.{storedIn}
+use Rattle.record_slot.specs.Stored.{storedIn}
 use Rattle.row_build.specs.Build.{rowPlaced}
 use Rattle.row_column.specs.declared.Frame.{Frame}
 use Rattle.row_column.specs.declared.Frame.the-variants as Frame

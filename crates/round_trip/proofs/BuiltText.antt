@@ -19,9 +19,9 @@ use Rattle.row_column.specs.Frame.{onFrame}
 use Rattle.row_column.specs.Column.{columnValue}
 use Rattle.row_text.specs.declared.ColumnText.the-variants.{Part, Refused}
 use Rattle.row_text.specs.Text.{holdsText, textRead, textCall, textPart}
-use Rattle.row_build.specs.Stored.{isNull}
+use Rattle.record_slot.specs.Stored.{isNull}
 use Rattle.row_build.specs.Built.{Built}
-use Rattle.row_build.proofs.Tests.{CellIs, null, stored}
+use Rattle.record_slot.proofs.Tests.{CellIs, null, stored}
 use Rattle.row_build.proofs.Cells.{cell-at}
 use Rattle.round_trip.specs.ReadBack.{row, givenValue, givenBack, givenForm, ReadsBack}
 use Rattle.round_trip.specs.Text.{TextBack, BuiltTextBack}

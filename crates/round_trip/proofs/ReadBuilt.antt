@@ -48,9 +48,10 @@ use Rattle.row_column.specs.declared.ColumnRead.the-variants.{Value}
 use Rattle.row_column.specs.Frame.{columnCount, varlenField, frameOf}
 use Rattle.row_column.specs.Column.{slotValue, readBytes, varlenValue, columnValue}
 use Rattle.row_decode.specs.Read.{wantedValue, onColumn, readFrom}
-use Rattle.row_build.specs.Stored.{isNull, cellsFrom}
+use Rattle.record_slot.specs.Stored.{isNull}
+use Rattle.row_build.specs.Cells.{cellsFrom}
 use Rattle.round_trip.specs.ReadBack.{valueBack, valuesBack}
-use Rattle.row_build.proofs.Tests.{CellIs, null, stored, length-slot}
+use Rattle.record_slot.proofs.Tests.{CellIs, null, stored, length-slot}
 use Rattle.row_build.proofs.Walk.{valueAt}
 use Rattle.row_build.proofs.Cells.{cell-at, cells-fit}
 

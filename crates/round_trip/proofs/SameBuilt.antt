@@ -31,7 +31,7 @@ use Rattle.row_decode.specs.Read.{readFrom}
 use Rattle.row_same.specs.Rows.{allColumns, sameValues, sameCall}
 use Rattle.row_build.specs.InnerSteps.{valuesGiven}
 use Rattle.row_build.specs.Built.{Built}
-use Rattle.row_build.proofs.Tests.{CellIs, null, stored}
+use Rattle.record_slot.proofs.Tests.{CellIs, null, stored}
 use Rattle.row_build.proofs.Cells.{cell-at}
 use Rattle.row_build.proofs.Built.{built}
 use Rattle.round_trip.specs.ReadBack.{valuesBack, row, givenValue, givenText, givenBack, ReadsBack}

@@ -23,7 +23,7 @@ use Rattle.row_column.specs.declared.ColumnRead.the-variants.{Value}
 use Rattle.row_column.specs.Frame.{frameOf}
 use Rattle.row_column.specs.Column.{columnValue}
 use Rattle.row_decode.specs.Read.{isWanted, readCall}
-use Rattle.row_build.specs.Stored.{isNull}
+use Rattle.record_slot.specs.Stored.{isNull}
 use Rattle.row_build.specs.Built.{Built}
 
 -- where the stored form of column i stands in a packed row r of columns ts, with offsets of w bytes: at a Varchar's

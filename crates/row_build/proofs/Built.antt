@@ -25,7 +25,7 @@ use Rattle.datatype.specs.Check.{columnsOf}
 use Rattle.value.specs.declared.DataValue.{DataValue}
 use Rattle.value_list.specs.Lists.{Values, checked}
 use Rattle.value_list.proofs.Lists.{checked-taken}
-use Rattle.row_build.specs.Stored.{cellsFrom}
+use Rattle.row_build.specs.Cells.{cellsFrom}
 use Rattle.row_build.specs.Build.{rowPlaced, buildValues, buildRow}
 use Rattle.row_build.specs.Built.{Built, DoneIsBuilt, EqualRows}
 use Rattle.row_build.proofs.Cells.{cells-fit}

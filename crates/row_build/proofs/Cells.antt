@@ -17,9 +17,10 @@ use Rattle.datatype.specs.declared.DataType.{DataType}
 use Rattle.datatype.specs.Types.{sizeOf, alignmentOf, isVarlen, shapeOf}
 use Rattle.datatype.specs.Check.{typeAt}
 use Rattle.value.specs.declared.DataValue.{DataValue}
-use Rattle.row_build.specs.Stored.{cellIn, onCell, cellsFrom}
+use Rattle.record_slot.specs.Stored.{cellIn}
+use Rattle.row_build.specs.Cells.{onCell, cellsFrom}
 use Rattle.row_build.specs.InnerSteps.{cellsGiven}
-use Rattle.row_build.proofs.Tests.{IsGood, CellIs, null, stored, cell-is, length-slot}
+use Rattle.record_slot.proofs.Tests.{IsGood, CellIs, null, stored, cell-is, length-slot}
 use Rattle.row_build.proofs.Walk.{valueAt}
 
 -- ---- the first cell, and those after it

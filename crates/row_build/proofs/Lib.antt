@@ -1,11 +1,9 @@
 pub mod Nulls
-pub mod Tests
 pub mod Walk
-pub mod Held
-pub mod Forms
 pub mod Bits
 pub mod Measuring
 pub mod Cells
+pub mod Columns
 pub mod Writing
 pub mod Placing
 pub mod Listing

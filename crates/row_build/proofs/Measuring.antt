@@ -20,9 +20,11 @@ use Rattle.datatype.specs.declared.DataType.{DataType}
 use Rattle.datatype.specs.Types.{sizeOf, alignmentOf, isVarlen, shapeOf}
 use Rattle.datatype.specs.Check.{typesIn}
 use Rattle.datatype.proofs.Again.{columns-all}
-use Rattle.row_build.specs.declared.Given.{Given}
-use Rattle.row_build.specs.Stored.{cellIn, onCell, cellsFrom}
-use Rattle.row_build.specs.InnerSteps.{valuesIn, Buildable, ReadAt, payloadAdded, payloadAnswer, Short, measured}
+use Rattle.record_slot.specs.declared.Given.{Given}
+use Rattle.record_slot.specs.Stored.{cellIn}
+use Rattle.row_build.specs.Cells.{onCell, cellsFrom}
+use Rattle.record_slot.specs.InnerSteps.{ReadAt, payloadAdded, payloadAnswer, Short}
+use Rattle.row_build.specs.InnerSteps.{valuesIn, Buildable, measured}
 use Rattle.row_build.proofs.Walk.{Together, together-start, types-split, values-split, together-next}
 
 -- ---- a column more

@@ -25,7 +25,7 @@ use Rattle.row_layout.specs.InnerLayout.{minimumOf}
 use Rattle.datatype.specs.declared.DataType.{DataType}
 use Rattle.datatype.specs.Types.{shapeOf}
 use Rattle.datatype.specs.Check.{typesIn}
-use Rattle.row_build.specs.Stored.{cellsFrom}
+use Rattle.row_build.specs.Cells.{cellsFrom}
 use Rattle.row_build.specs.Build.{rowPlaced, buildValues}
 use Rattle.row_build.specs.InnerSteps.{nullRow, valuesIn, Buildable, measured, cellsGiven, cellsIn, rowGiven, Fillable}
 use Rattle.row_build.proofs.Nulls.{length-null-row, accepted-nulls}

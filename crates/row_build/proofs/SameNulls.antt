@@ -20,7 +20,7 @@ use Rattle.value.specs.declared.DataValue.the-variants.{Null}
 use Rattle.value_list.specs.Lists.{Values, checked, listOf}
 use Rattle.value_list.proofs.Lists.{list-checked}
 use Rattle.value_list.specs.InnerLists.{AllSized}
-use Rattle.row_build.specs.Stored.{cellsFrom}
+use Rattle.row_build.specs.Cells.{cellsFrom}
 use Rattle.row_build.specs.Build.{rowPlaced, buildValues, buildRow, freshRow}
 use Rattle.row_build.specs.Built.{FreshIsBuilt}
 use Rattle.row_build.proofs.Schemas.{schema-minimum}

@@ -22,8 +22,9 @@ use Rattle.value_list.specs.declared.ValueRecord.{ValueRecord}
 use Rattle.value_list.specs.declared.ValueRecord.the-variants as Value
 use Rattle.value_list.specs.Lists.{records as valueRecords, valuesOf}
 use Rattle.value_list.proofs.Lists.{First as FirstValue, records-first}
-use Rattle.row_build.specs.declared.Given.{Given}
-use Rattle.row_build.specs.InnerSteps.{valuesIn, Buildable, Readable, ReadAt, valueIn}
+use Rattle.record_slot.specs.declared.Given.{Given}
+use Rattle.record_slot.specs.InnerSteps.{Readable, ReadAt, valueIn}
+use Rattle.row_build.specs.InnerSteps.{valuesIn, Buildable}
 
 -- value i of a list
 abbrev pub valueAt : List DataValue → ℕ → DataValue

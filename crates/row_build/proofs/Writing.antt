@@ -31,11 +31,12 @@ use Rattle.datatype.proofs.Again.{columns-all, before-next, grown}
 use Rattle.datatype.specs.InnerCheck.{layoutBefore}
 use Rattle.value.specs.Ranges.{textOf}
 use Rattle.stored_form.specs.Write.{storedForm}
-use Rattle.row_build.specs.declared.Given.{Given}
-use Rattle.row_build.specs.Stored.{isNull}
+use Rattle.record_slot.specs.declared.Given.{Given}
+use Rattle.record_slot.specs.Stored.{isNull}
 use Rattle.row_build.specs.Build.{freshRow}
-use Rattle.row_build.specs.InnerSteps.{valuesIn, ReadAt, fixedStored, varlenStored, columnStored, Storable, cellsIn, rowGiven, Fillable}
-use Rattle.row_build.proofs.Tests.{CellIs, null, stored}
+use Rattle.record_slot.specs.InnerSteps.{ReadAt}
+use Rattle.row_build.specs.InnerSteps.{valuesIn, fixedStored, varlenStored, columnStored, Storable, cellsIn, rowGiven, Fillable}
+use Rattle.record_slot.proofs.Tests.{CellIs, null, stored}
 use Rattle.row_build.proofs.Walk.{Together, together-start, type-given, value-given, digits-given, together-next}
 use Rattle.row_build.proofs.Cells.{cell-at, cells-fit}
 

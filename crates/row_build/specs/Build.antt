@@ -5,7 +5,6 @@ use mathlib.Core.List.{List, map}
 use mathlib.Core.Option.{none}
 use lib.Dec.{ltb}
 use lib.ListN.{length, replicate}
-use Rattle.error.specs.declared.Refusal.{Refusal}
 use Rattle.error.specs.declared.Refusal.the-variants.{RowLimit}
 use Rattle.error.specs.Answer.{Outcome, unchanged, placed}
 use Rattle.error.specs.Result.{onResult}
@@ -14,8 +13,8 @@ use Rattle.datatype.specs.declared.DataType.{DataType}
 use Rattle.datatype.specs.Types.{shapeOf}
 use Rattle.datatype.specs.Schema.{schemaOf}
 use Rattle.value.specs.declared.DataValue.{DataValue}
-use Rattle.value_list.specs.Lists.{Values, checked}
-use Rattle.row_build.specs.Stored.{cellsFrom}
+use Rattle.value_list.specs.Lists.{checked}
+use Rattle.row_build.specs.Cells.{cellsFrom}
 
 -- 13: "row would pass 65,535 bytes", which is `limit`
 abbrev pub rowPlaced : ℕ → List ℕ → List ℕ → Outcome

@@ -14,7 +14,7 @@ use Rattle.datatype.specs.Types.{shapeOf}
 use Rattle.datatype.specs.Schema.{schemaOf}
 use Rattle.value.specs.declared.DataValue.{DataValue}
 use Rattle.value_list.specs.Lists.{checked}
-use Rattle.row_build.specs.Stored.{cellsFrom}
+use Rattle.row_build.specs.Cells.{cellsFrom}
 use Rattle.row_build.specs.Build.{buildCall, freshCall}
 
 -- a build from schema, list and text area into `out`, that answered Done n and left `after` in the output

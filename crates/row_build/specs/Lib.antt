@@ -1,4 +1,4 @@
-pub mod Stored
+pub mod Cells
 pub mod Build
 pub mod InnerSteps
 pub mod Built

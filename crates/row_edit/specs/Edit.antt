@@ -20,7 +20,7 @@ use Rattle.datatype.specs.Check.{typeAt}
 use Rattle.value.specs.declared.DataValue.{DataValue}
 use Rattle.value.specs.declared.DataValue.the-variants.{Null}
 use Rattle.value_list.specs.Lists.{checked}
-use Rattle.row_build.specs.Stored.{storedIn}
+use Rattle.record_slot.specs.Stored.{storedIn}
 use Rattle.row_build.specs.Build.{rowPlaced}
 use Rattle.row_column.specs.declared.Frame.{Frame}
 use Rattle.row_column.specs.declared.Frame.the-variants.{Good, Refused}

@@ -22,7 +22,7 @@ ghost use Rattle.datatype.specs.InnerCheck.{Accepted};
 ghost use Rattle.value_list.specs.Lists.{checked};
 ghost use Rattle.value_list.specs.declared.ListCheck.the-variants.{Good};
 ghost use Rattle.value_list.specs.InnerLists.{answer};
-ghost use Rattle.row_build.specs.Stored.{storedIn};
+ghost use Rattle.record_slot.specs.Stored.{storedIn};
 ghost use Rattle.row_build.specs.Build.{rowPlaced};
 ghost use Rattle.error.specs.Answer.{unchanged};
 ghost use Rattle.row_column.specs.Frame.{onFrame};

@@ -3,7 +3,7 @@ use Rattle.row_layout.specs.InnerLayout.{minimumOf}
 use Rattle.row_build.proofs.build_values.Statement.{statement}
 use Rattle.row_build.proofs.build_values.Tie as tie
 use Rattle.row_build.proofs.Placing.{build-refused}
-use Rattle.row_build.specs.Stored.{cellsFrom}
+use Rattle.row_build.specs.Cells.{cellsFrom}
 use Rattle.row_build.specs.InnerSteps.{valuesIn}
 use Rattle.datatype.specs.Check.{typesIn}
 use denote.Ref.{now}

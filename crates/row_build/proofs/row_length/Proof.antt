@@ -1,12 +1,12 @@
 use Rattle.row_build.proofs.row_length.Statement.{statement}
 use Rattle.row_build.proofs.Measuring.{Measuring, measure-start, measure-end, measure-bad, measure-more, left, measure-room}
 use Rattle.row_build.proofs.Walk.{readable}
-use Rattle.row_build.proofs.Held.{read-at}
+use Rattle.record_slot.proofs.Held.{read-at}
 use Prim.Native.Nat.{_-_}
 use borrow.Author.Needs.{needs}
 use Rattle.row_build.proofs.row_length.Tie as tie
-use Rattle.row_build.proofs.after_column.Reads as after-column-reads
-use Rattle.row_build.proofs.payload_at.Reads as payload-at-reads
+use Rattle.record_slot.proofs.after_column.Reads as after-column-reads
+use Rattle.record_slot.proofs.payload_at.Reads as payload-at-reads
 use Rattle.row_layout.proofs.RowLayout.min_row_size.Reads as min-row-size-reads
 use Rattle.value_list.proofs.body_length.Reads as body-length-reads
 

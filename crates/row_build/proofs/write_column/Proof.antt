@@ -1,7 +1,8 @@
 use borrow.Author.Needs.{needs}
 use Rattle.row_build.proofs.write_column.Statement.{statement}
-use Rattle.row_build.proofs.Held.{body-within}
-use Rattle.row_build.proofs.Forms.{is-null, is-value, slot-ready, slot-stored, payload-ready, varchar-stored}
+use Rattle.record_slot.proofs.Held.{body-within}
+use Rattle.row_build.proofs.Columns.{slot-ready, slot-stored, payload-ready, varchar-stored}
+use Rattle.record_slot.proofs.Forms.{is-null, is-value}
 use native.Mathlib.Omega.{arith}
 use denote.Ref.{now}
 use Rattle.row_build.proofs.write_column.Tie as tie

@@ -2,15 +2,15 @@ use Rattle.row_build.proofs.write_columns.Statement.{statement}
 use Rattle.row_build.proofs.Writing.{Writing, write-start, write-size, write-end, write-more, write-room, write-places}
 use Rattle.row_build.proofs.Measuring.{left}
 use Rattle.row_build.proofs.Walk.{readable}
-use Rattle.row_build.proofs.Held.{read-at}
-use Rattle.row_build.proofs.Forms.{entry-bytes}
+use Rattle.record_slot.proofs.Held.{read-at}
+use Rattle.record_slot.proofs.Forms.{entry-bytes}
 use Prim.Native.Nat.{_-_}
 use borrow.Author.Needs.{needs}
 use Rattle.row_build.proofs.write_columns.Tie as tie
-use Rattle.row_build.proofs.after_column.Reads as after-column-reads
-use Rattle.row_build.proofs.entry_size.Reads as entry-size-reads
+use Rattle.record_slot.proofs.after_column.Reads as after-column-reads
+use Rattle.record_slot.proofs.entry_size.Reads as entry-size-reads
 use Rattle.value.proofs.held_kind.Reads as held-kind-reads
-use Rattle.row_build.proofs.slot_size.Reads as slot-size-reads
+use Rattle.record_slot.proofs.slot_size.Reads as slot-size-reads
 use Rattle.row_build.proofs.write_column.Reads as write-column-reads
 use Rattle.row_layout.proofs.RowLayout.fixed_data_start.Reads as fixed-data-start-reads
 use Rattle.row_layout.proofs.RowLayout.min_row_size.Reads as min-row-size-reads

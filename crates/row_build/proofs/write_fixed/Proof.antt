@@ -2,7 +2,7 @@ use borrow.Author.Needs.{needs}
 use Rattle.row_build.proofs.write_fixed.Statement.{statement}
 use Rattle.row_build.proofs.write_fixed.Tie as tie
 use Rattle.row_build.proofs.clear_bit.Reads as clear-bit-reads
-use Rattle.row_build.proofs.write_slot.Reads as write-slot-reads
+use Rattle.record_slot.proofs.write_slot.Reads as write-slot-reads
 
 write-slot-requires : tie.Need-write-slot-requires
 write-slot-requires c κs = search needs

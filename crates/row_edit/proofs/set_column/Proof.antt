@@ -6,7 +6,7 @@ use mathlib.Core.Path.{sym, ap, _∙_}
 use Rattle.row_format.specs.Places.{offsetWidth, rowLimit}
 use Rattle.datatype.specs.declared.DataType.{DataType}
 use Rattle.datatype.specs.Check.{typesIn}
-use Rattle.row_build.specs.Stored.{storedIn}
+use Rattle.record_slot.specs.Stored.{storedIn}
 use Rattle.row_edit.specs.Edit.{written}
 use Rattle.row_edit.proofs.Opening.{kind-bad, suit-bad, suit-good}
 

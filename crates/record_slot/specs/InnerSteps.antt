@@ -1,0 +1,131 @@
+-- For the proofs: a column's record and a value's, by their bytes.
+use Prim.Native.Nat.{ℕ, _+_, _-_, _≤_, _<_}
+use mathlib.Core.Bool.{Bool, true, false, cond}
+use mathlib.Core.List.{List, [], _∷_, _++_}
+use mathlib.Core.Path.{_≡_}
+use lib.Dec.{eqb, leb, ltb}
+use lib.ListN.{length, getD, replicate}
+use mir.Syntax.{w16, w32, w64}
+use mir.Val.{toZ, ofZ}
+use Rattle.error.specs.declared.Refusal.{Refusal}
+use Rattle.error.specs.declared.Answer.{Answer}
+use Rattle.error.specs.declared.Answer.the-variants as Answer
+use Rattle.error.specs.Result.{Result, ok, refused}
+use Rattle.laws.specs.Bytes.{toLe}
+use Rattle.row_format.specs.Places.{rowLimit}
+use Rattle.row_format.specs.Table.{Cell, bytes}
+use Rattle.datatype.specs.declared.DataType.{DataType}
+use Rattle.datatype.specs.declared.Record.the-variants as Column
+use Rattle.datatype.specs.Types.{sizeOf, isVarlen, precisionOf}
+use Rattle.datatype.specs.Schema.{columnKind, columnRecordAt}
+use Rattle.datatype.specs.InnerSteps.{plainSize, typeIn}
+use Rattle.temporal.specs.Ranges.{isDate, isTime, isTimestamp}
+use Rattle.value.specs.declared.TextRange.{TextRange}
+use Rattle.value.specs.declared.DataValue.{DataValue}
+use Rattle.value.specs.declared.DataValue.the-variants.{Null}
+use Rattle.value.specs.Kinds.{matches}
+use Rattle.value.specs.Ranges.{inArea, part, textOf}
+use Rattle.value_list.specs.declared.ValueRecord.{ValueRecord}
+use Rattle.value_list.specs.declared.ValueRecord.the-variants as Value
+use Rattle.value_list.specs.Records.{bodyLength, numberAt, rangeAt, recordAt as valueRecordAt}
+use Rattle.stored_form.specs.Write.{fitsText, accepted as holds, storedForm}
+use Rattle.record_slot.specs.declared.Given.{Given}
+use Rattle.record_slot.specs.Stored.{cellIn}
+
+-- ---- the records
+
+-- two places at which there are records
+pub record Readable (s : List ℕ) (at : ℕ) (list : List ℕ) (from : ℕ) : Type 0 where
+  pub column : at < length s
+  pub type-there : {e : Refusal} → columnRecordAt s at ≡ Column.Refused e → ⊥
+  pub value : from < length list
+  pub value-there : {e : Refusal} → valueRecordAt list from ≡ Value.Refused e → ⊥
+
+pub record ReadAt (s : List ℕ) (at : ℕ) (list : List ℕ) (from : ℕ) (g : Given) : Type 0 where
+  pub type-is : columnRecordAt s at ≡ Column.Column (g .ty) (g .«next_type»)
+  pub value-is : valueRecordAt list from ≡ Value.Value (g .value) (g .«next_value»)
+
+-- ---- the same by the bytes of the records
+
+-- the value that a record says
+abbrev pub valueIn : ValueRecord → DataValue
+valueIn (Value.Value v next) = v
+valueIn (Value.Refused e) = Null
+
+-- the place after a column's record: one byte of kind, and two more where the kind has no size of its own
+abbrev pub afterColumn : List ℕ → ℕ → ℕ
+afterColumn s at = cond (eqb (plainSize (columnKind (getD s at 0))) 0) (at + 3) (at + 1)
+
+-- the records at two places, where there are any
+abbrev pub givenAt : List ℕ → ℕ → List ℕ → ℕ → Given
+givenAt s at list from = record { ty = typeIn (columnRecordAt s at); value = valueIn (valueRecordAt list from); «next_type» = afterColumn s at; «next_value» = from + 1 + bodyLength (getD list from 0) }
+
+abbrev pub declaredAt : List ℕ → ℕ → ℕ
+declaredAt s at = cond (ltb (length s) (at + 3)) 0 (numberAt 2 s (at + 1))
+
+abbrev pub textSuits : ℕ → TextRange → List ℕ → Bool
+textSuits n r area = cond (inArea (length area) r) (fitsText n (part area r)) false
+
+-- whether a value of kind k, whose body stands at a place of the list, suits the types of that kind; false for Numeric and Bit
+abbrev pub suitsAt : ℕ → ℕ → List ℕ → ℕ → List ℕ → Bool
+suitsAt k n list at area =
+    cond (eqb k 6) false
+    (cond (eqb k 7) (leb (getD list at 0) 1)
+    (cond (eqb k 8) (textSuits n (rangeAt list at) area)
+    (cond (eqb k 9) (textSuits n (rangeAt list at) area)
+    (cond (eqb k 10) (isDate (toZ w32 (numberAt 4 list at)))
+    (cond (eqb k 11) (isTime (toZ w64 (numberAt 8 list at)))
+    (cond (eqb k 12) false
+    (cond (eqb k 13) (isTimestamp (toZ w64 (numberAt 8 list at)))
+    true)))))))
+
+abbrev pub payloadLength : ℕ → List ℕ → ℕ → ℕ
+payloadLength k list at = cond (eqb k 9) (numberAt 2 list (at + 2)) 0
+
+-- ---- what a column adds to the row's length
+
+-- the payload that a column's cell adds
+abbrev pub payloadAdded : DataType → Cell → ℕ
+payloadAdded t c = cond (isVarlen t) (length (bytes c)) 0
+
+abbrev pub payloadAnswer : DataType → Result Cell → Answer
+payloadAnswer t (ok c) = Answer.Done (payloadAdded t c)
+payloadAnswer t (refused e) = Answer.Refused e
+
+abbrev pub payloadIn : ℕ → List ℕ → ℕ → List ℕ → ℕ → List ℕ → Answer
+payloadIn i s at list from area = payloadAnswer (typeIn (columnRecordAt s at)) (cellIn i (typeIn (columnRecordAt s at)) (valueIn (valueRecordAt list from)) area)
+
+abbrev pub Short : Answer → Type 0
+Short (Answer.Done n) = n ≤ rowLimit
+Short (Answer.Refused e) = Unit {0}
+
+-- ---- the stored form
+
+-- the stored form of the value at a place
+abbrev pub formIn : List ℕ → ℕ → List ℕ → ℕ → List ℕ → List ℕ
+formIn s at list from area = storedForm (typeIn (columnRecordAt s at)) (valueIn (valueRecordAt list from)) (textOf area (valueIn (valueRecordAt list from)))
+
+-- that of a value of kind k whose body stands at a place: other kinds than Numeric, Char, Varchar and Bit
+abbrev pub bodyStored : ℕ → List ℕ → ℕ → List ℕ
+bodyStored k list at =
+    cond (eqb k 1) (toLe 2 (ofZ w16 (toZ w16 (numberAt 2 list at))))
+    (cond (eqb k 2) (toLe 4 (ofZ w32 (toZ w32 (numberAt 4 list at))))
+    (cond (eqb k 3) (toLe 8 (ofZ w64 (toZ w64 (numberAt 8 list at))))
+    (cond (eqb k 4) (toLe 4 (numberAt 4 list at))
+    (cond (eqb k 5) (toLe 8 (numberAt 8 list at))
+    (cond (eqb k 7) (getD list at 0 ∷ [])
+    (cond (eqb k 10) (toLe 4 (ofZ w32 (toZ w32 (numberAt 4 list at))))
+    (cond (eqb k 11) (toLe 8 (ofZ w64 (toZ w64 (numberAt 8 list at))))
+    (cond (eqb k 13) (toLe 8 (ofZ w64 (toZ w64 (numberAt 8 list at))))
+    []))))))))
+
+abbrev pub blankFilled : ℕ → List ℕ → List ℕ
+blankFilled n x = x ++ replicate (n - length x) 0x20
+
+-- a value that is stored in a slot, of n bytes
+pub record SlotReady (t : DataType) (v : DataValue) (area : List ℕ) (slot n : ℕ) : Type 0 where
+  pub fixed : isVarlen t ≡ false
+  pub digits : precisionOf t ≤ 38
+  pub match : matches t v ≡ true
+  pub suited : holds t v area ≡ true
+  pub room : slot + sizeOf t ≤ n

@@ -1,0 +1,56 @@
+-- One column written: its slot, or its payload with its offset.
+use Prim.Native.Nat.{ℕ, _+_}
+use mathlib.Core.Path.{_≡_, ap, _∙_}
+use mathlib.Core.Bool.{true, false}
+use mathlib.Core.List.{List}
+use lib.ListN.{length, getD}
+use Rattle.datatype.specs.declared.DataType.{DataType}
+use Rattle.datatype.specs.Types.{isVarlen}
+use Rattle.datatype.specs.Schema.{columnRecordAt}
+use Rattle.datatype.specs.InnerSteps.{typeIn}
+use Rattle.value.specs.declared.TextRange.{TextRange}
+use Rattle.value.specs.declared.DataValue.{DataValue}
+use Rattle.value.specs.Ranges.{part}
+use Rattle.value_list.specs.Records.{rangeAt, recordAt as valueRecordAt}
+use Rattle.stored_form.proofs.Lengths.{accepted-inside}
+use Rattle.record_slot.specs.Stored.{isNull}
+use Rattle.record_slot.specs.InnerSteps.{Readable, valueIn, formIn, SlotReady}
+use Rattle.record_slot.proofs.Tests.{length-payload}
+use Rattle.record_slot.proofs.Forms.{is-fixed, is-varlen, range-is, varchar-form}
+use Rattle.row_build.specs.InnerSteps.{varlenStored, fixedStored, columnStored, PayloadReady, Storable}
+
+module _ {s : List ℕ} {at : ℕ} {list : List ℕ} {from : ℕ} (r : Readable s at list from) where
+  abbrev t : DataType
+  t = typeIn (columnRecordAt s at)
+
+  abbrev v : DataValue
+  v = valueIn (valueRecordAt list from)
+
+  module _ {columns i slot entry : ℕ} {area : List ℕ} {end n : ℕ} (p : Storable columns i slot entry t v area end n) where
+    pub slot-ready : (getD list from 0 ≡ 9 → ⊥) → SlotReady t v area slot n
+    slot-ready k =
+        let f = is-fixed r (p .match) k in
+        record { fixed = f; digits = p .digits; match = p .match; suited = p .suited; room = p .slot-in f }
+
+    pub slot-stored : (getD list from 0 ≡ 9 → ⊥) → (out out' : List ℕ) → isNull v ≡ false → out' ≡ fixedStored i slot (formIn s at list from area) out → (end, out') ≡ columnStored i slot entry t v (formIn s at list from area) end out
+    slot-stored k out out' z g = rw (z, is-fixed r (p .match) k, g)
+
+    module _ (e : getD list from 0 ≡ 9) where
+      abbrev vl : isVarlen t ≡ true
+      vl = is-varlen r (p .match) e
+
+      form-length : length (formIn s at list from area) ≡ rangeAt list (from + 1) .length
+      form-length = length-payload t v area (p .match) (p .suited) vl ∙ ap (λ (q : TextRange). q .length) (range-is r (p .match) e)
+
+      pub payload-ready : PayloadReady (rangeAt list (from + 1)) area entry end n
+      payload-ready =
+          record {
+            inside = rw (range-is r (p .match) e) at (accepted-inside t v area (p .suited));
+            entry-in = p .entry-in vl;
+            room = rw form-length at (p .payload vl);
+            small = rw (vl, form-length) at (p .end-fits);
+          }
+
+      pub varchar-stored : (res : ℕ) (out out' : List ℕ) → isNull v ≡ false → res ≡ end + rangeAt list (from + 1) .length → out' ≡ varlenStored i entry (part area (rangeAt list (from + 1))) end out
+          → (res, out') ≡ columnStored i slot entry t v (formIn s at list from area) end out
+      varchar-stored res out out' z f g = rw (z, vl, form-length) (rw (f, g, varchar-form r (p .match) e area))
