@@ -1,14 +1,10 @@
 -- Decimal digits: one more of them, and the number that they denote.
-use Prim.Native.Nat.{ℕ, zero, suc, _+_, _*_, _-_, _/_, _%_, _^_, _≤_, _<_}
+use Prim.Native.Nat.{ℕ, zero, suc, _+_, _*_, _/_, _%_, _^_, _≤_, _<_}
 use mathlib.Core.Path.{_≡_, refl, sym, ap, _∙_}
-use mathlib.Core.List.{List, _∷_, _++_}
-use native.Mathlib.Nat.{zero-add, suc-add, add-comm, zero-div, div-eq-of-lt, pow-suc, one-le-pow, div-div-eq-div-mul, mul-comm}
+use native.Mathlib.Nat.{add-mul, mul-assoc, mul-comm, pow-suc, one-le-pow, mod-lt, mod-eq-of-lt, div-eq-of-lt, div-add-mod', div-lt-iff-lt-mul, mul-add-div-right, mul-add-mod-self-right}
 use native.Mathlib.Omega.{arith}
 use lib.Arith.{mod-mul}
-use lib.ListN.{length, set, take, drop, replicate, length-set, drop-of-length-le, take-append-drop}
-use lib.Pow.{pow-add}
-use lib.Seq.{drop-cons, getD-set-same, drop-set-lt, take-set-le, take-take}
-use Rattle.laws.proofs.Truths.{cases}
+use lib.ListN.{length}
 use Rattle.numeric.specs.Decimal.{halves, digits, denote}
 
 -- two halves of which the upper is 0
@@ -37,9 +33,48 @@ module _ (high low x : ℕ) where
   pub same-high-le : high ≡ x / 2 ^ 64 → x % 2 ^ 64 ≤ low → x ≤ halves high low
   same-high-le e h = omega arith
 
--- the division by ten of the code
-pub divided : (n q r : ℕ) → n ≡ q * 10 + r → r < 10 → (q ≡ n / 10) × (r ≡ n % 10)
-divided n q r e h = omega arith
+-- ---- a division in two steps of 32 bits
+
+by-parts : (n d q r : ℕ) → n ≡ q * d + r → r < d → (q ≡ n / d) × (r ≡ n % d)
+by-parts n d q r e h =
+    let pos : 0 < d = omega arith in
+    (sym (rw (e, mul-add-div-right pos q r, div-eq-of-lt h) (omega arith)), sym (rw (e, mul-add-mod-self-right q d r) (mod-eq-of-lt h)))
+
+swapped : (x k d : ℕ) → x * k * d ≡ x * d * k
+swapped x k d = mul-assoc x k d ∙ ap (λ (z : ℕ). x * z) (mul-comm k d) ∙ sym (mul-assoc x d k)
+
+joined : (u v w m e r high low : ℕ) → u + m ≡ high → v + e ≡ m * 0x100000000 + low / 0x100000000 → w + r ≡ e * 0x100000000 + low % 0x100000000
+    → halves high low ≡ u * 2 ^ 64 + (v * 0x100000000 + w) + r
+joined u v w m e r high low p q s = omega arith
+
+module _ (high low d : ℕ) (pos : 1 ≤ d) where
+  abbrev pub upper : ℕ
+  upper = high % d * 0x100000000 + low / 0x100000000
+
+  abbrev pub lower : ℕ
+  lower = upper % d * 0x100000000 + low % 0x100000000
+
+  whole : halves high low ≡ halves (high / d) (upper / d * 0x100000000 + lower / d) * d + lower % d
+  whole =
+      rw (add-mul (high / d * 2 ^ 64) (upper / d * 0x100000000 + lower / d) d, add-mul (upper / d * 0x100000000) (lower / d) d, swapped (high / d) (2 ^ 64) d, swapped (upper / d) 0x100000000 d)
+      (joined (high / d * d) (upper / d * d) (lower / d * d) (high % d) (upper % d) (lower % d) high low (div-add-mod' high d) (div-add-mod' upper d) (div-add-mod' lower d))
+
+  pub halves-divided : (halves (high / d) (upper / d * 0x100000000 + lower / d) ≡ halves high low / d) × (lower % d ≡ halves high low % d)
+  halves-divided = by-parts _ d _ _ whole (mod-lt lower pos)
+
+  -- what the machine holds
+  shifted : (m l : ℕ) → m < d → l < 0x100000000 → m * 0x100000000 + l < d * 0x100000000
+  shifted m l h k = omega arith
+
+  pub upper-part : low < 2 ^ 64 → upper / d < 0x100000000
+  upper-part h =
+      div-lt-iff-lt-mul {k = d} {x = upper} {y = 0x100000000} pos .1
+      (rw (mul-comm 0x100000000 d) (shifted (high % d) (low / 0x100000000) (mod-lt high pos) (omega arith)))
+
+  pub lower-part : lower / d < 0x100000000
+  lower-part =
+      div-lt-iff-lt-mul {k = d} {x = lower} {y = 0x100000000} pos .1
+      (rw (mul-comm 0x100000000 d) (shifted (upper % d) (low % 0x100000000) (mod-lt upper pos) (omega arith)))
 
 pub length-digits : (n x : ℕ) → length (digits n x) ≡ n
 unfolding digits
@@ -52,81 +87,3 @@ unfolding digits
 denote-digits zero x = omega arith
 denote-digits (suc n) x =
     rw (length-digits n x, denote-digits n x, pow-suc 10 n, mul-comm (10 ^ n) 10) (sym (mod-mul x {m = 10} {c = 10 ^ n} (omega arith) (one-le-pow n 10 (omega arith))))
-
-take-replicate : (i n : ℕ) → i ≤ n → take i (replicate n 0) ≡ replicate {A = ℕ} i 0
-take-replicate zero n h = refl
-take-replicate (suc i) zero h = absurd (omega arith)
-take-replicate (suc i) (suc n) h = ap (λ (l : List ℕ). 0 ∷ l) (take-replicate i n (omega arith))
-
--- digits above the number's own are 0
-digits-zeros : (i m x : ℕ) → x / 10 ^ m ≡ 0 → digits (i + m) x ≡ replicate i 0 ++ digits m x
-unfolding digits
-digits-zeros zero m x h = rw zero-add
-digits-zeros (suc i) m x h =
-    let z : x / 10 ^ (i + m) ≡ 0 = rw (add-comm i m, pow-add 10 m i, ← div-div-eq-div-mul x (10 ^ m) (10 ^ i), h, zero-div) in
-    rw (suc-add, z, digits-zeros i m x h)
-
--- ---- the loop that takes the last digit off: n digits in all, those from i on are done
-
-pub record Taking (n x : ℕ) (d : List ℕ) (rest i : ℕ) : Type 0 where
-  pub few : i ≤ n
-  pub long : length d ≡ n
-  pub left : rest ≡ x / 10 ^ (n - i)
-  pub done : drop i d ≡ digits (n - i) x
-
-pub taking-start : (n x : ℕ) (d : List ℕ) → length d ≡ n → Taking n x d x n
-unfolding digits
-taking-start n x d h =
-    let z : n - n ≡ 0 = omega arith in
-    record { few = omega arith; long = h; left = rw z (omega arith); done = rw z (drop-of-length-le d {i = n} (omega arith)) }
-
-pub taking-more : {n x : ℕ} {d : List ℕ} {rest i : ℕ} (q r : ℕ) → Taking n x d rest i → 0 < i → q ≡ rest / 10 → r ≡ rest % 10 → Taking n x (set d (i - 1) r) q (i - 1)
-unfolding digits
-taking-more {n} {x} {d} {rest} {i} q r t h e f =
-    let j : ℕ = i - 1 in
-    let k : n - j ≡ suc (n - i) = omega (arith, t .few) in
-    let s : i ≡ suc j = omega arith in
-    let l : j < length d = omega (arith, t .few, t .long) in
-    record {
-      few = omega (arith, t .few);
-      long = simp length-set (t .long);
-      left = rw (e, k, t .left, div-div-eq-div-mul x (10 ^ (n - i)) 10, pow-suc 10 (n - i));
-      done = rw (drop-cons (set d j r) j 0 (rw length-set l), getD-set-same d j r 0 l, drop-set-lt (suc j) d j r (omega arith), ← s, t .done, k, f, t .left);
-    }
-
-pub taking-end : {n x : ℕ} {d : List ℕ} {rest i : ℕ} → Taking n x d rest i → i ≤ 0 → d ≡ digits n x
-taking-end {n} {x} {d} {rest} {i} t h =
-    let z : i ≡ 0 = omega arith in
-    let k : n - 0 ≡ n = omega arith in
-    rw k at (rw z at (t .done))
-
--- ---- the same, only as long as something is left: the digits before i are 0
-
-pub record Short (n x : ℕ) (d : List ℕ) (rest i : ℕ) : Type 0 where
-  pub taking : Taking n x d rest i
-  pub zeros : take i d ≡ replicate i 0
-
-module _ {n x : ℕ} {d : List ℕ} {rest i : ℕ} (t : Short n x d rest i) where
-  -- a number below 10 ^ n has a digit left only where there is room for it
-  pub short-room : x < 10 ^ n → 0 < rest → 0 < i
-  short-room h z =
-      cases i 1
-      (λ k.
-      let e : n - i ≡ n = omega arith in
-      let q : rest ≡ 0 = t .taking .left ∙ rw (e, div-eq-of-lt h) in
-      absurd (omega arith))
-      (λ k. k)
-
-  pub short-more : (q r : ℕ) → 0 < i → q ≡ rest / 10 → r ≡ rest % 10 → Short n x (set d (i - 1) r) q (i - 1)
-  short-more q r h e f =
-      let k : i - 1 ≤ i = omega arith in
-      record {
-        taking = taking-more q r (t .taking) h e f;
-        zeros = take-set-le (i - 1) d (i - 1) r (omega arith) ∙ sym (take-take (i - 1) i d k) ∙ ap (take (i - 1)) (t .zeros) ∙ take-replicate (i - 1) i k;
-      }
-
-  pub short-end : rest ≤ 0 → d ≡ digits n x
-  short-end h =
-      let z : x / 10 ^ (n - i) ≡ 0 = sym (t .taking .left) ∙ omega arith in
-      let e : i + (n - i) ≡ n = omega (arith, t .taking .few) in
-      sym (take-append-drop i d) ∙ rw (t .zeros, t .taking .done) (rw e at (sym (digits-zeros i (n - i) x z)))

@@ -2,71 +2,107 @@
 ghost use mathlib.Core.Path.{_≡_};
 ghost use Prim.Native.Nat.{_+_, _*_, _-_, _^_, _/_, _%_, _<_, _≤_};
 ghost use lib.Dec.{ltb};
-ghost use lib.ListN.{length, getD, take, drop};
+ghost use lib.ListN.{length, getD, take, drop, replicate};
 ghost use lib.Seq.{sets};
 ghost use Rattle.numeric.specs.Decimal.{halves, digits};
-ghost use Rattle.numeric.specs.Packed.{pairs, nibbles, frontSize, packedNibbles, encodeBcd, magnitudeOf, decodeBcd};
-ghost use Rattle.numeric.specs.InnerPacked.{AtMostNine};
+ghost use Rattle.numeric.specs.Packed.{pairs, nibbles, signNibble, encodeBcd, magnitudeOf, decodeBcd};
+ghost use Rattle.numeric.specs.InnerPacked.{twoDigits, hundreds, Fresh};
 
 pub struct Divided {
     pub high: u64,
     pub low: u64,
-    pub digit: u8,
+    pub rest: u64,
 }
 
-// A tenth of a number in two halves, and its last digit.
-fn tenth(high: u64, low: u64) -> Divided
-    ensures { λ r. ⌜ (halves (r .high) (r .low) ≡ halves high low / 10) × (r .digit ≡ halves high low % 10) ⌝ }
+// A number in two halves divided by d, by 64-bit divisions.
+fn divided_by(high: u64, low: u64, d: u64) -> Divided
+    requires { ⌜ (1 ≤ d) × (d ≤ 2 ^ 32) ⌝ }
+    ensures { λ r. ⌜ (halves (r .high) (r .low) ≡ halves high low / d) × (r .rest ≡ halves high low % d) ⌝ }
 {
-    let a = (high % 10) * 0x1_0000_0000 + low / 0x1_0000_0000;
-    let b = (a % 10) * 0x1_0000_0000 + low % 0x1_0000_0000;
+    let a = (high % d) * 0x1_0000_0000 + low / 0x1_0000_0000;
+    let b = (a % d) * 0x1_0000_0000 + low % 0x1_0000_0000;
     Divided {
-        high: high / 10,
-        low: (a / 10) * 0x1_0000_0000 + b / 10,
-        digit: (b % 10) as u8,
+        high: high / d,
+        low: (a / d) * 0x1_0000_0000 + b / d,
+        rest: b % d,
     }
 }
 
-// Of a number of one half, by 64-bit divisions alone.
-fn short_digits(low: u64) -> [u8; 38]
-    ensures { λ r. ⌜ r ≡ digits 38 low ⌝ }
+// A byte with two digits.
+fn two_digits(n: u64) -> u8
+    requires { ⌜ n < 100 ⌝ }
+    ensures { λ r. ⌜ r ≡ twoDigits n ⌝ }
 {
-    let mut d = [0u8; 38];
-    let mut l = low;
-    let mut i: usize = 38;
-    while 0 < l {
-        i -= 1;
-        d[i] = (l % 10) as u8;
-        l = l / 10;
-    }
-    d
+    (n / 10 * 16 + n % 10) as u8
 }
 
-fn long_digits(high: u64, low: u64) -> [u8; 38]
-    ensures { λ r. ⌜ r ≡ digits 38 (halves high low) ⌝ }
+// Four bytes with eight digits.
+fn put_eight(s: &mut [u8], at: usize, n: u64)
+    requires { ⌜ (n < 100000000) × (at + 4 ≤ length (now s)) ⌝ }
+    ensures { λ _. ⌜ now (s .exit) ≡ sets (now (s .entry)) at (hundreds 4 n) ⌝ }
 {
-    let mut d = [0u8; 38];
-    let mut h = high;
-    let mut l = low;
-    let mut i: usize = 38;
-    while 0 < i {
+    let a = n / 10000;
+    let b = n % 10000;
+    s[at] = two_digits(a / 100);
+    s[at + 1] = two_digits(a % 100);
+    s[at + 2] = two_digits(b / 100);
+    s[at + 3] = two_digits(b % 100);
+}
+
+// The digits of n, two a byte up to `end`, over zeros.
+fn put_pairs(s: &mut [u8], end: usize, n: u64)
+    requires { ⌜ Fresh (now s) end n ⌝ }
+    ensures { λ _. ⌜ now (s .exit) ≡ sets (now (s .entry)) 0 (hundreds end n) ⌝ }
+{
+    let mut rest = n;
+    let mut i = end;
+    while 0 < rest {
         i -= 1;
-        let t = tenth(h, l);
-        d[i] = t.digit;
+        s[i] = two_digits(rest % 100);
+        rest = rest / 100;
+    }
+}
+
+fn short_digits(s: &mut [u8], low: u64)
+    requires { ⌜ now s ≡ replicate 20 0 ⌝ }
+    ensures { λ _. ⌜ now (s .exit) ≡ pairs (digits 39 low) ⌝ }
+{
+    s[19] = (low % 10 * 16) as u8;
+    put_pairs(s, 19, low / 10);
+}
+
+// Eight digits a division, until one half is enough.
+fn long_digits(s: &mut [u8], high: u64, low: u64)
+    requires { ⌜ now s ≡ replicate 20 0 ⌝ }
+    ensures { λ _. ⌜ now (s .exit) ≡ pairs (digits 39 (halves high low)) ⌝ }
+{
+    let first = divided_by(high, low, 1_000_000_000);
+    s[19] = (first.rest % 10 * 16) as u8;
+    put_eight(s, 15, first.rest / 10);
+    let mut h = first.high;
+    let mut l = first.low;
+    let mut i: usize = 15;
+    while h != 0 {
+        let t = divided_by(h, l, 100_000_000);
+        i -= 4;
+        put_eight(s, i, t.rest);
         h = t.high;
         l = t.low;
     }
-    d
+    put_pairs(s, i, l);
 }
 
-// The low 38 decimal digits of a number in two halves, the highest first.
-pub fn digits_of(high: u64, low: u64) -> [u8; 38]
-    ensures { λ r. ⌜ r ≡ digits 38 (halves high low) ⌝ }
+// The decimal digits of a number in two halves, two a byte as the packed form has them: 39, and a zero where the sign goes.
+pub fn digits_of(high: u64, low: u64) -> [u8; 20]
+    ensures { λ r. ⌜ r ≡ pairs (digits 39 (halves high low)) ⌝ }
 {
+    let mut d = [0u8; 20];
     if high == 0 {
-        return short_digits(low);
+        short_digits(&mut d, low);
+    } else {
+        long_digits(&mut d, high, low);
     }
-    long_digits(high, low)
+    d
 }
 
 // The powers of ten from 0 to 38, in two halves.
@@ -183,41 +219,25 @@ pub fn has_digits(high: u64, low: u64, p: usize) -> bool
     low < power_low(p)
 }
 
-// Nibble k of the packed form of the last p digits of d.
-fn packed_nibble(d: [u8; 38], p: usize, negative: bool, k: usize) -> u8
-    requires { ⌜ AtMostNine d × ((p ≤ 38) × (k ≤ frontSize p + p)) ⌝ }
-    ensures { λ r. ⌜ (r ≡ getD (packedNibbles negative (drop (38 - p) d)) k 0) × (r < 16) ⌝ }
+fn sign_nibble(negative: bool) -> u8
+    ensures { λ r. ⌜ (r ≡ signNibble negative) × (r < 16) ⌝ }
 {
-    let front = (p + 1) % 2;
-    if k < front {
-        return 0;
-    }
-    let i = k - front;
-    if i < p {
-        return d[38 - p + i];
-    }
     if negative { 0xD } else { 0xC }
-}
-
-fn packed_byte(d: [u8; 38], p: usize, negative: bool, j: usize) -> u8
-    requires { ⌜ AtMostNine d × ((p ≤ 38) × (2 * j + 1 ≤ frontSize p + p)) ⌝ }
-    ensures { λ r. ⌜ r ≡ getD (pairs (packedNibbles negative (drop (38 - p) d))) j 0 ⌝ }
-{
-    packed_nibble(d, p, negative, 2 * j) * 16 + packed_nibble(d, p, negative, 2 * j + 1)
 }
 
 // The packed form of a number of at most p digits, at a place of a slice.
 pub fn encode_numeric_bcd(s: &mut [u8], at: usize, high: u64, low: u64, negative: bool, p: usize)
-    requires { ⌜ (p ≤ 38) × (at + (p + 2) / 2 ≤ length (now s)) ⌝ }
+    requires { ⌜ (p ≤ 38) × ((halves high low < 10 ^ p) × (at + (p + 2) / 2 ≤ length (now s))) ⌝ }
     ensures { λ _. ⌜ now (s .exit) ≡ sets (now (s .entry)) at (encodeBcd p negative (halves high low)) ⌝ }
 {
     let d = digits_of(high, low);
-    let size = (p + 2) / 2;
+    let last = p / 2;
     let mut j = 0;
-    while j < size {
-        s[at + j] = packed_byte(d, p, negative, j);
+    while j < last {
+        s[at + j] = d[19 - last + j];
         j += 1;
     }
+    s[at + last] = d[19] + sign_nibble(negative);
 }
 
 // The number that digits denote, in two halves.

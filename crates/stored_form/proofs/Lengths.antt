@@ -1,11 +1,11 @@
 -- How long stored forms are: as long as the slot, a Varchar's as its text.
-use Prim.Native.Nat.{ℕ, _+_, _-_, _≤_}
+use Prim.Native.Nat.{ℕ, _+_, _-_, _^_, _≤_, _<_}
 use mathlib.Core.Path.{_≡_, refl}
 use mathlib.Core.Bool.{true, cond}
 use mathlib.Core.List.{List, _++_}
 use native.Mathlib.Omega.{arith}
-use borrow.Author.Tests.{leb-true}
-use lib.Dec.{leb}
+use borrow.Author.Tests.{leb-true, ltb-true}
+use lib.Dec.{eqb, leb, ltb}
 use lib.ListN.{length, replicate, length-append, length-replicate}
 use Rattle.laws.proofs.Truths.{both}
 use Rattle.text.specs.Rfc3629.{isText}
@@ -13,13 +13,17 @@ use Rattle.bit_utils.specs.Bits.{bytesFor}
 use Rattle.bit_utils.proofs.Packing.{length-packed}
 use Rattle.numeric.proofs.Packing.{length-encode}
 use Rattle.datatype.specs.declared.DataType.{DataType}
-use Rattle.datatype.specs.Types.{sizeOf, isVarlen}
+use Rattle.datatype.specs.Types.{sizeOf, isVarlen, precisionOf, scaleOf}
 use Rattle.value.specs.declared.DataValue.{DataValue}
 use Rattle.value.specs.Kinds.{matches}
 use Rattle.value.specs.Ranges.{rangeOf, inArea, textOf}
 use Rattle.stored_form.specs.Number.{isNegative, magnitude}
-use Rattle.stored_form.specs.Write.{fitsText, suits, accepted, storedForm}
+use Rattle.stored_form.specs.Write.{fitsDigits, fitsText, suits, accepted, storedForm}
 use Rattle.stored_form.proofs.Matched.{Matched, smallint, int, bigint, real, double, numeric, decimal, bool, char, character, varchar, date, time, bit, timestamp, matched}
+
+-- a number whose digits fit
+pub fits-below : (t : DataType) (s m : ℕ) → fitsDigits t s m ≡ true → m < 10 ^ precisionOf t
+fits-below t s m e = ltb-true m (10 ^ precisionOf t) (both (eqb s (scaleOf t)) (ltb m (10 ^ precisionOf t)) e .1)
 
 -- a text that fits n bytes
 module _ (n : ℕ) (x : List ℕ) (e : fitsText n x ≡ true) where

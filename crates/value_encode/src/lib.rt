@@ -5,13 +5,14 @@ use value::NumericValue;
 ghost use mathlib.Core.Path.{_≡_};
 ghost use mathlib.Core.Bool.{true};
 ghost use mathlib.Core.List.{[], _∷_, _++_};
-ghost use Prim.Native.Nat.{_+_, _-_, _/_, _≤_};
+ghost use Prim.Native.Nat.{_+_, _-_, _^_, _/_, _<_, _≤_};
 ghost use lib.Dec.{leb};
 ghost use lib.ListN.{length, replicate};
 ghost use lib.Seq.{sets};
 ghost use Rattle.bit_utils.specs.Bits.{bytesFor, packBits, unpackBits};
 ghost use Rattle.numeric.specs.Decimal.{halves};
 ghost use Rattle.numeric.specs.Packed.{encodeBcd};
+ghost use Rattle.datatype.specs.declared.DataType.the-variants.{Numeric as NumericType};
 ghost use Rattle.datatype.specs.Types.{precisionOf};
 ghost use Rattle.value.specs.Ranges.{textOf};
 ghost use Rattle.stored_form.specs.Number.{isNegative, magnitude as sizeOfNumber};
@@ -43,15 +44,23 @@ fn magnitude(high: i64, low: u64) -> Halves
     }
 }
 
+// Whether a Numeric(p, s) holds a number of a scale.
+pub fn fits_number(high: i64, low: u64, scale: u8, p: usize, s: u8) -> bool
+    requires { ⌜ p ≤ 38 ⌝ }
+    ensures { λ r. ⌜ r ≡ fitsDigits (NumericType p s) scale (sizeOfNumber high low) ⌝ }
+{
+    if scale == s {
+        let m = magnitude(high, low);
+        return numeric::has_digits(m.high, m.low, p);
+    }
+    false
+}
+
 fn fits_digits(ty: DataType, n: NumericValue) -> bool
     requires { ⌜ precisionOf ty ≤ 38 ⌝ }
     ensures { λ r. ⌜ r ≡ fitsDigits ty (n .scale) (sizeOfNumber (n .high) (n .low)) ⌝ }
 {
-    if n.scale == ty.scale() {
-        let m = magnitude(n.high, n.low);
-        return numeric::has_digits(m.high, m.low, ty.precision() as usize);
-    }
-    false
+    fits_number(n.high, n.low, n.scale, ty.precision() as usize, ty.scale())
 }
 
 fn fits_text(text: &[u8], n: usize) -> bool
@@ -117,12 +126,13 @@ fn write_byte(out: &mut [u8], at: usize, b: u8)
     out[at] = b;
 }
 
-fn write_numeric(out: &mut [u8], at: usize, x: NumericValue, p: usize)
-    requires { ⌜ (p ≤ 38) × (at + (p + 2) / 2 ≤ length (now out)) ⌝ }
-    ensures { λ _. ⌜ now (out .exit) ≡ sets (now (out .entry)) at (encodeBcd p (isNegative (x .high)) (sizeOfNumber (x .high) (x .low))) ⌝ }
+// The packed form of a number of at most p digits.
+pub fn write_number(out: &mut [u8], at: usize, high: i64, low: u64, p: usize)
+    requires { ⌜ (p ≤ 38) × ((sizeOfNumber high low < 10 ^ p) × (at + (p + 2) / 2 ≤ length (now out))) ⌝ }
+    ensures { λ _. ⌜ now (out .exit) ≡ sets (now (out .entry)) at (encodeBcd p (isNegative high) (sizeOfNumber high low)) ⌝ }
 {
-    let m = magnitude(x.high, x.low);
-    let negative = x.high < 0;
+    let m = magnitude(high, low);
+    let negative = high < 0;
     numeric::encode_numeric_bcd(out, at, m.high, m.low, negative, p);
 }
 
@@ -137,7 +147,7 @@ pub fn write_char(out: &mut [u8], at: usize, text: &[u8], n: usize)
 }
 
 // n bits, and zeros in the rest of the last byte.
-fn write_bits(out: &mut [u8], at: usize, bits: &[u8], n: usize)
+pub fn write_bits(out: &mut [u8], at: usize, bits: &[u8], n: usize)
     requires { ⌜ (length (now bits) ≡ bytesFor n) × (at + bytesFor n ≤ length (now out)) ⌝ }
     ensures { λ _. ⌜ now (out .exit) ≡ sets (now (out .entry)) at (packBits n (unpackBits n (now (bits .entry)))) ⌝ }
 {
@@ -159,7 +169,7 @@ fn write_value(out: &mut [u8], at: usize, ty: DataType, value: DataValue, text: 
         DataValue::BigInt(x) => endian::write_i64(out, at, x),
         DataValue::Real(x) => endian::write_u32(out, at, x),
         DataValue::DoublePrecision(x) => endian::write_u64(out, at, x),
-        DataValue::Numeric(x) => write_numeric(out, at, x, p),
+        DataValue::Numeric(x) => write_number(out, at, x.high, x.low, p),
         DataValue::Bool(b) => write_byte(out, at, b),
         DataValue::Char(_) => write_char(out, at, text, n),
         DataValue::Varchar(_) => endian::copy(out, at, text),

@@ -1,45 +1,32 @@
-use Prim.Native.Nat.{_<_}
-use mathlib.Core.Path.{refl}
-use native.Mathlib.Omega.{arith}
-use lib.Dec.{lit<}
 use borrow.Author.Needs.{needs}
-use native.Mathlib.Nat.{lt-trans}
-use Rattle.numeric.proofs.Digits.{Short, taking-start, short-room, short-more, short-end}
 use Rattle.numeric.proofs.short_digits.Statement.{statement}
 use Rattle.numeric.proofs.short_digits.Tie as tie
+use mathlib.Core.Path.{_≡_, ap, _∙_}
+use native.Mathlib.Omega.{arith}
+use lib.ListN.{length}
+use Rattle.numeric.proofs.Packing.{half-room, fill-start}
+use Rattle.numeric.proofs.put_pairs.Reads as put-pairs-reads
 
-abbrev Inv-loop : tie.InvT-loop
-Inv-loop low d₀ l₀ i₀ d l i = Short 38 low d l i
+mul-s : tie.Need-mul-s
+mul-s c = search needs
 
-abbrev μ-loop : tie.MeasureT-loop
-μ-loop low d₀ l₀ i₀ d l i = l
+cast-s : tie.Need-cast-s
+cast-s c = search needs
 
--- a digit is left only where there is room for it
-room : (c : tie.In-loop Inv-loop μ-loop) → 0 < c .before .loop .i
-room c = short-room (c .before .loop .inv) (lt-trans (c .before .before .fits .low .fits) (lit< tt)) (c .loop-test .taken)
+slice-write-s : tie.Need-slice-write-s
+slice-write-s c = let e : length (c .before .args .s .now) ≡ 20 = ap length (c .before .pre) in omega arith
 
-loop-holds : tie.Need-loop-holds Inv-loop μ-loop
-loop-holds c = record { taking = taking-start 38 _ _ refl; zeros = refl }
+put-pairs-requires : tie.Need-put-pairs-requires
+put-pairs-requires c κs = rw (c .before .before .pre) (fill-start (c .before .before .args .low) (half-room (c .before .before .args .low) (c .before .before .fits .low .fits)) .fresh)
 
-sub-i : tie.Need-sub-i Inv-loop μ-loop
-sub-i c = room c
+same-length : tie.Need-same-length
+same-length c = search needs
 
-cast-d : tie.Need-cast-d Inv-loop μ-loop
-cast-d c = search needs
-
-array-write-d : tie.Need-array-write-d Inv-loop μ-loop
-array-write-d c = omega (arith, c .before .loop .inv .taking .few, room c)
-
-loop-less : tie.Need-loop-less Inv-loop μ-loop
-loop-less c = search needs
-
-loop-again : tie.Need-loop-again Inv-loop μ-loop
-loop-again c = short-more (c .before .loop .inv) _ _ (room c) refl refl
-
-returns : tie.Need-returns Inv-loop μ-loop
-returns c = short-end (c .before .loop .inv) (c .loop-test .left)
+returns : tie.Need-returns
+returns c =
+    let a = c .before .before .before .before .before in
+    c .before .before .put-pairs .ensures ∙ rw (a .pre) (fill-start (a .args .low) (half-room (a .args .low) (a .fits .low .fits)) .stored)
 
 pub short-digits-spec : {M : Type 1} → statement M
 short-digits-spec =
-    tie.close
-    (tie.spec Inv-loop μ-loop loop-holds sub-i cast-d array-write-d loop-less loop-again returns)
+    tie.close (tie.spec mul-s cast-s slice-write-s put-pairs-requires same-length returns)

@@ -1,10 +1,13 @@
-use Rattle.stored_form.proofs.Lengths.{fits-length, length-char}
+use Rattle.stored_form.proofs.Lengths.{fits-below, fits-length, length-char}
 use Rattle.bit_utils.proofs.Packing.{length-packed}
 use Rattle.numeric.proofs.Packing.{length-encode}
 use Rattle.signed.proofs.Casts.{handed}
 use Rattle.laws.specs.Bytes.{toLe}
 use borrow.Author.Tests.{eqb-true}
 use mir.Val.{ofZ}
+use mir.ValLaws.{toZ-ofZ}
+use Rattle.numeric.specs.Packed.{encodeBcd}
+use Rattle.stored_form.specs.Number.{isNegative, magnitude}
 use mir.Syntax.{w16, w32, w64}
 use lib.Seq.{sets}
 use lib.IntN.{ℤ}
@@ -61,10 +64,12 @@ write-u64-requires c κs = let h = rw (c .before .before .value5 .given .1) at (
 enum-known-value-6 : tie.Need-enum-known-value-6
 enum-known-value-6 c = search needs
 
-write-numeric-requires : tie.Need-write-numeric-requires
-write-numeric-requires c κs =
-    let h = rw (c .before .before .value6 .given .1, length-encode) at (c .before .before .before .before .before .before .before .before .pre .1 .1) in
-    rw (c .before .before .before .before .precision .ensures) (c .before .before .before .before .before .before .before .before .pre .0, h)
+write-number-requires : tie.Need-write-number-requires
+write-number-requires c κs =
+    let n = c .before .before .before .value6 .given .0 .0 in
+    let e = rw (c .before .before .before .value6 .given .1) at (c .before .before .before .before .before .before .before .before .before .pre .1 .0) in
+    let h = rw (c .before .before .before .value6 .given .1, length-encode) at (c .before .before .before .before .before .before .before .before .before .pre .1 .1) in
+    rw (toZ-ofZ w64 (n .high) (search needs), c .before .before .before .before .before .precision .ensures) (c .before .before .before .before .before .before .before .before .before .pre .0, (fits-below (c .before .before .before .before .before .before .before .before .before .args .ty) (n .scale) (magnitude (n .high) (n .low)) e, h))
 
 enum-known-value-7 : tie.Need-enum-known-value-7
 enum-known-value-7 c = search needs
@@ -162,7 +167,12 @@ same-length-6 : tie.Need-same-length-6
 same-length-6 c = search needs
 
 returns-7 : tie.Need-returns-7
-returns-7 c = rw (c .before .before .before .before .before .value6 .given .1, ← c .before .before .before .before .before .before .before .precision .ensures) (c .before .before .write-numeric .ensures)
+returns-7 c =
+    let a = c .before .before .before .before .before .before .before .before .before .before .before .before .args in
+    let n = c .before .before .before .before .before .before .value6 .given .0 .0 in
+    let p = c .before .before .before .before .before .before .before .before .precision in
+    rw (c .before .before .before .before .before .before .value6 .given .1, ← p .ensures)
+    (handed w64 (λ (z : ℤ). sets (now (a .out)) (a .at) (encodeBcd (p .result) (isNegative z) (magnitude z (n .low)))) (n .high) (search needs) (c .before .before .write-number .ensures))
 
 same-length-7 : tie.Need-same-length-7
 same-length-7 c = search needs
@@ -235,7 +245,7 @@ write-value-spec =
     enum-known-value-5
     write-u64-requires
     enum-known-value-6
-    write-numeric-requires
+    write-number-requires
     enum-known-value-7
     write-byte-requires
     enum-told-2
