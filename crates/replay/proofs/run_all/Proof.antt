@@ -10,36 +10,6 @@ Inv-loop buffer₀ tallies₀ turns₀ buffer tallies turns = length buffer ≡ 
 abbrev μ-loop : tie.MeasureT-loop
 μ-loop buffer₀ tallies₀ turns₀ buffer tallies turns = turns
 
-no-tally-requires : tie.Need-no-tally-requires Inv-loop μ-loop
-no-tally-requires c κs = search needs
-
-no-tally-requires-2 : tie.Need-no-tally-requires-2 Inv-loop μ-loop
-no-tally-requires-2 c κs = search needs
-
-no-tally-requires-3 : tie.Need-no-tally-requires-3 Inv-loop μ-loop
-no-tally-requires-3 c κs = search needs
-
-no-tally-requires-4 : tie.Need-no-tally-requires-4 Inv-loop μ-loop
-no-tally-requires-4 c κs = search needs
-
-no-tally-requires-5 : tie.Need-no-tally-requires-5 Inv-loop μ-loop
-no-tally-requires-5 c κs = search needs
-
-no-tally-requires-6 : tie.Need-no-tally-requires-6 Inv-loop μ-loop
-no-tally-requires-6 c κs = search needs
-
-no-tally-requires-7 : tie.Need-no-tally-requires-7 Inv-loop μ-loop
-no-tally-requires-7 c κs = search needs
-
-no-tally-requires-8 : tie.Need-no-tally-requires-8 Inv-loop μ-loop
-no-tally-requires-8 c κs = search needs
-
-no-tally-requires-9 : tie.Need-no-tally-requires-9 Inv-loop μ-loop
-no-tally-requires-9 c κs = search needs
-
-no-tally-requires-10 : tie.Need-no-tally-requires-10 Inv-loop μ-loop
-no-tally-requires-10 c κs = search needs
-
 loop-holds : tie.Need-loop-holds Inv-loop μ-loop
 loop-holds c = refl
 
@@ -73,16 +43,6 @@ run-all-spec =
     (tie.spec
     Inv-loop
     μ-loop
-    no-tally-requires
-    no-tally-requires-2
-    no-tally-requires-3
-    no-tally-requires-4
-    no-tally-requires-5
-    no-tally-requires-6
-    no-tally-requires-7
-    no-tally-requires-8
-    no-tally-requires-9
-    no-tally-requires-10
     loop-holds
     step-requires
     sub-turns

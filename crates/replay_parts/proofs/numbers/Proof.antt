@@ -2,8 +2,8 @@ use lib.ListN.{length}
 use mathlib.Core.Path.{_≡_, refl}
 use Prim.Native.Nat.{_≤_, _-_}
 use borrow.Author.Needs.{needs}
-use Rattle.replay.proofs.numbers.Statement.{statement}
-use Rattle.replay.proofs.numbers.Tie as tie
+use Rattle.replay_parts.proofs.numbers.Statement.{statement}
+use Rattle.replay_parts.proofs.numbers.Tie as tie
 
 abbrev Inv-loop : tie.InvT-loop
 Inv-loop field list₀ at₀ k₀ list at k = (at ≤ length field) × ((k ≤ at) × (length list ≡ length list₀))
