@@ -194,7 +194,7 @@ fn place_read(ty: DataType, bytes: &[u8], start: usize, out: &mut [u8]) -> Value
     }
     match value_decode::from_bytes(ty, bytes, start) {
         SlotRead::Value(v) => {
-            let length = value_list::write_value_record(out, 0, v);
+            let length = record_encode::write_value_record(out, 0, v);
             ValueProbe { number: 0, length }
         }
         SlotRead::NoValue => refused(8),

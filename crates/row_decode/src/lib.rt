@@ -51,7 +51,7 @@ fn write_column(buf: &mut [u8], end: usize, column: ColumnRead) -> Answer
     ensures { λ r. ⌜ (r, now (buf .exit)) ≡ stepped (now (buf .entry)) end column ⌝ }
 {
     match column {
-        ColumnRead::Value(v) => Answer::Done(value_list::write_value_record(buf, end, v)),
+        ColumnRead::Value(v) => Answer::Done(record_encode::write_value_record(buf, end, v)),
         ColumnRead::Refused(e) => Answer::Refused(e),
     }
 }
@@ -88,7 +88,7 @@ fn decode_varchar(
     ensures { λ r. ⌜ (r, now (buf .exit)) ≡ stepped (now (buf .entry)) end (varlenValue (VarcharType n) i (now (row .entry)) (varlenRange offsetWidth table varlens rank (now (row .entry)))) ⌝ }
 {
     match row_layout::varlen_range(row, table, varlens, rank) {
-        VarlenRange::Null => Answer::Done(value_list::write_null(buf, end)),
+        VarlenRange::Null => Answer::Done(record_encode::write_null(buf, end)),
         VarlenRange::Bytes(start, stop) => {
             slot_record::varchar_record(n, i, row, start, stop, buf, end)
         }
@@ -218,10 +218,10 @@ fn decode_column(
 {
     let i = before.num_columns;
     if marks[i] != 1 {
-        return Answer::Done(value_list::write_null(buf, end));
+        return Answer::Done(record_encode::write_null(buf, end));
     }
     if null_bitmap::column_bit_is_set(row, i) {
-        return Answer::Done(value_list::write_null(buf, end));
+        return Answer::Done(record_encode::write_null(buf, end));
     }
     decode_present(schema, at, layout, packed, before, row, buf, end)
 }

@@ -20,9 +20,9 @@ fn bool_record(bytes: &[u8], out: &mut [u8], at: usize) -> Answer
     ensures { λ r. ⌜ (r, now (out .exit)) ≡ recorded (now (out .entry)) at 0 (readSlot BoolType 0 (now (bytes .entry))) ⌝ }
 {
     if bytes[0] == 0 {
-        return Answer::Done(value_list::write_8(out, at, value_kinds::BOOL, 0));
+        return Answer::Done(record_encode::write_8(out, at, value_kinds::BOOL, 0));
     }
-    Answer::Done(value_list::write_8(out, at, value_kinds::BOOL, 1))
+    Answer::Done(record_encode::write_8(out, at, value_kinds::BOOL, 1))
 }
 
 fn date_record(i: usize, bytes: &[u8], out: &mut [u8], at: usize) -> Answer
@@ -31,7 +31,7 @@ fn date_record(i: usize, bytes: &[u8], out: &mut [u8], at: usize) -> Answer
 {
     let days = endian::read_i32(bytes, 0);
     if temporal::is_date(days) {
-        return Answer::Done(value_list::write_32(
+        return Answer::Done(record_encode::write_32(
             out,
             at,
             value_kinds::DATE,
@@ -46,7 +46,7 @@ fn time_record(i: usize, bytes: &[u8], out: &mut [u8], at: usize) -> Answer
     ensures { λ r. ⌜ (r, now (out .exit)) ≡ recorded (now (out .entry)) at i (readSlot TimeType 0 (now (bytes .entry))) ⌝ }
 {
     match temporal::time_of(endian::read_i64(bytes, 0)) {
-        TimeOfDay::Micros(micros) => Answer::Done(value_list::write_64(
+        TimeOfDay::Micros(micros) => Answer::Done(record_encode::write_64(
             out,
             at,
             value_kinds::TIME,
@@ -62,7 +62,7 @@ fn timestamp_record(i: usize, bytes: &[u8], out: &mut [u8], at: usize) -> Answer
 {
     let micros = endian::read_i64(bytes, 0);
     if temporal::is_timestamp(micros) {
-        return Answer::Done(value_list::write_64(
+        return Answer::Done(record_encode::write_64(
             out,
             at,
             value_kinds::TIMESTAMP,
@@ -78,31 +78,31 @@ pub fn plain_record(kind: u8, i: usize, bytes: &[u8], out: &mut [u8], at: usize)
     ensures { λ r. ⌜ ((start : ℕ) → (r, now (out .exit)) ≡ recorded (now (out .entry)) at i (readSlot (plainType (columnKind kind)) start (now (bytes .entry)))) ⌝ }
 {
     match kind {
-        schema_kinds::SMALL_INT => Answer::Done(value_list::write_16(
+        schema_kinds::SMALL_INT => Answer::Done(record_encode::write_16(
             out,
             at,
             value_kinds::SMALL_INT,
             endian::read_u16(bytes, 0),
         )),
-        schema_kinds::INT => Answer::Done(value_list::write_32(
+        schema_kinds::INT => Answer::Done(record_encode::write_32(
             out,
             at,
             value_kinds::INT,
             endian::read_u32(bytes, 0),
         )),
-        schema_kinds::BIG_INT => Answer::Done(value_list::write_64(
+        schema_kinds::BIG_INT => Answer::Done(record_encode::write_64(
             out,
             at,
             value_kinds::BIG_INT,
             endian::read_u64(bytes, 0),
         )),
-        schema_kinds::REAL => Answer::Done(value_list::write_32(
+        schema_kinds::REAL => Answer::Done(record_encode::write_32(
             out,
             at,
             value_kinds::REAL,
             endian::read_u32(bytes, 0),
         )),
-        schema_kinds::DOUBLE_PRECISION => Answer::Done(value_list::write_64(
+        schema_kinds::DOUBLE_PRECISION => Answer::Done(record_encode::write_64(
             out,
             at,
             value_kinds::DOUBLE_PRECISION,
@@ -129,7 +129,7 @@ pub fn char_record(
 {
     if text::is_valid(&row[start..end]) {
         let length = end - start;
-        return Answer::Done(value_list::write_range(
+        return Answer::Done(record_encode::write_range(
             out,
             at,
             value_kinds::CHAR,
@@ -157,7 +157,7 @@ pub fn varchar_record(
         return Answer::Refused(Refusal::NoValue(i));
     }
     if text::is_valid(&row[start..end]) {
-        return Answer::Done(value_list::write_range(
+        return Answer::Done(record_encode::write_range(
             out,
             at,
             value_kinds::VARCHAR,

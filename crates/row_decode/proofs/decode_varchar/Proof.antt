@@ -10,7 +10,7 @@ use Rattle.stored_form.specs.Read.{readSlot}
 use Rattle.row_decode.proofs.decode_varchar.Tie as tie
 use Rattle.row_layout.proofs.varlen_range.Reads as varlen-range-reads
 use Rattle.slot_record.proofs.varchar_record.Reads as varchar-record-reads
-use Rattle.value_list.proofs.write_null.Reads as write-null-reads
+use Rattle.record_encode.proofs.write_null.Reads as write-null-reads
 
 varlen-range-requires : tie.Need-varlen-range-requires
 varlen-range-requires c κs = search needs

@@ -2,7 +2,7 @@ use borrow.Author.Needs.{needs}
 use Rattle.slot_record.proofs.bool_record.Statement.{statement}
 use borrow.Author.Tests.{eq-eqb, ne-eqb}
 use Rattle.slot_record.proofs.bool_record.Tie as tie
-use Rattle.value_list.proofs.write_8.Reads as write-8-reads
+use Rattle.record_encode.proofs.write_8.Reads as write-8-reads
 
 shared-slice-read-if1 : tie.Need-shared-slice-read-if1
 shared-slice-read-if1 c = search needs

@@ -4,7 +4,7 @@ use denote.Ref.{now}
 use Rattle.slot_record.proofs.Numbers.{part-length}
 use Rattle.slot_record.proofs.char_record.Tie as tie
 use Rattle.text.proofs.is_valid.Reads as is-valid-reads
-use Rattle.value_list.proofs.write_range.Reads as write-range-reads
+use Rattle.record_encode.proofs.write_range.Reads as write-range-reads
 
 sub-is-valid : tie.Need-sub-is-valid
 sub-is-valid c = search needs

@@ -11,7 +11,7 @@ use Rattle.slot_record.proofs.date_record.Tie as tie
 use Rattle.endian.proofs.read_i32.Reads as read-i32-reads
 use Rattle.endian.proofs.read_u32.Reads as read-u32-reads
 use Rattle.temporal.proofs.is_date.Reads as is-date-reads
-use Rattle.value_list.proofs.write_32.Reads as write-32-reads
+use Rattle.record_encode.proofs.write_32.Reads as write-32-reads
 
 read-i32-requires : tie.Need-read-i32-requires
 read-i32-requires c κs = search needs

@@ -14,9 +14,9 @@ use Rattle.slot_record.proofs.bool_record.Reads as bool-record-reads
 use Rattle.slot_record.proofs.date_record.Reads as date-record-reads
 use Rattle.slot_record.proofs.time_record.Reads as time-record-reads
 use Rattle.slot_record.proofs.timestamp_record.Reads as timestamp-record-reads
-use Rattle.value_list.proofs.write_16.Reads as write-16-reads
-use Rattle.value_list.proofs.write_32.Reads as write-32-reads
-use Rattle.value_list.proofs.write_64.Reads as write-64-reads
+use Rattle.record_encode.proofs.write_16.Reads as write-16-reads
+use Rattle.record_encode.proofs.write_32.Reads as write-32-reads
+use Rattle.record_encode.proofs.write_64.Reads as write-64-reads
 
 read-u16-requires : tie.Need-read-u16-requires
 read-u16-requires c κs = let h = rw (c .before .match .keys1) at (c .before .before .before .before .pre .1 .0) in omega (arith, h)

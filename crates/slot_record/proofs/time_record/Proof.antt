@@ -11,7 +11,7 @@ use Rattle.slot_record.proofs.time_record.Tie as tie
 use Rattle.endian.proofs.read_i64.Reads as read-i64-reads
 use Rattle.signed.proofs.cast_unsigned_64.Reads as cast-unsigned-64-reads
 use Rattle.temporal.proofs.time_of.Reads as time-of-reads
-use Rattle.value_list.proofs.write_64.Reads as write-64-reads
+use Rattle.record_encode.proofs.write_64.Reads as write-64-reads
 
 read-i64-requires : tie.Need-read-i64-requires
 read-i64-requires c κs = search needs

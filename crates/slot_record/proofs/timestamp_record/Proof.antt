@@ -11,7 +11,7 @@ use Rattle.slot_record.proofs.timestamp_record.Tie as tie
 use Rattle.endian.proofs.read_i64.Reads as read-i64-reads
 use Rattle.endian.proofs.read_u64.Reads as read-u64-reads
 use Rattle.temporal.proofs.is_timestamp.Reads as is-timestamp-reads
-use Rattle.value_list.proofs.write_64.Reads as write-64-reads
+use Rattle.record_encode.proofs.write_64.Reads as write-64-reads
 
 read-i64-requires : tie.Need-read-i64-requires
 read-i64-requires c κs = search needs

@@ -6,7 +6,7 @@ use Rattle.slot_record.proofs.Numbers.{part-length}
 use borrow.Author.Tests.{lt-ltb, le-ltb}
 use Rattle.slot_record.proofs.varchar_record.Tie as tie
 use Rattle.text.proofs.is_valid.Reads as is-valid-reads
-use Rattle.value_list.proofs.write_range.Reads as write-range-reads
+use Rattle.record_encode.proofs.write_range.Reads as write-range-reads
 
 sub-length : tie.Need-sub-length
 sub-length c = search needs

@@ -3,8 +3,8 @@ use mir.Val.{ofZ}
 use mir.Syntax.{w16, w32, w64}
 use native.Mathlib.Omega.{arith}
 use borrow.Author.Needs.{needs}
-use Rattle.value_list.proofs.write_value_record.Statement.{statement}
-use Rattle.value_list.proofs.write_value_record.Tie as tie
+use Rattle.record_encode.proofs.write_value_record.Statement.{statement}
+use Rattle.record_encode.proofs.write_value_record.Tie as tie
 
 enum-told : tie.Need-enum-told
 enum-told c = search needs

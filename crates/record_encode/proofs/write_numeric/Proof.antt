@@ -7,8 +7,8 @@ use mathlib.Core.Path.{refl}
 use mathlib.Core.List.{[], _∷_, _++_}
 use denote.Ref.{now}
 use borrow.Author.Needs.{needs}
-use Rattle.value_list.proofs.write_numeric.Statement.{statement}
-use Rattle.value_list.proofs.write_numeric.Tie as tie
+use Rattle.record_encode.proofs.write_numeric.Statement.{statement}
+use Rattle.record_encode.proofs.write_numeric.Tie as tie
 
 put-requires : tie.Need-put-requires
 put-requires c κs = search needs
