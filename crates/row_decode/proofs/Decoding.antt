@@ -32,7 +32,8 @@ use Rattle.row_column.specs.InnerWalk.{walkedColumn, InRow}
 use Rattle.row_column.proofs.Reach.{reach-typed}
 use Rattle.row_decode.specs.Read.{wantedValue}
 use Rattle.row_decode.specs.InnerWalk.{walkedRead}
-use Rattle.row_decode.specs.InnerMarks.{isMarked, stepped, Decodable, DecodeAt, Filled}
+use Rattle.row_decode.specs.InnerMarks.{isMarked, Decodable, Filled}
+use Rattle.column_decode.specs.InnerColumn.{stepped, DecodeAt}
 
 -- ---- values in front of others
 
@@ -50,11 +51,6 @@ list-append (v ∷ vs) ws = rw (list-append vs ws, append-assoc)
 
 list-one : (vs : List DataValue) (v : DataValue) → listOf (vs ++ (v ∷ [])) ≡ listOf vs ++ recordOf v
 list-one vs v = list-append vs (v ∷ []) ∙ rw (append-nil (recordOf v))
-
--- a text in a row is one in a longer row
-pub wider : (c : ColumnRead) (n m : ℕ) → n ≤ m → InRow n c → InRow m c
-wider (Value v) n m h i = omega (arith, i)
-wider (Refused e) n m h i = tt
 
 -- ---- the walk
 

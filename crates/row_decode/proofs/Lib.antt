@@ -1,6 +1,5 @@
 pub mod Walk
 pub mod Marking
-pub mod Present
 pub mod Decoding
 pub mod Handing
 pub mod Depends

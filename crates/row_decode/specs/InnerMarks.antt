@@ -31,11 +31,6 @@ marked m (w ∷ ws) = marked (set m w 1) ws
 abbrev pub isMarked : List ℕ → ℕ → Bool
 isMarked m i = eqb (getD m i 0) 1
 
--- a column's record written at `end`
-abbrev pub stepped : List ℕ → ℕ → ColumnRead → Outcome
-stepped buf end (Value v) = (Answer.Done (end + length (recordOf v)), sets buf end (recordOf v))
-stepped buf end (Refused e) = (Answer.Refused e, buf)
-
 -- all records written at the front of a buffer; after a refusal it may hold anything
 abbrev pub Filled : Values → List ℕ → Answer → List ℕ → Type 0
 Filled (ok vs) buf r after = (r ≡ Answer.Done (length (listOf vs))) × ((after ≡ sets buf 0 (listOf vs)) × (length (listOf vs) ≤ length buf))
@@ -55,13 +50,3 @@ pub record Decodable (s : List ℕ) (l : RowLayout) (p : Bool) (r marks buf : Li
   pub framed : Framed s l p r
   pub flags : length marks ≡ 256
   pub room : 18 * l .«num_columns» ≤ length buf
-
--- what the walk has come to: a record of the schema, and room for the column's own
-pub record DecodeAt (s : List ℕ) (at : ℕ) (l : RowLayout) (p : Bool) (b : RowLayout) (r buf : List ℕ) (end : ℕ) : Type 0 where
-  pub here : at < length s
-  pub few : b .«num_columns» < 256
-  pub good : (e : Refusal) → columnRecordAt s at ≡ Record.Refused e → ⊥
-  pub typed : typeIn (columnRecordAt s at) ≡ typeAt (typesIn s) (b .«num_columns»)
-  pub reach : Reachable l p b (typeAt (typesIn s) (b .«num_columns»)) r
-  pub short : length r ≤ rowLimit
-  pub room : end + 18 ≤ length buf

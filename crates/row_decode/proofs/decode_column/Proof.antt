@@ -4,7 +4,7 @@ use mathlib.Core.Path.{sym, _∙_}
 use borrow.Author.Tests.{eq-eqb, ne-eqb}
 use Rattle.row_decode.proofs.decode_column.Tie as tie
 use Rattle.null_bitmap.proofs.column_bit_is_set.Reads as column-bit-is-set-reads
-use Rattle.row_decode.proofs.decode_present.Reads as decode-present-reads
+use Rattle.column_decode.proofs.decode_present.Reads as decode-present-reads
 use Rattle.record_encode.proofs.write_null.Reads as write-null-reads
 
 shared-slice-read-if1 : tie.Need-shared-slice-read-if1

@@ -1,14 +1,14 @@
 use borrow.Author.Needs.{needs}
-use Rattle.row_decode.proofs.decode_char.Statement.{statement}
+use Rattle.column_decode.proofs.decode_char.Statement.{statement}
 use denote.Ref.{now}
 use native.Mathlib.Omega.{arith}
 use mathlib.Core.Path.{refl, _∙_}
-use Rattle.row_decode.proofs.Present.{slot-stepped}
+use Rattle.column_decode.proofs.Present.{slot-stepped}
 use Prim.Native.Nat.{_+_, _-_}
 use lib.ListN.{take, drop}
 use Rattle.datatype.specs.declared.DataType.the-variants.{Char}
 use Rattle.stored_form.specs.Read.{readSlot}
-use Rattle.row_decode.proofs.decode_char.Tie as tie
+use Rattle.column_decode.proofs.decode_char.Tie as tie
 use Rattle.row_layout.proofs.RowLayout.fixed_data_start.Reads as fixed-data-start-reads
 use Rattle.row_layout.proofs.RowLayout.slot_start.Reads as slot-start-reads
 use Rattle.slot_record.proofs.char_record.Reads as char-record-reads

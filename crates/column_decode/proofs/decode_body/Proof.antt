@@ -1,5 +1,5 @@
 use borrow.Author.Needs.{needs}
-use Rattle.row_decode.proofs.decode_body.Statement.{statement}
+use Rattle.column_decode.proofs.decode_body.Statement.{statement}
 use denote.Ref.{now}
 use native.Mathlib.Omega.{arith}
 use mathlib.Core.Path.{refl, sym, ap, _∙_, subst}
@@ -7,12 +7,12 @@ use Rattle.datatype.specs.declared.DataType.{DataType}
 use Rattle.datatype.specs.declared.DataType.the-variants.{Char, Character, Varchar}
 use Rattle.datatype.proofs.Plain.{sized-record}
 use Rattle.row_column.specs.InnerWalk.{Reachable}
-use Rattle.row_decode.proofs.Present.{as-char}
-use Rattle.row_decode.proofs.decode_body.Tie as tie
+use Rattle.column_decode.proofs.Present.{as-char}
+use Rattle.column_decode.proofs.decode_body.Tie as tie
 use Rattle.endian.proofs.read_u16.Reads as read-u16-reads
-use Rattle.row_decode.proofs.decode_char.Reads as decode-char-reads
-use Rattle.row_decode.proofs.decode_value.Reads as decode-value-reads
-use Rattle.row_decode.proofs.decode_varchar.Reads as decode-varchar-reads
+use Rattle.column_decode.proofs.decode_char.Reads as decode-char-reads
+use Rattle.column_decode.proofs.decode_value.Reads as decode-value-reads
+use Rattle.column_decode.proofs.decode_varchar.Reads as decode-varchar-reads
 use Rattle.row_layout.proofs.RowLayout.varlen_table_offset.Reads as varlen-table-offset-reads
 
 shared-slice-read-match : tie.Need-shared-slice-read-match

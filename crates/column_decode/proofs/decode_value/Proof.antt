@@ -1,17 +1,17 @@
 use borrow.Author.Needs.{needs}
-use Rattle.row_decode.proofs.decode_value.Statement.{statement}
+use Rattle.column_decode.proofs.decode_value.Statement.{statement}
 use mathlib.Core.Path.{sym, ap, _∙_, subst}
 use denote.Ref.{now}
 use lib.ListN.{length}
 use Rattle.datatype.specs.declared.DataType.{DataType}
 use Rattle.row_column.specs.InnerWalk.{walkedColumn, Reachable}
-use Rattle.row_decode.specs.InnerMarks.{stepped}
-use Rattle.row_decode.proofs.Decoding.{wider}
-use Rattle.row_decode.proofs.Present.{type-read}
-use Rattle.row_decode.proofs.decode_value.Tie as tie
+use Rattle.column_decode.specs.InnerColumn.{stepped}
+use Rattle.column_decode.proofs.Present.{wider}
+use Rattle.column_decode.proofs.Present.{type-read}
+use Rattle.column_decode.proofs.decode_value.Tie as tie
 use Rattle.datatype.proofs.record_at.Reads as record-at-reads
 use Rattle.row_column.proofs.read_column.Reads as read-column-reads
-use Rattle.row_decode.proofs.write_column.Reads as write-column-reads
+use Rattle.column_decode.proofs.write_column.Reads as write-column-reads
 
 record-at-requires : tie.Need-record-at-requires
 record-at-requires c κs = search needs

@@ -1,17 +1,17 @@
 use borrow.Author.Needs.{needs}
-use Rattle.row_decode.proofs.decode_present.Statement.{statement}
+use Rattle.column_decode.proofs.decode_present.Statement.{statement}
 use denote.Ref.{now}
 use mathlib.Core.Path.{ap, _∙_, ap₂}
-use Rattle.row_decode.specs.InnerMarks.{stepped}
-use Rattle.row_decode.proofs.Present.{slot-stepped, is-some, plain-inside, plain-length, plain-column}
+use Rattle.column_decode.specs.InnerColumn.{stepped}
+use Rattle.column_decode.proofs.Present.{slot-stepped, is-some, plain-inside, plain-length, plain-column}
 use Prim.Native.Nat.{_+_, _-_}
 use lib.ListN.{getD, take, drop}
 use Rattle.datatype.specs.Schema.{columnKind}
 use Rattle.datatype.specs.InnerSteps.{plainType}
 use Rattle.stored_form.specs.Read.{readSlot}
-use Rattle.row_decode.proofs.decode_present.Tie as tie
+use Rattle.column_decode.proofs.decode_present.Tie as tie
 use Rattle.datatype.proofs.plain_size.Reads as plain-size-reads
-use Rattle.row_decode.proofs.decode_body.Reads as decode-body-reads
+use Rattle.column_decode.proofs.decode_body.Reads as decode-body-reads
 use Rattle.row_layout.proofs.RowLayout.fixed_data_start.Reads as fixed-data-start-reads
 use Rattle.row_layout.proofs.RowLayout.slot_start.Reads as slot-start-reads
 use Rattle.slot_record.proofs.plain_record.Reads as plain-record-reads

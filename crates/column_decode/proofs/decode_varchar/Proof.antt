@@ -1,13 +1,13 @@
 use borrow.Author.Needs.{needs}
-use Rattle.row_decode.proofs.decode_varchar.Statement.{statement}
+use Rattle.column_decode.proofs.decode_varchar.Statement.{statement}
 use mathlib.Core.Path.{_∙_}
 use denote.Ref.{now}
-use Rattle.row_decode.proofs.Present.{slot-stepped}
+use Rattle.column_decode.proofs.Present.{slot-stepped}
 use Prim.Native.Nat.{_-_}
 use lib.ListN.{take, drop}
 use Rattle.datatype.specs.declared.DataType.the-variants.{Varchar}
 use Rattle.stored_form.specs.Read.{readSlot}
-use Rattle.row_decode.proofs.decode_varchar.Tie as tie
+use Rattle.column_decode.proofs.decode_varchar.Tie as tie
 use Rattle.row_layout.proofs.varlen_range.Reads as varlen-range-reads
 use Rattle.slot_record.proofs.varchar_record.Reads as varchar-record-reads
 use Rattle.record_encode.proofs.write_null.Reads as write-null-reads

@@ -1,8 +1,8 @@
 use Rattle.value_list.proofs.Records.{record-short, inside-narrow}
 use native.Mathlib.Omega.{arith}
 use borrow.Author.Needs.{needs}
-use Rattle.row_decode.proofs.write_column.Statement.{statement}
-use Rattle.row_decode.proofs.write_column.Tie as tie
+use Rattle.column_decode.proofs.write_column.Statement.{statement}
+use Rattle.column_decode.proofs.write_column.Tie as tie
 
 enum-known-column : tie.Need-enum-known-column
 enum-known-column c = search needs

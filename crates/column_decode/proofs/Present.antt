@@ -23,13 +23,20 @@ use Rattle.stored_form.specs.Read.{readSlot}
 use Rattle.slot_record.specs.InnerRecord.{recorded}
 use Rattle.slot_record.proofs.Numbers.{part-length}
 use Rattle.row_column.specs.Column.{slotValue}
-use Rattle.row_column.specs.InnerWalk.{walkedColumn, Reachable}
-use Rattle.row_decode.specs.InnerMarks.{stepped}
+use Rattle.row_column.specs.declared.ColumnRead.{ColumnRead}
+use Rattle.row_column.specs.declared.ColumnRead.the-variants as Read
+use Rattle.row_column.specs.InnerWalk.{walkedColumn, Reachable, InRow}
+use Rattle.column_decode.specs.InnerColumn.{stepped}
 
 -- a slot's record is the column's
 pub slot-stepped : (buf : List ℕ) (end i : ℕ) (x : SlotRead) → recorded buf end i x ≡ stepped buf end (slotValue i x)
 slot-stepped buf end i (Slot.Value v) = refl
 slot-stepped buf end i Slot.NoValue = refl
+
+-- a text in a row is one in a longer row
+pub wider : (c : ColumnRead) (n m : ℕ) → n ≤ m → InRow n c → InRow m c
+wider (Read.Value v) n m h i = omega (arith, i)
+wider (Read.Refused e) n m h i = tt
 
 -- the type of a record that was read
 pub type-read : {x y : Record} {t u : DataType} {next : ℕ} → x ≡ y → x ≡ Record.Column t next → typeIn y ≡ u → t ≡ u

@@ -1,0 +1,35 @@
+-- For the proofs: where a walk over the columns stands, and a column's record written there.
+use Prim.Native.Nat.{ℕ, _+_, _≤_, _<_}
+use mathlib.Core.Bool.{Bool}
+use mathlib.Core.List.{List}
+use mathlib.Core.Path.{_≡_}
+use lib.ListN.{length}
+use lib.Seq.{sets}
+use Rattle.error.specs.declared.Refusal.{Refusal}
+use Rattle.error.specs.declared.Answer.the-variants as Answer
+use Rattle.error.specs.Answer.{Outcome}
+use Rattle.row_format.specs.Places.{rowLimit}
+use Rattle.row_layout.specs.declared.RowLayout.{RowLayout}
+use Rattle.datatype.specs.declared.Record.the-variants as Record
+use Rattle.datatype.specs.Schema.{columnRecordAt}
+use Rattle.datatype.specs.Check.{typeAt, typesIn}
+use Rattle.datatype.specs.InnerSteps.{typeIn}
+use Rattle.value_list.specs.Records.{recordOf}
+use Rattle.row_column.specs.declared.ColumnRead.{ColumnRead}
+use Rattle.row_column.specs.declared.ColumnRead.the-variants.{Value, Refused}
+use Rattle.row_column.specs.InnerWalk.{Reachable}
+
+-- a column's record written at `end`
+abbrev pub stepped : List ℕ → ℕ → ColumnRead → Outcome
+stepped buf end (Value v) = (Answer.Done (end + length (recordOf v)), sets buf end (recordOf v))
+stepped buf end (Refused e) = (Answer.Refused e, buf)
+
+-- what the walk has come to: a record of the schema, and room for the column's own
+pub record DecodeAt (s : List ℕ) (at : ℕ) (l : RowLayout) (p : Bool) (b : RowLayout) (r buf : List ℕ) (end : ℕ) : Type 0 where
+  pub here : at < length s
+  pub few : b .«num_columns» < 256
+  pub good : (e : Refusal) → columnRecordAt s at ≡ Record.Refused e → ⊥
+  pub typed : typeIn (columnRecordAt s at) ≡ typeAt (typesIn s) (b .«num_columns»)
+  pub reach : Reachable l p b (typeAt (typesIn s) (b .«num_columns»)) r
+  pub short : length r ≤ rowLimit
+  pub room : end + 18 ≤ length buf
