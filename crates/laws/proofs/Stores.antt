@@ -83,7 +83,7 @@ moved-down d f t n i h l k =
     let e : n - i ≡ suc (n - (i + 1)) = omega arith in
     let a : f + i < length d = omega arith in
     let s : t + i < suc (f + i) = omega arith in
-    rw (e, drop-cons d (f + i) 0 a, add-one, add-suc, add-suc, drop-set-lt (suc (f + i)) d (t + i) (getD d (f + i) 0) s)
+    rw (e, drop-cons d (f + i) 0 a, add-one, add-suc t i, add-suc f i, drop-set-lt (suc (f + i)) d (t + i) (getD d (f + i) 0) s)
 
 pub moved-all : (d : List ℕ) (f t n i : ℕ) → n ≤ i → sets d (t + i) (take (n - i) (drop (f + i) d)) ≡ d
 moved-all d f t n i h = let e : n - i ≡ 0 = omega arith in rw e

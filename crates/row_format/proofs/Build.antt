@@ -56,7 +56,7 @@ module _ (w : ℕ) (front region : List ℕ) (us : List Cell) (m : ℕ) where
   null-given n b l =
       let at : length head ≡ length front + length us * w = rw (length-append, length-toTable, length-offsets) in
       let e : bottom + length (payloads us) ≡ n = rw (length-lay, length-append, length-replicate, payloads-append, payloads-nulls, append-nil) at l in
-      rw (row-parts none, row-parts (some b), ← e, append-nil) (ap (λ (x : List ℕ). x ++ b) (sets-at head (toLe w 0) rest (toLe w (bottom + length (payloads us))) (length front + length us * w) at (rw (length-toLe, length-toLe))) ∙ simp append-assoc)
+      rw (row-parts none, row-parts (some b), ← e, append-nil) (ap (λ (x : List ℕ). x ++ b) (sets-at head (toLe w 0) rest (toLe w (bottom + length (payloads us))) (length front + length us * w) at (simp length-toLe)) ∙ simp append-assoc)
 
 -- the same at a rank k from which on all cells are null
 lay-next : (w : ℕ) (front region : List ℕ) (cs : List Cell) (k m n : ℕ) (b : List ℕ) → k ≤ length cs → drop k cs ≡ replicate (suc m) none → length (lay w front region cs) ≡ n

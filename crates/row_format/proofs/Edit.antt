@@ -140,7 +140,7 @@ pub bit-lay : (w : ℕ) (head bits region : List ℕ) (ps : List Cell) (i : ℕ)
 unfolding lay
 bit-lay w head bits region ps i c four inside =
     let n : length (head ++ putBitAt (nullBit c) i bits) ≡ length (head ++ bits) = simp (length-append, length-set) in
-    rw (n, append-assoc head, append-assoc head, take-at head _ 4 four, drop-at head _ 4 four, List·getD-append, set-append-left)
+    rw n (simp (append-assoc head) (rw (take-at head _ 4 four, drop-at head _ 4 four, List·getD-append, set-append-left)))
 
 -- ---- a column of any row: packed or padded, whatever its spare bits, its padding and the slots of its null columns hold
 

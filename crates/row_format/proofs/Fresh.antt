@@ -102,7 +102,7 @@ bitmap-nulls n =
 pub fresh-row : (w : ℕ) (ss : List Shape) → builtRow w ss (nulls ss) ≡ header packedFlag ss ++ (setBits (length ss) ++ replicate (varlens ss * w + fixedSize true ss) 0)
 unfolding rowWith lay
 fresh-row w ss =
-    rw (bitmap-nulls, varlens-nulls, offsets-nulls, payloads-nulls, table-zero, slots-zero, append-nil, replicate-append-replicate, append-assoc)
+    rw (bitmap-nulls, varlens-nulls, offsets-nulls, payloads-nulls, table-zero, slots-zero, append-nil, replicate-append-replicate) (simp append-assoc)
 
 pub length-fresh : (w : ℕ) (ss : List Shape) → length (builtRow w ss (nulls ss)) ≡ minimum w true ss
 length-fresh w ss = length-row w (header packedFlag ss) (length-header packedFlag ss) (nulls-fit ss) (slots-fit (nulls-fit ss)) ∙ rw (varlens-nulls, payloads-nulls) (omega arith)

@@ -35,7 +35,7 @@ module _ {n a e z : ℕ} {b : List ℕ} (h : Replaceable (change n a e z) b) (bs
       let all : a + (z + (n - e)) ≡ a + z + (n - e) = omega arith in
       let stored : sets (sets b (a + z) tail) a bs ≡ sets b a (bs ++ tail)
       = sym (sets-comm b a (a + z) bs tail (omega (arith, size))) ∙ rw (← size) (sym (sets-append b a bs tail)) in
-      stored ∙ sets-splice b a (bs ++ tail) (rw n₁ (omega (arith, h .room))) ∙ rw (length-spliced, n₁, all, take-take a n b low, drop-take n e b (h .within) (h .inside), append-assoc, append-assoc, append-assoc)
+      stored ∙ sets-splice b a (bs ++ tail) (rw n₁ (omega (arith, h .room))) ∙ rw (length-spliced, n₁, all, take-take a n b low, drop-take n e b (h .within) (h .inside)) (simp append-assoc)
 
 -- x is what a callee leaves of the part that starts at a
 module _ {n a e z : ℕ} {b : List ℕ} (h : Replaceable (change n a e z) b) where

@@ -61,8 +61,8 @@ module _ (at z : ℕ) (region : List ℕ) (h : at + z ≤ length region) where
 -- a cell replaced
 payloads-set : (ps : List Cell) (k : ℕ) (c : Cell) → k < length ps → length (payloads (set ps k c)) + length (bytes (getD ps k none)) ≡ length (payloads ps) + length (bytes c)
 payloads-set [] k c h = absurd (omega arith)
-payloads-set (d ∷ ps) zero c h = rw (length-append, length-append) (omega arith)
-payloads-set (d ∷ ps) (suc k) c h = rw (length-append, length-append) (omega (arith, payloads-set ps k c (omega arith)))
+payloads-set (d ∷ ps) zero c h = simp length-append (omega arith)
+payloads-set (d ∷ ps) (suc k) c h = simp length-append (omega (arith, payloads-set ps k c (omega arith)))
 
 -- a Varchar before another has the lower rank
 rank-rises : (ss : List Shape) (i j : ℕ) → i < j → j < length ss → getD ss i Varlen ≡ Varlen → rankOf ss i < rankOf ss j

@@ -64,7 +64,7 @@ slot-value t i at r slot false e =
 payload-inside : (ps : List Cell) (k : ℕ) → k < length ps → length (payloads (take k ps)) + length (bytes (getD ps k none)) ≤ length (payloads ps)
 payload-inside [] k h = absurd (omega arith)
 payload-inside (c ∷ ps) zero h = rw length-append (omega arith)
-payload-inside (c ∷ ps) (suc k) h = rw (length-append, length-append) (omega (arith, payload-inside ps k (omega arith)))
+payload-inside (c ∷ ps) (suc k) h = simp length-append (omega (arith, payload-inside ps k (omega arith)))
 
 module _ {p : Bool} {ts : List DataType} {head bits region : List ℕ} {ps : List Cell} (q : Parts p ts head bits region ps) where
   abbrev ss : List Shape

@@ -15,7 +15,7 @@ abbrev μ-loop : tie.MeasureT-loop
 μ-loop s₀ from to n i₀ s i = n - i
 
 loop-holds : tie.Need-loop-holds Inv-loop μ-loop
-loop-holds c = (refl, (search needs, rw (add-zero, add-zero, sub-zero)))
+loop-holds c = (refl, (search needs, simp (add-zero, sub-zero)))
 
 add-s : tie.Need-add-s Inv-loop μ-loop
 add-s c = search needs
