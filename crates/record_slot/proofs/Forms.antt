@@ -1,63 +1,40 @@
--- The stored form of a column's value by the bytes of both records.
-use Prim.Native.Nat.{ℕ, _+_, _≤_, _<_}
-use mathlib.Core.Path.{_≡_, refl, sym, ap, _∙_}
+-- A column's value by the bytes of both records: whether the column holds it, what it adds to the row, and its stored form.
+use Prim.Native.Nat.{ℕ, _+_, _/_, _%_, _≤_, _<_}
+use mathlib.Core.Path.{_≡_, refl, sym, ap, _∙_, subst}
 use mathlib.Core.Bool.{Bool, true, false, cond, false≢true}
-use mathlib.Core.List.{List}
+use mathlib.Core.List.{List, []}
 use native.Mathlib.Omega.{arith}
-use borrow.Author.Tests.{eqb-true, eqb-false, eq-eqb, ne-eqb, lt-ltb, leb-true}
-use lib.Dec.{eqb, ltb}
+use borrow.Author.Tests.{eqb-true, eqb-false, eq-eqb, ne-eqb, lt-ltb, leb-true, le-leb}
+use lib.Dec.{eqb, leb}
 use lib.ListN.{length, getD}
 use mir.Syntax.{Width}
 use mir.Val.{Fits, toZ, ofZ}
 use mir.ValLaws.{ofZ-toZ}
-use Rattle.error.specs.declared.Refusal.the-variants.{BadRecord, BadValueList}
+use Rattle.error.specs.declared.Refusal.the-variants.{BadValueList, WrongKind, Unsuitable}
+use Rattle.error.specs.declared.Answer.the-variants as Answer
 use Rattle.laws.proofs.Truths.{both, cases}
-use Rattle.row_format.specs.Places.{offsetWidth}
+use Rattle.row_format.specs.Places.{offsetWidth, rowLimit}
+use Rattle.bit_utils.specs.Bits.{bytesFor}
 use Rattle.datatype.specs.declared.DataType.{DataType}
 use Rattle.datatype.specs.declared.DataType.the-variants as T
 use Rattle.datatype.specs.declared.Record.{Record}
 use Rattle.datatype.specs.declared.Record.the-variants.{Column, Refused}
-use Rattle.datatype.specs.Types.{sizeOf, isVarlen}
-use Rattle.datatype.specs.Schema.{columnKind, columnRecordOf, columnRecordAt}
-use Rattle.datatype.specs.InnerSteps.{plainSize, typeIn}
-use Rattle.datatype.proofs.Plain.{is-plain, plain-record}
+use Rattle.datatype.specs.Types.{sizeOf, isVarlen, precisionOf}
+use Rattle.datatype.specs.Schema.{columnKind, columnRecordAt}
+use Rattle.datatype.specs.InnerSteps.{typeIn}
+use Rattle.datatype.proofs.Records.{few-digits}
 use Rattle.value.specs.declared.TextRange.{TextRange}
 use Rattle.value.specs.declared.DataValue.{DataValue}
 use Rattle.value.specs.Kinds.{kindOf, valueKind, matches}
-use Rattle.value.specs.Ranges.{inArea, part, rangeOf, textOf}
+use Rattle.value.specs.Ranges.{noText, inArea, part, rangeOf, textOf}
 use Rattle.value.specs.InnerKinds.{heldKind}
-use Rattle.value_list.specs.Records.{bodyLength, numberAt, rangeAt, valueAt, recordAt as valueRecordAt}
+use Rattle.value_list.specs.Records.{bodyLength, numericAt, rangeAt, valueAt, recordAt as valueRecordAt}
 use Rattle.stored_form.specs.Write.{fitsText, accepted, storedForm}
-use Rattle.stored_form.proofs.Lengths.{fits-length}
+use Rattle.stored_form.proofs.Lengths.{fits-below, fits-length}
 use Rattle.record_slot.specs.Stored.{isNull}
-use Rattle.record_slot.specs.InnerSteps.{Readable, valueIn, declaredAt, textSuits, formIn, bodyStored, blankFilled, SlotReady}
-use Rattle.record_slot.proofs.Held.{read-at, value-body, Declared, told}
-
--- ---- the bytes of a column's slot
-
-module _ (s : List ℕ) (at : ℕ) where
-  pub plain-slot : {z : ℕ} → z ≡ plainSize (columnKind (getD s at 0)) → (z ≡ 0 → ⊥) → z ≡ sizeOf (typeIn (columnRecordAt s at))
-  plain-slot e n =
-      let h : plainSize (columnKind (getD s at 0)) ≡ 0 → ⊥ = λ g. n (e ∙ g) in
-      e ∙ ap plainSize (is-plain (columnKind (getD s at 0)) h) ∙ ap (λ (r : Record). sizeOf (typeIn r)) (sym (plain-record s at h))
-
-  -- a kind with a slot of n bytes, where n may be cut off
-  of-cut : (b : Bool) (n : ℕ) (t : DataType) → sizeOf t ≡ n → cond b 0 n ≡ sizeOf (typeIn (cond b (Refused (BadRecord at)) (Column t (at + 3))))
-  of-cut true n t e = refl
-  of-cut false n t e = sym e
-
-  none-cut : (b : Bool) (n : ℕ) → _≡_ {A = ℕ} 0 (sizeOf (typeIn (cond b (Refused (BadRecord at)) (Column (T.Varchar n) (at + 3)))))
-  none-cut true n = refl
-  none-cut false n = refl
-
-  kind-slot : {k : ℕ} → getD s at 0 ≡ k → sizeOf (typeIn (columnRecordOf (columnKind k) s at)) ≡ sizeOf (typeIn (columnRecordAt s at))
-  kind-slot e = ap (λ (m : ℕ). sizeOf (typeIn (columnRecordOf (columnKind m) s at))) (sym e)
-
-  pub varchar-slot : getD s at 0 ≡ 11 → 0 ≡ sizeOf (typeIn (columnRecordAt s at))
-  varchar-slot e = none-cut (ltb (length s) (at + 3)) (numberAt 2 s (at + 1)) ∙ kind-slot e
-
-  pub char-slot : getD s at 0 ≡ 9 → declaredAt s at ≡ sizeOf (typeIn (columnRecordAt s at))
-  char-slot e = of-cut (ltb (length s) (at + 3)) (numberAt 2 s (at + 1)) (T.Char (numberAt 2 s (at + 1))) refl ∙ kind-slot e
+use Rattle.record_slot.specs.InnerSteps.{HasType, Readable, valueIn, declaredAt, textSuits, bitsSuit, suitsAt, Testable, payloadLength, payloadIn, formIn, slotSize, bodyStored, blankFilled, numberStored, bitsStored, slotStored, SlotReady, NumberReady}
+use Rattle.record_slot.proofs.Tests.{payload-short, cell-wrong, cell-unsuited, size-refused, size-null, size-fixed, size-varchar}
+use Rattle.record_slot.proofs.Held.{read-at, value-body, body-within, Declared, told}
 
 -- ---- numbers by their bits, and texts that suit
 
@@ -70,6 +47,13 @@ module _ (n : ℕ) (r : TextRange) (area : List ℕ) (e : textSuits n r area ≡
 
   pub text-within : length (part area r) ≤ n
   text-within = fits-length n (part area r) (both (inArea (length area) r) (fitsText n (part area r)) e .1)
+
+module _ (n : ℕ) (r : TextRange) (area : List ℕ) (e : bitsSuit n r area ≡ true) where
+  pub bits-inside : r .start + r .length ≤ length area
+  bits-inside = leb-true (r .start + r .length) (length area) (both (inArea (length area) r) (eqb (length (part area r)) (bytesFor n)) e .0)
+
+  pub bits-within : length (part area r) ≡ bytesFor n
+  bits-within = eqb-true (length (part area r)) (bytesFor n) (both (inArea (length area) r) (eqb (length (part area r)) (bytesFor n)) e .1)
 
 -- ---- a value and its kind
 
@@ -128,12 +112,6 @@ module _ (list : List ℕ) (at : ℕ) where
       (back k (eqb k 12) _ _ (λ e. sym (eqb-true k 12 e))
       (back k (eqb k 13) _ _ (λ e. sym (eqb-true k 13 e)) (λ n. absurd (n refl))))))))))))))
 
-  -- a value that matches a type has its kind
-  matched-kind : (t : DataType) (k : ℕ) → matches t (valueAt k list at) ≡ true → k ≡ valueKind t
-  matched-kind t k m =
-      let e : kindOf (valueAt k list at) ≡ valueKind t = eqb-true (kindOf (valueAt k list at)) (valueKind t) m in
-      sym (kind-back k (λ z. no-null t (sym e ∙ z))) ∙ e
-
   past : (k j : ℕ) (x y : DataValue) → isNull x ≡ false → j ≤ k → (j < k → isNull y ≡ false) → isNull (cond (eqb k j) x y) ≡ false
   past k j x y f h g = by-test (eqb k j) refl
     where
@@ -159,54 +137,85 @@ module _ (list : List ℕ) (at : ℕ) where
       (past k 13 _ _ refl (omega (arith, h13)) (λ h14.
       absurd (omega (arith, h14, l)))))))))))))))))))))))))))
 
+  -- the kind of a value that is no null
+  kind-of : (k : ℕ) → 1 ≤ k → k ≤ 13 → kindOf (valueAt k list at) ≡ k
+  kind-of k h l = kind-back k (eqb-false (kindOf (valueAt k list at)) 0 (some-value k h l))
+
+  -- a value that matches a type has its kind
+  matched-kind : (t : DataType) (k : ℕ) → matches t (valueAt k list at) ≡ true → k ≡ valueKind t
+  matched-kind t k m =
+      let e : kindOf (valueAt k list at) ≡ valueKind t = eqb-true (kindOf (valueAt k list at)) (valueKind t) m in
+      sym (kind-back k (λ z. no-null t (sym e ∙ z))) ∙ e
+
+-- ---- a value of the kind that a type holds, by the bytes of its body
+
+module _ (list : List ℕ) (at : ℕ) where
   abbrev body : DataType → DataValue
   body t = valueAt (valueKind t) list at
 
-  -- ---- stored forms by the kind
+  record Body (t : DataType) (n : ℕ) : Type 0 where
+    match : matches t (body t) ≡ true
+    value : isNull (body t) ≡ false
+    payload : payloadLength (valueKind t) list at ≡ cond (isVarlen t) (rangeOf (body t) .length) 0
+    size : slotSize (valueKind t) n ≡ sizeOf t
+    suited : (area : List ℕ) → suitsAt (valueKind t) n list at area ≡ accepted t (body t) area
+    form : isVarlen t ≡ false → (area : List ℕ) → slotStored (valueKind t) n list at area ≡ storedForm t (body t) (textOf area (body t))
 
-  record Body (t : DataType) : Type 0 where
-    form : (x : List ℕ) → bodyStored (valueKind t) list at ≡ storedForm t (body t) x
-    size : bodyLength (valueKind t) ≡ sizeOf t
+  -- no range lies in every area
+  in-any : (area : List ℕ) (b : Bool) → b ≡ cond (inArea (length area) noText) b false
+  in-any area b = rw (le-leb 0 (length area) (omega arith))
 
-  body-form : (t : DataType) → (valueKind t ≡ 6 → ⊥) → (valueKind t ≡ 8 → ⊥) → (valueKind t ≡ 12 → ⊥) → isVarlen t ≡ false → Body t
-  body-form T.SmallInt a b c f = record { form = λ x. refl; size = refl }
-  body-form T.Int a b c f = record { form = λ x. refl; size = refl }
-  body-form T.BigInt a b c f = record { form = λ x. refl; size = refl }
-  body-form T.Real a b c f = record { form = λ x. refl; size = refl }
-  body-form T.DoublePrecision a b c f = record { form = λ x. refl; size = refl }
-  body-form (T.Numeric p s) a b c f = absurd (a refl)
-  body-form (T.Decimal p s) a b c f = absurd (a refl)
-  body-form T.Bool a b c f = record { form = λ x. refl; size = refl }
-  body-form (T.Char m) a b c f = absurd (b refl)
-  body-form (T.Character m) a b c f = absurd (b refl)
-  body-form (T.Varchar m) a b c f = absurd (false≢true (sym f))
-  body-form T.Date a b c f = record { form = λ x. refl; size = refl }
-  body-form T.Time a b c f = record { form = λ x. refl; size = refl }
-  body-form (T.Bit m) a b c f = absurd (c refl)
-  body-form T.Timestamp a b c f = record { form = λ x. refl; size = refl }
+  body-of : (t : DataType) (n : ℕ) → Declared t n → Body t n
+  body-of T.SmallInt n d = record { match = refl; value = refl; payload = refl; size = refl; suited = λ area. in-any area true; form = λ f area. refl }
+  body-of T.Int n d = record { match = refl; value = refl; payload = refl; size = refl; suited = λ area. in-any area true; form = λ f area. refl }
+  body-of T.BigInt n d = record { match = refl; value = refl; payload = refl; size = refl; suited = λ area. in-any area true; form = λ f area. refl }
+  body-of T.Real n d = record { match = refl; value = refl; payload = refl; size = refl; suited = λ area. in-any area true; form = λ f area. refl }
+  body-of T.DoublePrecision n d = record { match = refl; value = refl; payload = refl; size = refl; suited = λ area. in-any area true; form = λ f area. refl }
+  body-of (T.Numeric p s) n d = record { match = refl; value = refl; payload = refl; size = rw (d .0); suited = λ area. rw (d .0, d .1) (in-any area _); form = λ f area. rw (d .0) }
+  body-of (T.Decimal p s) n d = record { match = refl; value = refl; payload = refl; size = rw (d .0); suited = λ area. rw (d .0, d .1) (in-any area _); form = λ f area. rw (d .0) }
+  body-of T.Bool n d = record { match = refl; value = refl; payload = refl; size = refl; suited = λ area. in-any area (leb (getD list at 0) 1); form = λ f area. refl }
+  body-of (T.Char m) n d = record { match = refl; value = refl; payload = refl; size = sym d; suited = λ area. rw d; form = λ f area. rw d }
+  body-of (T.Character m) n d = record { match = refl; value = refl; payload = refl; size = sym d; suited = λ area. rw d; form = λ f area. rw d }
+  body-of (T.Varchar m) n d = record { match = refl; value = refl; payload = refl; size = refl; suited = λ area. rw d; form = λ f. absurd (false≢true (sym f)) }
+  body-of T.Date n d = record { match = refl; value = refl; payload = refl; size = refl; suited = λ area. in-any area _; form = λ f area. refl }
+  body-of T.Time n d = record { match = refl; value = refl; payload = refl; size = refl; suited = λ area. in-any area _; form = λ f area. refl }
+  body-of (T.Bit m) n d = record { match = refl; value = refl; payload = refl; size = rw d; suited = λ area. rw d; form = λ f area. rw d }
+  body-of T.Timestamp n d = record { match = refl; value = refl; payload = refl; size = refl; suited = λ area. in-any area _; form = λ f area. refl }
 
-  record Blanks (t : DataType) (n : ℕ) : Type 0 where
-    form : (x : List ℕ) → blankFilled n x ≡ storedForm t (body t) x
-    size : n ≡ sizeOf t
-    suited : (area : List ℕ) → accepted t (body t) area ≡ textSuits n (rangeAt list at) area
-    range : rangeOf (body t) ≡ rangeAt list at
+-- kinds whose stored form is the body
+module _ (k n : ℕ) where
+  plain-stored : (list : List ℕ) (at : ℕ) (area : List ℕ) → (k ≡ 6 → ⊥) → (k ≡ 8 → ⊥) → (k ≡ 12 → ⊥) → bodyStored k list at ≡ slotStored k n list at area
+  plain-stored list at area a b c = rw (ne-eqb k 6 a, ne-eqb k 8 b, ne-eqb k 12 c)
 
-  char-form : (t : DataType) (n : ℕ) → valueKind t ≡ 8 → Declared t n → Blanks t n
-  char-form T.SmallInt n e d = absurd (omega (arith, e))
-  char-form T.Int n e d = absurd (omega (arith, e))
-  char-form T.BigInt n e d = absurd (omega (arith, e))
-  char-form T.Real n e d = absurd (omega (arith, e))
-  char-form T.DoublePrecision n e d = absurd (omega (arith, e))
-  char-form (T.Numeric p s) n e d = absurd (omega (arith, e))
-  char-form (T.Decimal p s) n e d = absurd (omega (arith, e))
-  char-form T.Bool n e d = absurd (omega (arith, e))
-  char-form (T.Char m) n e d = record { form = λ x. rw d; size = sym d; suited = λ area. rw d; range = refl }
-  char-form (T.Character m) n e d = record { form = λ x. rw d; size = sym d; suited = λ area. rw d; range = refl }
-  char-form (T.Varchar m) n e d = absurd (omega (arith, e))
-  char-form T.Date n e d = absurd (omega (arith, e))
-  char-form T.Time n e d = absurd (omega (arith, e))
-  char-form (T.Bit m) n e d = absurd (omega (arith, e))
-  char-form T.Timestamp n e d = absurd (omega (arith, e))
+  pub plain-size : (k ≡ 6 → ⊥) → (k ≡ 8 → ⊥) → eqb k 9 ≡ false → (k ≡ 12 → ⊥) → bodyLength k ≡ slotSize k n
+  plain-size a b d c = rw (ne-eqb k 6 a, ne-eqb k 8 b, d, ne-eqb k 12 c)
+
+-- the digits of a Numeric or a Decimal
+digits-declared : (t : DataType) (n : ℕ) → Declared t n → valueKind t ≡ 6 → n % 256 ≡ precisionOf t
+digits-declared T.SmallInt n d e = absurd (omega (arith, e))
+digits-declared T.Int n d e = absurd (omega (arith, e))
+digits-declared T.BigInt n d e = absurd (omega (arith, e))
+digits-declared T.Real n d e = absurd (omega (arith, e))
+digits-declared T.DoublePrecision n d e = absurd (omega (arith, e))
+digits-declared (T.Numeric p s) n d e = d .0
+digits-declared (T.Decimal p s) n d e = d .0
+digits-declared T.Bool n d e = absurd (omega (arith, e))
+digits-declared (T.Char m) n d e = absurd (omega (arith, e))
+digits-declared (T.Character m) n d e = absurd (omega (arith, e))
+digits-declared (T.Varchar m) n d e = absurd (omega (arith, e))
+digits-declared T.Date n d e = absurd (omega (arith, e))
+digits-declared T.Time n d e = absurd (omega (arith, e))
+digits-declared (T.Bit m) n d e = absurd (omega (arith, e))
+digits-declared T.Timestamp n d e = absurd (omega (arith, e))
+
+-- ---- the bytes of a column's slot
+
+pub slot-bytes : {s : List ℕ} {at : ℕ} → HasType s at → {k n : ℕ} → k ≡ heldKind (columnKind (getD s at 0)) → n ≡ declaredAt s at → slotSize k n ≡ sizeOf (typeIn (columnRecordAt s at))
+slot-bytes {s} {at} h {k} {n} f g = rw (f, g) (by-record (columnRecordAt s at) refl)
+  where
+    by-record : (q : Record) → columnRecordAt s at ≡ q → slotSize (heldKind (columnKind (getD s at 0))) (declaredAt s at) ≡ sizeOf (typeIn q)
+    by-record (Column t next) e = rw (told s at e .0) (body-of [] 0 t (declaredAt s at) (told s at e .1) .size)
+    by-record (Refused u) e = absurd (h .type-there e)
 
 -- ---- the column's value at a place
 
@@ -217,63 +226,165 @@ module _ {s : List ℕ} {at : ℕ} {list : List ℕ} {from : ℕ} (r : Readable 
   abbrev v : DataValue
   v = valueIn (valueRecordAt list from)
 
-  known : getD list from 0 ≤ 13
-  known = cases 13 (getD list from 0) (λ l. absurd (r .value-there {e = BadValueList from} (rw (lt-ltb 13 (getD list from 0) l)))) (λ g. g)
+  abbrev k : ℕ
+  k = getD list from 0
+
+  abbrev n : ℕ
+  n = declaredAt s at
+
+  known : k ≤ 13
+  known = cases 13 k (λ l. absurd (r .value-there {e = BadValueList from} (rw (lt-ltb 13 k l)))) (λ g. g)
+
+  by-type : Body list (from + 1) t n
+  by-type = body-of list (from + 1) t n (told s at (read-at r .type-is) .1)
 
   -- its bytes in the offset table, by its kind
-  pub entry-bytes : {k z : ℕ} → k ≡ heldKind (columnKind (getD s at 0)) → z ≡ cond (eqb k 9) offsetWidth 0 → z ≡ cond (isVarlen t) offsetWidth 0
+  pub entry-bytes : {j z : ℕ} → j ≡ heldKind (columnKind (getD s at 0)) → z ≡ cond (eqb j 9) offsetWidth 0 → z ≡ cond (isVarlen t) offsetWidth 0
   entry-bytes e f = f ∙ ap (λ (m : ℕ). cond (eqb m 9) offsetWidth 0) (e ∙ told s at (read-at r .type-is) .0) ∙ ap (λ (b : Bool). cond b offsetWidth 0) (sym (varlen-kind t))
 
-  pub is-null : getD list from 0 ≡ 0 → isNull v ≡ true
+  pub is-null : k ≡ 0 → isNull v ≡ true
   is-null e = rw (value-body r, e) refl
 
-  pub is-value : (getD list from 0 ≡ 0 → ⊥) → isNull v ≡ false
-  is-value n = rw (value-body r) (some-value list (from + 1) (getD list from 0) (omega (arith, n)) known)
+  pub is-value : (k ≡ 0 → ⊥) → isNull v ≡ false
+  is-value z = rw (value-body r) (some-value list (from + 1) k (omega (arith, z)) known)
+
+  -- ---- what it adds to the row
+
+  module _ (i : ℕ) (area : List ℕ) where
+    pub null-payload : k ≡ 0 → Answer.Done 0 ≡ payloadIn i s at list from area
+    null-payload e = size-null i t v area (is-null e)
+
+    module _ (z : k ≡ 0 → ⊥) where
+      pub wrong-kind : (k ≡ heldKind (columnKind (getD s at 0)) → ⊥) → Answer.Refused (WrongKind i) ≡ payloadIn i s at list from area
+      wrong-kind w =
+          let e : matches t v ≡ false = rw (value-body r, kind-of list (from + 1) k (omega (arith, z)) known) (ne-eqb k (valueKind t) (λ f. w (f ∙ sym (told s at (read-at r .type-is) .0)))) in
+          size-refused i t v area (cell-wrong i t v area (is-value z) e)
+
+      module _ (h : k ≡ heldKind (columnKind (getD s at 0))) where
+        held : k ≡ valueKind t
+        held = h ∙ told s at (read-at r .type-is) .0
+
+        held-value : v ≡ valueAt (valueKind t) list (from + 1)
+        held-value = value-body r ∙ ap (λ (m : ℕ). valueAt m list (from + 1)) held
+
+        held-matches : matches t v ≡ true
+        held-matches = rw held-value (by-type .match)
+
+        held-suits : suitsAt k n list (from + 1) area ≡ accepted t v area
+        held-suits = ap (λ (m : ℕ). suitsAt m n list (from + 1) area) held ∙ by-type .suited area ∙ ap (λ (u : DataValue). accepted t u area) (sym held-value)
+
+        held-size : payloadLength k list (from + 1) ≡ cond (isVarlen t) (rangeOf v .length) 0
+        held-size = ap (λ (m : ℕ). payloadLength m list (from + 1)) held ∙ by-type .payload ∙ ap (λ (u : DataValue). cond (isVarlen t) (rangeOf u .length) 0) (sym held-value)
+
+        of-declared : n ≤ 65535 → Testable k n list (from + 1)
+        of-declared w =
+            record {
+              inside = body-within r;
+              word = w;
+              digits = λ e. rw (digits-declared t n (told s at (read-at r .type-is) .1) (sym held ∙ e)) (few-digits s at (read-at r .type-is));
+            }
+
+        pub testable : {m : ℕ} → m ≡ n → m ≤ 65535 → Testable k m list (from + 1)
+        testable {m} d w = subst (λ (j : ℕ). Testable k j list (from + 1)) (sym d) (of-declared (rw d at w))
+
+        -- what the test told
+        told-suits : {m : ℕ} {b c : Bool} → m ≡ n → b ≡ suitsAt k m list (from + 1) area → b ≡ c → accepted t v area ≡ c
+        told-suits d f e = sym held-suits ∙ ap (λ (j : ℕ). suitsAt k j list (from + 1) area) (sym d) ∙ sym f ∙ e
+
+        pub unsuitable : {m : ℕ} {b : Bool} → m ≡ n → b ≡ suitsAt k m list (from + 1) area → b ≡ false → Answer.Refused (Unsuitable i) ≡ payloadIn i s at list from area
+        unsuitable d f e = size-refused i t v area (cell-unsuited i t v area (is-value z) held-matches (told-suits d f e))
+
+        module _ {m : ℕ} {b : Bool} (d : m ≡ n) (f : b ≡ suitsAt k m list (from + 1) area) (e : b ≡ true) where
+          suited : accepted t v area ≡ true
+          suited = told-suits d f e
+
+          pub found-payload : Answer.Done (payloadLength k list (from + 1)) ≡ payloadIn i s at list from area
+          found-payload = rw held-size (by-shape (isVarlen t) refl)
+            where
+              by-shape : (o : Bool) → isVarlen t ≡ o → Answer.Done (cond o (rangeOf v .length) 0) ≡ payloadIn i s at list from area
+              by-shape true g = size-varchar i t v area (is-value z) held-matches suited g
+              by-shape false g = size-fixed i t v area (is-value z) held-matches suited g
+
+          pub found-short : length area ≤ rowLimit → payloadLength k list (from + 1) ≤ rowLimit
+          found-short l = rw held-size (by-shape (isVarlen t))
+            where
+              by-shape : (o : Bool) → cond o (rangeOf v .length) 0 ≤ rowLimit
+              by-shape true = payload-short t v area held-matches suited l
+              by-shape false = omega arith
+
+  -- ---- its stored form
 
   module _ (m : matches t v ≡ true) where
-    kind-is : getD list from 0 ≡ valueKind t
-    kind-is = matched-kind list (from + 1) t (getD list from 0) (rw (value-body r) at m)
+    kind-is : k ≡ valueKind t
+    kind-is = matched-kind list (from + 1) t k (rw (value-body r) at m)
 
     value-is : v ≡ valueAt (valueKind t) list (from + 1)
-    value-is = value-body r ∙ ap (λ (k : ℕ). valueAt k list (from + 1)) kind-is
+    value-is = value-body r ∙ ap (λ (j : ℕ). valueAt j list (from + 1)) kind-is
 
-    held-form : (area : List ℕ) → storedForm t (valueAt (valueKind t) list (from + 1)) (textOf area (valueAt (valueKind t) list (from + 1))) ≡ formIn s at list from area
-    held-form area = ap (λ (u : DataValue). storedForm t u (textOf area u)) (sym value-is)
-
-    pub is-varlen : getD list from 0 ≡ 9 → isVarlen t ≡ true
+    pub is-varlen : k ≡ 9 → isVarlen t ≡ true
     is-varlen e = varlen-kind t ∙ eq-eqb (valueKind t) 9 (sym kind-is ∙ e)
 
-    pub is-fixed : (getD list from 0 ≡ 9 → ⊥) → isVarlen t ≡ false
-    is-fixed n = varlen-kind t ∙ ne-eqb (valueKind t) 9 (λ e. n (kind-is ∙ e))
+    pub is-fixed : (k ≡ 9 → ⊥) → isVarlen t ≡ false
+    is-fixed z = varlen-kind t ∙ ne-eqb (valueKind t) 9 (λ e. z (kind-is ∙ e))
 
-    pub range-is : getD list from 0 ≡ 9 → rangeOf v ≡ rangeAt list (from + 1)
+    pub range-is : k ≡ 9 → rangeOf v ≡ rangeAt list (from + 1)
     range-is e = rw (value-body r, e) refl
 
-    pub varchar-form : getD list from 0 ≡ 9 → (area : List ℕ) → part area (rangeAt list (from + 1)) ≡ formIn s at list from area
+    pub varchar-form : k ≡ 9 → (area : List ℕ) → part area (rangeAt list (from + 1)) ≡ formIn s at list from area
     varchar-form e area = rw (value-body r, e) refl
 
-  -- ---- in a slot
+  module _ {area : List ℕ} {slot room : ℕ} (p : SlotReady t v area slot room) where
+    slot-form : slotStored k n list (from + 1) area ≡ formIn s at list from area
+    slot-form =
+        ap (λ (j : ℕ). slotStored j n list (from + 1) area) (kind-is (p .match)) ∙ by-type .form (p .fixed) area
+        ∙ ap (λ (u : DataValue). storedForm t u (textOf area u)) (sym (value-is (p .match)))
 
-  module _ {area : List ℕ} {slot n : ℕ} (p : SlotReady t v area slot n) where
-    module _ (a : getD list from 0 ≡ 6 → ⊥) (b : getD list from 0 ≡ 8 → ⊥) (c : getD list from 0 ≡ 12 → ⊥) where
-      by-body : Body list (from + 1) t
-      by-body = let k = kind-is (p .match) in body-form list (from + 1) t (λ e. a (k ∙ e)) (λ e. b (k ∙ e)) (λ e. c (k ∙ e)) (p .fixed)
+    slot-suits : suitsAt k n list (from + 1) area ≡ true
+    slot-suits =
+        ap (λ (j : ℕ). suitsAt j n list (from + 1) area) (kind-is (p .match)) ∙ by-type .suited area
+        ∙ ap (λ (u : DataValue). accepted t u area) (sym (value-is (p .match))) ∙ p .suited
 
-      pub body-stored : bodyStored (getD list from 0) list (from + 1) ≡ formIn s at list from area
-      body-stored = ap (λ (k : ℕ). bodyStored k list (from + 1)) (kind-is (p .match)) ∙ by-body .form (textOf area (valueAt (valueKind t) list (from + 1))) ∙ held-form (p .match) area
+    slot-room : slot + slotSize k n ≤ room
+    slot-room = rw (kind-is (p .match), by-type .size) (p .room)
 
-      pub body-room : slot + bodyLength (getD list from 0) ≤ n
-      body-room = rw (kind-is (p .match), by-body .size) (p .room)
+    module _ (e : k ≡ 6) where
+      pub number-ready : NumberReady (n % 256) (numericAt list (from + 1)) slot room
+      number-ready =
+          let d = digits-declared t n (told s at (read-at r .type-is) .1) (sym (kind-is (p .match)) ∙ e) in
+          record {
+            few = rw d (p .digits);
+            below = fits-below (T.Numeric (n % 256) (n / 256)) _ _ (ap (λ (j : ℕ). suitsAt j n list (from + 1) area) (sym e) ∙ slot-suits);
+            room = subst (λ (j : ℕ). slot + slotSize j n ≤ room) e slot-room;
+          }
 
-    module _ (e : getD list from 0 ≡ 8) where
-      by-char : Blanks list (from + 1) t (declaredAt s at)
-      by-char = char-form list (from + 1) t (declaredAt s at) (sym (kind-is (p .match)) ∙ e) (told s at (read-at r .type-is) .1)
+      pub number-stored : numberStored (n % 256) (numericAt list (from + 1)) ≡ formIn s at list from area
+      number-stored = ap (λ (j : ℕ). slotStored j n list (from + 1) area) (sym e) ∙ slot-form
 
-      pub char-stored : blankFilled (declaredAt s at) (part area (rangeAt list (from + 1))) ≡ formIn s at list from area
-      char-stored = ap (λ (q : TextRange). blankFilled (declaredAt s at) (part area q)) (sym (by-char .range)) ∙ by-char .form (textOf area (valueAt (valueKind t) list (from + 1))) ∙ held-form (p .match) area
+    module _ (e : k ≡ 8) where
+      pub char-stored : blankFilled n (part area (rangeAt list (from + 1))) ≡ formIn s at list from area
+      char-stored = ap (λ (j : ℕ). slotStored j n list (from + 1) area) (sym e) ∙ slot-form
 
-      pub char-room : slot + declaredAt s at ≤ n
-      char-room = rw (by-char .size) (p .room)
+      pub char-room : slot + n ≤ room
+      char-room = subst (λ (j : ℕ). slot + slotSize j n ≤ room) e slot-room
 
-      pub char-suits : textSuits (declaredAt s at) (rangeAt list (from + 1)) area ≡ true
-      char-suits = sym (by-char .suited area) ∙ (rw (value-is (p .match)) at (p .suited))
+      pub char-suits : textSuits n (rangeAt list (from + 1)) area ≡ true
+      char-suits = ap (λ (j : ℕ). suitsAt j n list (from + 1) area) (sym e) ∙ slot-suits
+
+    module _ (e : k ≡ 12) where
+      pub bit-stored : bitsStored n (part area (rangeAt list (from + 1))) ≡ formIn s at list from area
+      bit-stored = ap (λ (j : ℕ). slotStored j n list (from + 1) area) (sym e) ∙ slot-form
+
+      pub bit-room : slot + bytesFor n ≤ room
+      bit-room = subst (λ (j : ℕ). slot + slotSize j n ≤ room) e slot-room
+
+      pub bit-suits : bitsSuit n (rangeAt list (from + 1)) area ≡ true
+      bit-suits = ap (λ (j : ℕ). suitsAt j n list (from + 1) area) (sym e) ∙ slot-suits
+
+    module _ (a : k ≡ 6 → ⊥) (b : k ≡ 8 → ⊥) (c : k ≡ 12 → ⊥) where
+      pub body-stored : bodyStored k list (from + 1) ≡ formIn s at list from area
+      body-stored = plain-stored k n list (from + 1) area a b c ∙ slot-form
+
+      pub body-room : slot + bodyLength k ≤ room
+      body-room =
+          let d : eqb k 9 ≡ false = ap (λ (j : ℕ). eqb j 9) (kind-is (p .match)) ∙ sym (varlen-kind t) ∙ p .fixed in
+          rw (plain-size k n a b d c) slot-room

@@ -1,40 +1,34 @@
 -- A column's value by the bytes of both records: what the kinds and the body tell of it.
-use Prim.Native.Nat.{ℕ, _+_, _-_, _≤_, _<_}
+use Prim.Native.Nat.{ℕ, _+_, _*_, _-_, _/_, _%_, _≤_, _<_}
 use mathlib.Core.Path.{_≡_, refl, sym, ap, _∙_}
-use mathlib.Core.Bool.{Bool, true, false, cond, false≢true}
+use mathlib.Core.Bool.{Bool, true, false, cond, _&&_}
 use mathlib.Core.List.{List}
 use native.Mathlib.Omega.{arith}
-use borrow.Author.Tests.{eqb-true, eqb-false, le-leb, lt-leb}
-use lib.Dec.{eqb, ltb}
+use borrow.Author.Tests.{eqb-true, eqb-false, le-leb, lt-leb, leb-true, ltb-false}
+use lib.Dec.{eqb, leb, ltb}
 use lib.ListN.{length, getD, take, drop, length-drop}
 use lib.Seq.{length-take-le}
 use Rattle.error.specs.declared.Refusal.the-variants.{BadRecord, BadSchema}
-use Rattle.error.specs.declared.Answer.the-variants as Answer
-use Rattle.laws.proofs.Truths.{by-cond}
-use Rattle.row_format.specs.Places.{rowLimit}
+use Rattle.laws.proofs.Bytes.{from-add, from-one}
+use Rattle.laws.proofs.Truths.{by-cond, and-left, and-right}
 use Rattle.text.specs.Rfc3629.{isText}
+use Rattle.bit_utils.specs.Bits.{bytesFor}
 use Rattle.datatype.specs.declared.DataType.{DataType}
 use Rattle.datatype.specs.declared.DataType.the-variants as T
 use Rattle.datatype.specs.declared.Record.{Record}
 use Rattle.datatype.specs.declared.Record.the-variants.{Column, Refused}
-use Rattle.datatype.specs.Types.{isVarlen}
 use Rattle.datatype.specs.Schema.{Kind, unknown, plain, sized, digits, columnKind, goodDigits, columnRecordOf, columnRecordAt}
 use Rattle.datatype.specs.InnerSteps.{plainSize, typeIn}
 use Rattle.datatype.proofs.KindTable.{Bodied, no, word, pair, bodied}
 use Rattle.datatype.proofs.Plain.{plain-record}
 use Rattle.value.specs.declared.TextRange.{TextRange}
-use Rattle.value.specs.declared.DataValue.{DataValue}
-use Rattle.value.specs.Kinds.{valueKind, matches}
-use Rattle.value.specs.Ranges.{noText, inArea, rangeOf}
+use Rattle.value.specs.Kinds.{valueKind}
 use Rattle.value.specs.InnerKinds.{heldKind}
 use Rattle.value_list.specs.declared.ValueRecord.{ValueRecord}
 use Rattle.value_list.specs.declared.ValueRecord.the-variants as Value
 use Rattle.value_list.specs.Records.{bodyLength, numberAt, valueAt, recordAt as valueRecordAt}
 use Rattle.value_list.proofs.Records.{Given, given}
-use Rattle.stored_form.specs.Write.{accepted}
-use Rattle.record_slot.specs.Stored.{isNull, cellIn}
-use Rattle.record_slot.specs.InnerSteps.{Readable, ReadAt, valueIn, afterColumn, givenAt, declaredAt, textSuits, suitsAt, payloadLength, payloadAnswer, payloadIn}
-use Rattle.record_slot.proofs.Tests.{size-null, size-fixed, size-varchar, payload-short}
+use Rattle.record_slot.specs.InnerSteps.{HasType, Readable, ReadAt, valueIn, afterColumn, givenAt, declaredAt, textSuits, bitsSuit}
 
 -- ---- the records at two places
 
@@ -62,6 +56,9 @@ module _ (s : List ℕ) (at : ℕ) where
       by-size false f = ap placeIn (sym (plain-record s at (eqb-false _ 0 f)) ∙ e)
 
 module _ {s : List ℕ} {at : ℕ} {list : List ℕ} {from : ℕ} (r : Readable s at list from) where
+  pub has-type : HasType s at
+  has-type = record { column = r .column; type-there = λ e. r .type-there e }
+
   type-read : (q : Record) → columnRecordAt s at ≡ q → columnRecordAt s at ≡ Column (typeIn (columnRecordAt s at)) (afterColumn s at)
   type-read (Column t next) e = rw (after-is s at e, e)
   type-read (Refused u) e = absurd (r .type-there e)
@@ -83,7 +80,7 @@ module _ {s : List ℕ} {at : ℕ} {list : List ℕ} {from : ℕ} (r : Readable 
   pub body-within : from + 1 + bodyLength (getD list from 0) ≤ length list
   body-within = body-given .within
 
--- ---- a column's kind tells the kind of its values, and the bytes after it what a text column was declared with
+-- ---- a column's kind tells the kind of its values, and the two bytes after it what it was declared with
 
 abbrev pub Declared : DataType → ℕ → Type 0
 Declared T.SmallInt n = Unit {0}
@@ -91,8 +88,8 @@ Declared T.Int n = Unit {0}
 Declared T.BigInt n = Unit {0}
 Declared T.Real n = Unit {0}
 Declared T.DoublePrecision n = Unit {0}
-Declared (T.Numeric p s) n = Unit {0}
-Declared (T.Decimal p s) n = Unit {0}
+Declared (T.Numeric p s) n = (n % 256 ≡ p) × (n / 256 ≡ s)
+Declared (T.Decimal p s) n = (n % 256 ≡ p) × (n / 256 ≡ s)
 Declared T.Bool n = Unit {0}
 Declared (T.Char m) n = m ≡ n
 Declared (T.Character m) n = m ≡ n
@@ -106,7 +103,7 @@ abbrev Telling : Kind → Type 0
 Telling unknown = Unit {0}
 Telling (plain t) = (n : ℕ) → Declared t n
 Telling (sized t) = (n : ℕ) → (valueKind (t 0) ≡ valueKind (t n)) × Declared (t n) n
-Telling (digits t) = (p s n : ℕ) → (valueKind (t 0 0) ≡ valueKind (t p s)) × Declared (t p s) n
+Telling (digits t) = (p s n : ℕ) → n % 256 ≡ p → n / 256 ≡ s → (valueKind (t 0 0) ≡ valueKind (t p s)) × Declared (t p s) n
 
 either : (b : Bool) (x y : Kind) → Telling x → Telling y → Telling (cond b x y)
 either true x y p q = p
@@ -119,8 +116,8 @@ telling k =
     (either (eqb k 3) _ _ (λ n. tt)
     (either (eqb k 4) _ _ (λ n. tt)
     (either (eqb k 5) _ _ (λ n. tt)
-    (either (eqb k 6) _ _ (λ p s n. (refl, tt))
-    (either (eqb k 7) _ _ (λ p s n. (refl, tt))
+    (either (eqb k 6) _ _ (λ p s n a b. (refl, (a, b)))
+    (either (eqb k 7) _ _ (λ p s n a b. (refl, (a, b)))
     (either (eqb k 8) _ _ (λ n. tt)
     (either (eqb k 9) _ _ (λ n. (refl, refl))
     (either (eqb k 10) _ _ (λ n. (refl, refl))
@@ -134,6 +131,9 @@ abbrev Told : ℕ → ℕ → Record → Type 0
 Told h n (Column t next) = (h ≡ valueKind t) × Declared t n
 Told h n (Refused e) = Unit {0}
 
+two-bytes : (s : List ℕ) (at : ℕ) → at + 2 ≤ length s → numberAt 2 s at ≡ getD s at 0 + 256 * getD s (at + 1) 0
+two-bytes s at h = from-add 1 1 at s (omega arith) ∙ rw (from-one at s (omega arith), from-one (at + 1) s (omega arith))
+
 told-of : (q : Kind) → Telling q → (s : List ℕ) (at : ℕ) → Told (heldKind q) (declaredAt s at) (columnRecordOf q s at)
 told-of unknown f s at = tt
 told-of (plain t) f s at = (refl, f (declaredAt s at))
@@ -142,16 +142,30 @@ told-of (sized t) f s at = by-room (ltb (length s) (at + 3))
     by-room : (b : Bool) → Told (valueKind (t 0)) (cond b 0 (numberAt 2 s (at + 1))) (cond b (Refused (BadRecord at)) (Column (t (numberAt 2 s (at + 1))) (at + 3)))
     by-room true = tt
     by-room false = f (numberAt 2 s (at + 1))
-told-of (digits t) f s at =
-    let p : ℕ = getD s (at + 1) 0 in
-    let z : ℕ = getD s (at + 2) 0 in
-    by-cond (Told (valueKind (t 0 0)) (declaredAt s at)) (ltb (length s) (at + 3)) (Refused (BadRecord at)) _ (λ g. tt)
-    (λ g. by-cond (Told (valueKind (t 0 0)) (declaredAt s at)) (goodDigits p z) (Column (t p z) (at + 3)) (Refused (BadSchema at)) (λ u. f p z (declaredAt s at)) (λ u. tt))
+told-of (digits t) f s at = by-room (ltb (length s) (at + 3)) refl
+  where
+    p : ℕ
+    p = getD s (at + 1) 0
+
+    z : ℕ
+    z = getD s (at + 2) 0
+
+    by-room : (b : Bool) → ltb (length s) (at + 3) ≡ b
+        → Told (valueKind (t 0 0)) (cond b 0 (numberAt 2 s (at + 1))) (cond b (Refused (BadRecord at)) (cond (goodDigits p z) (Column (t p z) (at + 3)) (Refused (BadSchema at))))
+    by-room true e = tt
+    by-room false e =
+        by-cond (Told (valueKind (t 0 0)) (numberAt 2 s (at + 1))) (goodDigits p z) (Column (t p z) (at + 3)) (Refused (BadSchema at))
+        (λ g.
+        let m : at + 1 + 1 ≡ at + 2 = omega arith in
+        let n : numberAt 2 s (at + 1) ≡ p + 256 * z = rw m at (two-bytes s (at + 1) (omega (arith, ltb-false (length s) (at + 3) e))) in
+        let l : p ≤ 38 = leb-true p 38 (and-right (leb 1 p) (leb p 38) (and-left (leb 1 p && leb p 38) (leb z p) g)) in
+        f p z (numberAt 2 s (at + 1)) (rw n (omega arith)) (rw n (omega arith)))
+        (λ g. tt)
 
 pub told : (s : List ℕ) (at : ℕ) {t : DataType} {next : ℕ} → columnRecordAt s at ≡ Column t next → (heldKind (columnKind (getD s at 0)) ≡ valueKind t) × Declared t (declaredAt s at)
 told s at e = rw e at (told-of (columnKind (getD s at 0)) (telling (getD s at 0)) s at)
 
--- ---- the text of a range
+-- ---- the text or the bits of a range
 
 module _ (n a b : ℕ) (area : List ℕ) where
   abbrev range : TextRange
@@ -159,6 +173,9 @@ module _ (n a b : ℕ) (area : List ℕ) where
 
   pub text-outside : length area < a + b → false ≡ textSuits n range area
   text-outside h = rw (lt-leb (a + b) (length area) h)
+
+  pub bits-outside : length area < a + b → false ≡ bitsSuit n range area
+  bits-outside h = rw (lt-leb (a + b) (length area) h)
 
   module _ (h : a + b ≤ length area) where
     length-range : length (take b (drop a area)) ≡ b
@@ -172,97 +189,5 @@ module _ (n a b : ℕ) (area : List ℕ) where
         let m : a + b - a ≡ b = omega arith in
         rw (le-leb (a + b) (length area) h, length-range, le-leb b n l) (rw m at e)
 
--- ---- a value of the kind that a type holds
-
-module _ (list : List ℕ) (at : ℕ) where
-  abbrev body : DataType → DataValue
-  body t = valueAt (valueKind t) list at
-
-  record Body (t : DataType) : Type 0 where
-    match : matches t (body t) ≡ true
-    value : isNull (body t) ≡ false
-    payload : payloadLength (valueKind t) list at ≡ cond (isVarlen t) (rangeOf (body t) .length) 0
-
-  body-of : (t : DataType) → Body t
-  body-of T.SmallInt = record { match = refl; value = refl; payload = refl }
-  body-of T.Int = record { match = refl; value = refl; payload = refl }
-  body-of T.BigInt = record { match = refl; value = refl; payload = refl }
-  body-of T.Real = record { match = refl; value = refl; payload = refl }
-  body-of T.DoublePrecision = record { match = refl; value = refl; payload = refl }
-  body-of (T.Numeric p s) = record { match = refl; value = refl; payload = refl }
-  body-of (T.Decimal p s) = record { match = refl; value = refl; payload = refl }
-  body-of T.Bool = record { match = refl; value = refl; payload = refl }
-  body-of (T.Char n) = record { match = refl; value = refl; payload = refl }
-  body-of (T.Character n) = record { match = refl; value = refl; payload = refl }
-  body-of (T.Varchar n) = record { match = refl; value = refl; payload = refl }
-  body-of T.Date = record { match = refl; value = refl; payload = refl }
-  body-of T.Time = record { match = refl; value = refl; payload = refl }
-  body-of (T.Bit n) = record { match = refl; value = refl; payload = refl }
-  body-of T.Timestamp = record { match = refl; value = refl; payload = refl }
-
-  module _ (area : List ℕ) where
-    -- no range lies in every area
-    in-any : {b : Bool} → b ≡ true → cond (inArea (length area) noText) b false ≡ true
-    in-any e = rw (le-leb 0 (length area) (omega arith)) e
-
-    suits-accepted : (t : DataType) (n : ℕ) → Declared t n → suitsAt (valueKind t) n list at area ≡ true → accepted t (body t) area ≡ true
-    suits-accepted T.SmallInt n d e = in-any refl
-    suits-accepted T.Int n d e = in-any refl
-    suits-accepted T.BigInt n d e = in-any refl
-    suits-accepted T.Real n d e = in-any refl
-    suits-accepted T.DoublePrecision n d e = in-any refl
-    suits-accepted (T.Numeric p s) n d e = absurd (false≢true e)
-    suits-accepted (T.Decimal p s) n d e = absurd (false≢true e)
-    suits-accepted T.Bool n d e = in-any e
-    suits-accepted (T.Char m) n d e = rw d e
-    suits-accepted (T.Character m) n d e = rw d e
-    suits-accepted (T.Varchar m) n d e = rw d e
-    suits-accepted T.Date n d e = in-any e
-    suits-accepted T.Time n d e = in-any e
-    suits-accepted (T.Bit m) n d e = absurd (false≢true e)
-    suits-accepted T.Timestamp n d e = in-any e
-
-    module _ (i : ℕ) (t : DataType) (a : accepted t (body t) area ≡ true) where
-      held-payload : Answer.Done (payloadLength (valueKind t) list at) ≡ payloadAnswer t (cellIn i t (body t) area)
-      held-payload = rw (body-of t .payload) (by-shape (isVarlen t) refl)
-        where
-          by-shape : (b : Bool) → isVarlen t ≡ b → Answer.Done (cond b (rangeOf (body t) .length) 0) ≡ payloadAnswer t (cellIn i t (body t) area)
-          by-shape true f = size-varchar i t (body t) area (body-of t .value) (body-of t .match) a f
-          by-shape false f = size-fixed i t (body t) area (body-of t .value) (body-of t .match) a f
-
-      held-short : length area ≤ rowLimit → payloadLength (valueKind t) list at ≤ rowLimit
-      held-short h = rw (body-of t .payload) (by-shape (isVarlen t))
-        where
-          by-shape : (b : Bool) → cond b (rangeOf (body t) .length) 0 ≤ rowLimit
-          by-shape true = payload-short t (body t) area (body-of t .match) a h
-          by-shape false = omega arith
-
--- ---- the payload by the records' bytes
-
-module _ {s : List ℕ} {at : ℕ} {list : List ℕ} {from : ℕ} (r : Readable s at list from) (i : ℕ) (area : List ℕ) where
-  abbrev t : DataType
-  t = typeIn (columnRecordAt s at)
-
-  pub null-payload : getD list from 0 ≡ 0 → Answer.Done 0 ≡ payloadIn i s at list from area
-  null-payload e = size-null i t (valueIn (valueRecordAt list from)) area (rw (value-body r, e) refl)
-
-  module _ {k : ℕ} (k-is : k ≡ getD list from 0) (h : k ≡ heldKind (columnKind (getD s at 0))) where
-    kind-held : getD list from 0 ≡ valueKind t
-    kind-held = sym k-is ∙ h ∙ told s at (read-at r .type-is) .0
-
-    held-value : valueIn (valueRecordAt list from) ≡ valueAt (valueKind t) list (from + 1)
-    held-value = value-body r ∙ ap (λ (m : ℕ). valueAt m list (from + 1)) kind-held
-
-    module _ (f : suitsAt k (declaredAt s at) list (from + 1) area ≡ true) where
-      accepted-is : accepted t (valueAt (valueKind t) list (from + 1)) area ≡ true
-      accepted-is = suits-accepted list (from + 1) area t (declaredAt s at) (told s at (read-at r .type-is) .1) (ap (λ (m : ℕ). suitsAt m (declaredAt s at) list (from + 1) area) (sym kind-held ∙ sym k-is) ∙ f)
-
-      pub found-payload : Answer.Done (payloadLength k list (from + 1)) ≡ payloadIn i s at list from area
-      found-payload = rw (held-value, k-is, kind-held) (held-payload list (from + 1) area i t accepted-is)
-
-      pub found-short : length area ≤ rowLimit → payloadLength k list (from + 1) ≤ rowLimit
-      found-short l = rw (k-is, kind-held) (held-short list (from + 1) area i t accepted-is l)
-
-  -- read as a type and a value
-  pub read-payload : {u : DataType} {v : DataValue} {m n : ℕ} → columnRecordAt s at ≡ Column u m → valueRecordAt list from ≡ Value.Value v n → payloadAnswer u (cellIn i u v area) ≡ payloadIn i s at list from area
-  read-payload e f = rw (e, f)
+    pub bits-told : {m : ℕ} {t : Bool} → m ≡ bytesFor n → t ≡ eqb b m → t ≡ bitsSuit n range area
+    bits-told e f = rw (le-leb (a + b) (length area) h, length-range) (rw e at f)

@@ -1,5 +1,5 @@
 -- For the proofs: a column's record and a value's, by their bytes.
-use Prim.Native.Nat.{ℕ, _+_, _-_, _≤_, _<_}
+use Prim.Native.Nat.{ℕ, _+_, _-_, _^_, _/_, _%_, _≤_, _<_}
 use mathlib.Core.Bool.{Bool, true, false, cond}
 use mathlib.Core.List.{List, [], _∷_, _++_}
 use mathlib.Core.Path.{_≡_}
@@ -14,25 +14,34 @@ use Rattle.error.specs.Result.{Result, ok, refused}
 use Rattle.laws.specs.Bytes.{toLe}
 use Rattle.row_format.specs.Places.{rowLimit}
 use Rattle.row_format.specs.Table.{Cell, bytes}
+use Rattle.bit_utils.specs.Bits.{bytesFor, packBits, unpackBits}
+use Rattle.numeric.specs.Packed.{encodeBcd}
 use Rattle.datatype.specs.declared.DataType.{DataType}
+use Rattle.datatype.specs.declared.DataType.the-variants as T
 use Rattle.datatype.specs.declared.Record.the-variants as Column
 use Rattle.datatype.specs.Types.{sizeOf, isVarlen, precisionOf}
 use Rattle.datatype.specs.Schema.{columnKind, columnRecordAt}
 use Rattle.datatype.specs.InnerSteps.{plainSize, typeIn}
 use Rattle.temporal.specs.Ranges.{isDate, isTime, isTimestamp}
 use Rattle.value.specs.declared.TextRange.{TextRange}
+use Rattle.value.specs.declared.NumericValue.{NumericValue}
 use Rattle.value.specs.declared.DataValue.{DataValue}
 use Rattle.value.specs.declared.DataValue.the-variants.{Null}
 use Rattle.value.specs.Kinds.{matches}
 use Rattle.value.specs.Ranges.{inArea, part, textOf}
 use Rattle.value_list.specs.declared.ValueRecord.{ValueRecord}
 use Rattle.value_list.specs.declared.ValueRecord.the-variants as Value
-use Rattle.value_list.specs.Records.{bodyLength, numberAt, rangeAt, recordAt as valueRecordAt}
-use Rattle.stored_form.specs.Write.{fitsText, accepted as holds, storedForm}
-use Rattle.record_slot.specs.declared.Given.{Given}
+use Rattle.value_list.specs.Records.{bodyLength, numberAt, numericAt, rangeAt, recordAt as valueRecordAt}
+use Rattle.stored_form.specs.Number.{isNegative, magnitude}
+use Rattle.stored_form.specs.Write.{fitsDigits, fitsText, accepted as holds, storedForm}
 use Rattle.record_slot.specs.Stored.{cellIn}
 
 -- ---- the records
+
+-- a place at which there is a column's record
+pub record HasType (s : List ℕ) (at : ℕ) : Type 0 where
+  pub column : at < length s
+  pub type-there : {e : Refusal} → columnRecordAt s at ≡ Column.Refused e → ⊥
 
 -- two places at which there are records
 pub record Readable (s : List ℕ) (at : ℕ) (list : List ℕ) (from : ℕ) : Type 0 where
@@ -41,9 +50,16 @@ pub record Readable (s : List ℕ) (at : ℕ) (list : List ℕ) (from : ℕ) : T
   pub value : from < length list
   pub value-there : {e : Refusal} → valueRecordAt list from ≡ Value.Refused e → ⊥
 
+-- a column's type and the value that is given for it, with the places after their records
+pub record Given : Type 0 where
+  pub ty : DataType
+  pub value : DataValue
+  pub next-type : ℕ
+  pub next-value : ℕ
+
 pub record ReadAt (s : List ℕ) (at : ℕ) (list : List ℕ) (from : ℕ) (g : Given) : Type 0 where
-  pub type-is : columnRecordAt s at ≡ Column.Column (g .ty) (g .«next_type»)
-  pub value-is : valueRecordAt list from ≡ Value.Value (g .value) (g .«next_value»)
+  pub type-is : columnRecordAt s at ≡ Column.Column (g .ty) (g .next-type)
+  pub value-is : valueRecordAt list from ≡ Value.Value (g .value) (g .next-value)
 
 -- ---- the same by the bytes of the records
 
@@ -58,26 +74,39 @@ afterColumn s at = cond (eqb (plainSize (columnKind (getD s at 0))) 0) (at + 3) 
 
 -- the records at two places, where there are any
 abbrev pub givenAt : List ℕ → ℕ → List ℕ → ℕ → Given
-givenAt s at list from = record { ty = typeIn (columnRecordAt s at); value = valueIn (valueRecordAt list from); «next_type» = afterColumn s at; «next_value» = from + 1 + bodyLength (getD list from 0) }
+givenAt s at list from = record { ty = typeIn (columnRecordAt s at); value = valueIn (valueRecordAt list from); next-type = afterColumn s at; next-value = from + 1 + bodyLength (getD list from 0) }
 
+-- the two bytes after the kind: a length, or precision and scale
 abbrev pub declaredAt : List ℕ → ℕ → ℕ
 declaredAt s at = cond (ltb (length s) (at + 3)) 0 (numberAt 2 s (at + 1))
 
 abbrev pub textSuits : ℕ → TextRange → List ℕ → Bool
 textSuits n r area = cond (inArea (length area) r) (fitsText n (part area r)) false
 
--- whether a value of kind k, whose body stands at a place of the list, suits the types of that kind; false for Numeric and Bit
+abbrev pub bitsSuit : ℕ → TextRange → List ℕ → Bool
+bitsSuit n r area = cond (inArea (length area) r) (eqb (length (part area r)) (bytesFor n)) false
+
+abbrev pub numberSuits : ℕ → NumericValue → Bool
+numberSuits n x = fitsDigits (T.Numeric (n % 256) (n / 256)) (x .scale) (magnitude (x .high) (x .low))
+
+-- whether a value of kind k, whose body stands at a place of the list, suits a type of that kind which was declared with n
 abbrev pub suitsAt : ℕ → ℕ → List ℕ → ℕ → List ℕ → Bool
 suitsAt k n list at area =
-    cond (eqb k 6) false
+    cond (eqb k 6) (numberSuits n (numericAt list at))
     (cond (eqb k 7) (leb (getD list at 0) 1)
     (cond (eqb k 8) (textSuits n (rangeAt list at) area)
     (cond (eqb k 9) (textSuits n (rangeAt list at) area)
     (cond (eqb k 10) (isDate (toZ w32 (numberAt 4 list at)))
     (cond (eqb k 11) (isTime (toZ w64 (numberAt 8 list at)))
-    (cond (eqb k 12) false
+    (cond (eqb k 12) (bitsSuit n (rangeAt list at) area)
     (cond (eqb k 13) (isTimestamp (toZ w64 (numberAt 8 list at)))
     true)))))))
+
+-- a body that can be tested
+pub record Testable (k n : ℕ) (list : List ℕ) (at : ℕ) : Type 0 where
+  pub inside : at + bodyLength k ≤ length list
+  pub word : n ≤ 65535
+  pub digits : k ≡ 6 → n % 256 ≤ 38
 
 abbrev pub payloadLength : ℕ → List ℕ → ℕ → ℕ
 payloadLength k list at = cond (eqb k 9) (numberAt 2 list (at + 2)) 0
@@ -105,6 +134,15 @@ Short (Answer.Refused e) = Unit {0}
 abbrev pub formIn : List ℕ → ℕ → List ℕ → ℕ → List ℕ → List ℕ
 formIn s at list from area = storedForm (typeIn (columnRecordAt s at)) (valueIn (valueRecordAt list from)) (textOf area (valueIn (valueRecordAt list from)))
 
+-- the bytes of a slot for values of kind k, declared with n
+abbrev pub slotSize : ℕ → ℕ → ℕ
+slotSize k n =
+    cond (eqb k 6) ((n % 256 + 2) / 2)
+    (cond (eqb k 8) n
+    (cond (eqb k 9) 0
+    (cond (eqb k 12) (bytesFor n)
+    (bodyLength k))))
+
 -- that of a value of kind k whose body stands at a place: other kinds than Numeric, Char, Varchar and Bit
 abbrev pub bodyStored : ℕ → List ℕ → ℕ → List ℕ
 bodyStored k list at =
@@ -122,6 +160,20 @@ bodyStored k list at =
 abbrev pub blankFilled : ℕ → List ℕ → List ℕ
 blankFilled n x = x ++ replicate (n - length x) 0x20
 
+abbrev pub numberStored : ℕ → NumericValue → List ℕ
+numberStored p x = encodeBcd p (isNegative (x .high)) (magnitude (x .high) (x .low))
+
+abbrev pub bitsStored : ℕ → List ℕ → List ℕ
+bitsStored n x = packBits n (unpackBits n x)
+
+-- that of any value but a Varchar
+abbrev pub slotStored : ℕ → ℕ → List ℕ → ℕ → List ℕ → List ℕ
+slotStored k n list at area =
+    cond (eqb k 6) (numberStored (n % 256) (numericAt list at))
+    (cond (eqb k 8) (blankFilled n (part area (rangeAt list at)))
+    (cond (eqb k 12) (bitsStored n (part area (rangeAt list at)))
+    (bodyStored k list at)))
+
 -- a value that is stored in a slot, of n bytes
 pub record SlotReady (t : DataType) (v : DataValue) (area : List ℕ) (slot n : ℕ) : Type 0 where
   pub fixed : isVarlen t ≡ false
@@ -129,3 +181,9 @@ pub record SlotReady (t : DataType) (v : DataValue) (area : List ℕ) (slot n : 
   pub match : matches t v ≡ true
   pub suited : holds t v area ≡ true
   pub room : slot + sizeOf t ≤ n
+
+-- a number of at most p digits whose packed form is stored in n bytes
+pub record NumberReady (p : ℕ) (x : NumericValue) (slot n : ℕ) : Type 0 where
+  pub few : p ≤ 38
+  pub below : magnitude (x .high) (x .low) < 10 ^ p
+  pub room : slot + (p + 2) / 2 ≤ n

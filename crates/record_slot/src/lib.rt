@@ -1,85 +1,26 @@
 // A value record as its column takes it: whether the column holds the value, and the stored form in the column's slot, by kinds and bytes.
-use datatype::DataType;
-use datatype::Record;
-use datatype::schema_kinds;
 use error::Answer;
 use error::Refusal;
-use value::DataValue;
 use value::value_kinds;
-use value_list::ValueRecord;
 ghost use mathlib.Core.Path.{_≡_};
-ghost use Prim.Native.Nat.{_+_, _≤_, _<_};
-ghost use mathlib.Core.Bool.{true, false, cond};
+ghost use Prim.Native.Nat.{_+_, _%_, _≤_, _<_};
+ghost use mathlib.Core.Bool.{true, cond};
 ghost use lib.Dec.{eqb};
 ghost use lib.ListN.{length};
 ghost use lib.Seq.{sets};
-ghost use Rattle.error.specs.declared.Answer.the-variants.{Done};
 ghost use Rattle.row_format.specs.Places.{offsetWidth, rowLimit};
-ghost use Rattle.datatype.specs.Types.{sizeOf, precisionOf};
+ghost use Rattle.bit_utils.specs.Bits.{bytesFor};
+ghost use Rattle.datatype.specs.Types.{sizeOf};
 ghost use Rattle.datatype.specs.Schema.{columnRecordAt};
 ghost use Rattle.datatype.specs.InnerSteps.{typeIn};
 ghost use Rattle.value.specs.Ranges.{part};
-ghost use Rattle.value_list.specs.Records.{bodyLength, rangeAt, recordAt as valueRecordAt};
-ghost use Rattle.record_slot.specs.Stored.{cellIn};
-ghost use Rattle.record_slot.specs.InnerSteps.{Readable, ReadAt, declaredAt, afterColumn, textSuits, suitsAt, payloadLength, payloadIn, payloadAnswer, Short, valueIn, formIn, bodyStored, blankFilled, SlotReady};
+ghost use Rattle.value_list.specs.Records.{bodyLength, numericAt, rangeAt, recordAt as valueRecordAt};
+ghost use Rattle.record_slot.specs.InnerSteps.{HasType, Readable, declaredAt, afterColumn, textSuits, bitsSuit, numberSuits, suitsAt, Testable, payloadLength, payloadIn, Short, valueIn, formIn, bodyStored, blankFilled, numberStored, bitsStored, SlotReady, NumberReady};
 
-// A column's type and the value that is given for it, with the places after their records.
-pub struct Given {
-    pub ty: DataType,
-    pub value: DataValue,
-    pub next_type: usize,
-    pub next_value: usize,
-}
-
-// Schema and list were checked, so that neither record is refused here.
-fn given_at(schema: &[u8], at: usize, values: &[u8], from: usize) -> Given
-    requires { ⌜ Readable (now schema) at (now values) from ⌝ }
-    ensures { λ r. ⌜ ReadAt (now (schema .entry)) at (now (values .entry)) from r ⌝ }
-{
-    let nothing = Given {
-        ty: DataType::Bool,
-        value: DataValue::Null,
-        next_type: at,
-        next_value: from,
-    };
-    match datatype::record_at(schema, at) {
-        Record::Refused(_) => nothing,
-        Record::Column(ty, next_type) => match value_list::value_record_at(values, from) {
-            ValueRecord::Refused(_) => nothing,
-            ValueRecord::Value(value, next_value) => Given {
-                ty,
-                value,
-                next_type,
-                next_value,
-            },
-        },
-    }
-}
-
-// The bytes that a column adds to the minimum, or why its value is refused.
-fn payload_size(column: usize, ty: DataType, value: DataValue, text: &[u8]) -> Answer
-    requires { ⌜ (precisionOf ty ≤ 38) × (length (now text) ≤ rowLimit) ⌝ }
-    ensures { λ r. ⌜ (r ≡ payloadAnswer ty (cellIn column ty value (now (text .entry)))) × Short r ⌝ }
-{
-    if value.kind() == value_kinds::NULL {
-        return Answer::Done(0);
-    }
-    if !value::data_value_matches_type(ty, value) {
-        return Answer::Refused(Refusal::WrongKind(column));
-    }
-    if !value_encode::suits(ty, value, text) {
-        return Answer::Refused(Refusal::Unsuitable(column));
-    }
-    if ty.is_variable_length() {
-        return Answer::Done(value.range().length);
-    }
-    Answer::Done(0)
-}
-
-// The n that follows the kind of a column; 0 where the record is too short for it.
+// The two bytes after the kind of a column, a length or precision and scale; 0 where the record is too short for them.
 fn declared_length(schema: &[u8], at: usize) -> usize
     requires { ⌜ at < length (now schema) ⌝ }
-    ensures { λ r. ⌜ r ≡ declaredAt (now (schema .entry)) at ⌝ }
+    ensures { λ r. ⌜ (r ≡ declaredAt (now (schema .entry)) at) × (r ≤ 65535) ⌝ }
 {
     if schema.len() < at + 3 {
         return 0;
@@ -114,19 +55,46 @@ fn text_suits(values: &[u8], body: usize, n: usize, text: &[u8]) -> bool
     text::is_valid(&text[start..start + length])
 }
 
-// Whether a column holds a value of its kind, whose body stands at a place of the list. False for Numeric and Bit: `payload_given` tests these.
+// Whether the range at a place of the list is a bit string of as many bytes as n bits fill.
+fn bits_suit(values: &[u8], body: usize, n: usize, text: &[u8]) -> bool
+    requires { ⌜ (body + 4 ≤ length (now values)) × (n ≤ 65535) ⌝ }
+    ensures { λ r. ⌜ r ≡ bitsSuit n (rangeAt (now (values .entry)) body) (now (text .entry)) ⌝ }
+{
+    let start = endian::read_u16(values, body) as usize;
+    let length = endian::read_u16(values, body + 2) as usize;
+    if text.len() < start + length {
+        return false;
+    }
+    length == bit_utils::byte_count(n)
+}
+
+// Whether the number at a place of the list suits a column whose precision and scale n has.
+fn number_suits(values: &[u8], body: usize, n: usize) -> bool
+    requires { ⌜ (body + 17 ≤ length (now values)) × ((n ≤ 65535) × (n % 256 ≤ 38)) ⌝ }
+    ensures { λ r. ⌜ r ≡ numberSuits n (numericAt (now (values .entry)) body) ⌝ }
+{
+    value_encode::fits_number(
+        endian::read_i64(values, body + 8),
+        endian::read_u64(values, body),
+        values[body + 16],
+        n % 256,
+        (n / 256) as u8,
+    )
+}
+
+// Whether a column that was declared with n holds a value of its kind, whose body stands at a place of the list.
 fn suits_at(kind: u8, n: usize, values: &[u8], body: usize, text: &[u8]) -> bool
-    requires { ⌜ body + bodyLength kind ≤ length (now values) ⌝ }
+    requires { ⌜ Testable kind n (now values) body ⌝ }
     ensures { λ r. ⌜ r ≡ suitsAt kind n (now (values .entry)) body (now (text .entry)) ⌝ }
 {
     match kind {
-        value_kinds::NUMERIC => false,
+        value_kinds::NUMERIC => number_suits(values, body, n),
         value_kinds::BOOL => values[body] <= 1,
         value_kinds::CHAR => text_suits(values, body, n, text),
         value_kinds::VARCHAR => text_suits(values, body, n, text),
         value_kinds::DATE => temporal::is_date(endian::read_i32(values, body)),
         value_kinds::TIME => temporal::is_time(endian::read_i64(values, body)),
-        value_kinds::BIT => false,
+        value_kinds::BIT => bits_suit(values, body, n, text),
         value_kinds::TIMESTAMP => temporal::is_timestamp(endian::read_i64(values, body)),
         _ => true,
     }
@@ -143,25 +111,7 @@ fn payload_length(kind: u8, values: &[u8], body: usize) -> usize
     0
 }
 
-// `payload_size` for the records at two places.
-fn payload_given(
-    schema: &[u8],
-    at: usize,
-    column: usize,
-    values: &[u8],
-    from: usize,
-    text: &[u8],
-) -> Answer
-    requires { ⌜ Readable (now schema) at (now values) from × (length (now text) ≤ rowLimit) ⌝ }
-    ensures { λ r. ⌜ (r ≡ payloadIn column (now (schema .entry)) at (now (values .entry)) from (now (text .entry))) × Short r ⌝ }
-{
-    let given = given_at(schema, at, values, from);
-    let ty = given.ty;
-    let value = given.value;
-    payload_size(column, ty, value, text)
-}
-
-// What `payload_given` answers, by the bytes of the records where these show that the value is null or that the column holds it.
+// The bytes that a column adds to the row's minimum, or why its value is refused.
 pub fn payload_at(
     schema: &[u8],
     at: usize,
@@ -177,34 +127,27 @@ pub fn payload_at(
     if kind == value_kinds::NULL {
         return Answer::Done(0);
     }
-    if kind == value::held_kind(schema[at]) {
-        let n = declared_length(schema, at);
-        if suits_at(kind, n, values, from + 1, text) {
-            return Answer::Done(payload_length(kind, values, from + 1));
-        }
+    if kind != value::held_kind(schema[at]) {
+        return Answer::Refused(Refusal::WrongKind(column));
     }
-    payload_given(schema, at, column, values, from, text)
+    if suits_at(kind, declared_length(schema, at), values, from + 1, text) {
+        return Answer::Done(payload_length(kind, values, from + 1));
+    }
+    Answer::Refused(Refusal::Unsuitable(column))
 }
 
 // The bytes of a column's slot.
 pub fn slot_size(schema: &[u8], at: usize) -> usize
-    requires { ⌜ at < length (now schema) ⌝ }
+    requires { ⌜ HasType (now schema) at ⌝ }
     ensures { λ r. ⌜ r ≡ sizeOf (typeIn (columnRecordAt (now (schema .entry)) at)) ⌝ }
 {
-    let kind = schema[at];
-    let size = datatype::plain_size(kind);
-    if size != 0 {
-        return size;
-    }
-    if kind == schema_kinds::VARCHAR {
-        return 0;
-    }
-    if kind == schema_kinds::CHAR {
-        return declared_length(schema, at);
-    }
-    match datatype::record_at(schema, at) {
-        Record::Refused(_) => 0,
-        Record::Column(ty, _) => ty.fixed_size(),
+    let kind = value::held_kind(schema[at]);
+    match kind {
+        value_kinds::NUMERIC => (declared_length(schema, at) % 256 + 2) / 2,
+        value_kinds::CHAR => declared_length(schema, at),
+        value_kinds::VARCHAR => 0,
+        value_kinds::BIT => bit_utils::byte_count(declared_length(schema, at)),
+        _ => value_list::body_length(kind),
     }
 }
 
@@ -251,26 +194,31 @@ fn write_char(out: &mut [u8], slot: usize, n: usize, values: &[u8], body: usize,
     value_encode::write_char(out, slot, &text[start..start + length], n);
 }
 
-// A stored form, of records that are read as a type and a value.
-fn write_given(
-    schema: &[u8],
-    at: usize,
-    values: &[u8],
-    from: usize,
-    text: &[u8],
-    out: &mut [u8],
-    slot: usize,
-)
-    requires { ⌜ Readable (now schema) at (now values) from × SlotReady (typeIn (columnRecordAt (now schema) at)) (valueIn (valueRecordAt (now values) from)) (now text) slot (length (now out)) ⌝ }
-    ensures { λ _. ⌜ now (out .exit) ≡ sets (now (out .entry)) slot (formIn (now (schema .entry)) at (now (values .entry)) from (now (text .entry))) ⌝ }
+// The packed form of the number at a place of the list.
+fn write_number(out: &mut [u8], slot: usize, p: usize, values: &[u8], body: usize)
+    requires { ⌜ (body + 17 ≤ length (now values)) × NumberReady p (numericAt (now values) body) slot (length (now out)) ⌝ }
+    ensures { λ _. ⌜ now (out .exit) ≡ sets (now (out .entry)) slot (numberStored p (numericAt (now (values .entry)) body)) ⌝ }
 {
-    let given = given_at(schema, at, values, from);
-    let ty = given.ty;
-    let value = given.value;
-    value_encode::to_bytes_for_type(out, slot, ty, value, text);
+    value_encode::write_number(
+        out,
+        slot,
+        endian::read_i64(values, body + 8),
+        endian::read_u64(values, body),
+        p,
+    );
 }
 
-// A stored form in its slot, by the bytes of the records where these show it.
+// The n bits whose range stands at a place of the list.
+fn write_bits(out: &mut [u8], slot: usize, n: usize, values: &[u8], body: usize, text: &[u8])
+    requires { ⌜ (body + 4 ≤ length (now values)) × ((slot + bytesFor n ≤ length (now out)) × (bitsSuit n (rangeAt (now values) body) (now text) ≡ true)) ⌝ }
+    ensures { λ _. ⌜ now (out .exit) ≡ sets (now (out .entry)) slot (bitsStored n (part (now (text .entry)) (rangeAt (now (values .entry)) body))) ⌝ }
+{
+    let start = endian::read_u16(values, body) as usize;
+    let length = endian::read_u16(values, body + 2) as usize;
+    value_encode::write_bits(out, slot, &text[start..start + length], n);
+}
+
+// The stored form of a column's value, in its slot.
 pub fn write_slot(
     schema: &[u8],
     at: usize,
@@ -285,7 +233,13 @@ pub fn write_slot(
 {
     let kind = values[from];
     match kind {
-        value_kinds::NUMERIC => write_given(schema, at, values, from, text, out, slot),
+        value_kinds::NUMERIC => write_number(
+            out,
+            slot,
+            declared_length(schema, at) % 256,
+            values,
+            from + 1,
+        ),
         value_kinds::CHAR => write_char(
             out,
             slot,
@@ -294,7 +248,14 @@ pub fn write_slot(
             from + 1,
             text,
         ),
-        value_kinds::BIT => write_given(schema, at, values, from, text, out, slot),
+        value_kinds::BIT => write_bits(
+            out,
+            slot,
+            declared_length(schema, at),
+            values,
+            from + 1,
+            text,
+        ),
         _ => write_body(out, slot, kind, values, from + 1),
     }
 }

@@ -20,10 +20,9 @@ use Rattle.datatype.specs.declared.DataType.{DataType}
 use Rattle.datatype.specs.Types.{sizeOf, alignmentOf, isVarlen, shapeOf}
 use Rattle.datatype.specs.Check.{typesIn}
 use Rattle.datatype.proofs.Again.{columns-all}
-use Rattle.record_slot.specs.declared.Given.{Given}
 use Rattle.record_slot.specs.Stored.{cellIn}
 use Rattle.row_build.specs.Cells.{onCell, cellsFrom}
-use Rattle.record_slot.specs.InnerSteps.{ReadAt, payloadAdded, payloadAnswer, Short}
+use Rattle.record_slot.specs.InnerSteps.{Given, ReadAt, payloadAdded, payloadAnswer, Short}
 use Rattle.row_build.specs.InnerSteps.{valuesIn, Buildable, measured}
 use Rattle.row_build.proofs.Walk.{Together, together-start, types-split, values-split, together-next}
 
@@ -87,7 +86,7 @@ module _ {s : List ℕ} {l : RowLayout} {list area : List ℕ} (b : Buildable s 
       pub measure-bad : {u : Refusal} → res ≡ Answer.Refused u → Answer.Refused u ≡ measured (minimumOf l true) (typesIn s) (cellsFrom 0 (typesIn s) (valuesIn list) area)
       measure-bad f = sym (counted-bad size (g .ty) (drop (i + 1) (typesIn s)) others (cellIn i (g .ty) (g .value) area) (sym e ∙ f)) ∙ next
 
-      pub measure-more : {n : ℕ} → res ≡ Answer.Done n → Short res → Measuring s l list area (size + n) (i + 1) (g .«next_type») (g .«next_value»)
+      pub measure-more : {n : ℕ} → res ≡ Answer.Done n → Short res → Measuring s l list area (size + n) (i + 1) (g .next-type) (g .next-value)
       measure-more {n} f short =
           let few : n ≤ 65535 = rw f at short in
           record {

@@ -22,8 +22,7 @@ use Rattle.value_list.specs.declared.ValueRecord.{ValueRecord}
 use Rattle.value_list.specs.declared.ValueRecord.the-variants as Value
 use Rattle.value_list.specs.Lists.{records as valueRecords, valuesOf}
 use Rattle.value_list.proofs.Lists.{First as FirstValue, records-first}
-use Rattle.record_slot.specs.declared.Given.{Given}
-use Rattle.record_slot.specs.InnerSteps.{Readable, ReadAt, valueIn}
+use Rattle.record_slot.specs.InnerSteps.{Given, Readable, ReadAt, valueIn}
 use Rattle.row_build.specs.InnerSteps.{valuesIn, Buildable}
 
 -- value i of a list
@@ -90,7 +89,7 @@ module _ {s : List ℕ} {l : RowLayout} {list area : List ℕ} (b : Buildable s 
   few = omega (arith, some-left s at (256 - i) (w .columns) column-there)
 
   module _ {g : Given} (r : ReadAt s at list from g) where
-    first : First (256 - (i + 1)) s (g .«next_type») (g .ty) (drop i ts)
+    first : First (256 - (i + 1)) s (g .next-type) (g .ty) (drop i ts)
     first = first-left s at (256 - i) (w .columns) column-there (256 - (i + 1)) (omega (arith, few)) (r .type-is)
 
     split : g .ty ∷ first .tail ≡ typeAt ts i ∷ drop (i + 1) ts
@@ -102,7 +101,7 @@ module _ {s : List ℕ} {l : RowLayout} {list area : List ℕ} (b : Buildable s 
     pub digits-given : precisionOf (g .ty) ≤ 38
     digits-given = few-digits s at (r .type-is)
 
-    same-record : Value.Value (g .value) (g .«next_value») ≡ Value.Value (valueAt vs i) (value-left .first .next)
+    same-record : Value.Value (g .value) (g .next-value) ≡ Value.Value (valueAt vs i) (value-left .first .next)
     same-record = sym (r .value-is) ∙ value-left .first .first
 
     pub value-given : g .value ≡ valueAt vs i
@@ -114,7 +113,7 @@ module _ {s : List ℕ} {l : RowLayout} {list area : List ℕ} (b : Buildable s 
     pub values-split : drop i vs ≡ g .value ∷ drop (i + 1) vs
     values-split = rw (value-given, add-one i) (drop-cons vs i Null (rw (b .count) h))
 
-    pub together-next : Together s list (i + 1) (g .«next_type») (g .«next_value»)
+    pub together-next : Together s list (i + 1) (g .next-type) (g .next-value)
     together-next =
         record {
           within = omega arith;

@@ -31,10 +31,9 @@ use Rattle.datatype.proofs.Again.{columns-all, before-next, grown}
 use Rattle.datatype.specs.InnerCheck.{layoutBefore}
 use Rattle.value.specs.Ranges.{textOf}
 use Rattle.stored_form.specs.Write.{storedForm}
-use Rattle.record_slot.specs.declared.Given.{Given}
 use Rattle.record_slot.specs.Stored.{isNull}
 use Rattle.row_build.specs.Build.{freshRow}
-use Rattle.record_slot.specs.InnerSteps.{ReadAt}
+use Rattle.record_slot.specs.InnerSteps.{Given, ReadAt}
 use Rattle.row_build.specs.InnerSteps.{valuesIn, fixedStored, varlenStored, columnStored, Storable, cellsIn, rowGiven, Fillable}
 use Rattle.record_slot.proofs.Tests.{CellIs, null, stored}
 use Rattle.row_build.proofs.Walk.{Together, together-start, type-given, value-given, digits-given, together-next}
@@ -202,7 +201,7 @@ module _ {s : List ℕ} {l : RowLayout} {list area out₀ : List ℕ} (f : Filla
             by-shape false v p = fixed e v (ap (λ (z : ℕ × List ℕ). z .0) p) (ap (λ (z : ℕ × List ℕ). z .1) p)
 
         pub write-more : (res, out') ≡ columnStored i slot entry (g .ty) (g .value) form end out
-            → Writing s l list area out₀ out' (i + 1) (g .«next_type») (g .«next_value») (slot + sizeOf (g .ty)) (entry + cond (isVarlen (g .ty)) offsetWidth 0) res
+            → Writing s l list area out₀ out' (i + 1) (g .next-type) (g .next-value) (slot + sizeOf (g .ty)) (entry + cond (isVarlen (g .ty)) offsetWidth 0) res
         write-more o =
             let p = stepped (getD cs i none) refl cell o in
             record {

@@ -1,63 +1,79 @@
 use borrow.Author.Needs.{needs}
 use Rattle.record_slot.proofs.slot_size.Statement.{statement}
-use Rattle.record_slot.proofs.Forms.{plain-slot, varchar-slot, char-slot}
-use denote.Ref.{now}
-use mathlib.Core.Path.{_∙_}
 use Rattle.record_slot.proofs.slot_size.Tie as tie
-use Rattle.datatype.proofs.DataType.fixed_size.Reads as fixed-size-reads
-use Rattle.datatype.proofs.plain_size.Reads as plain-size-reads
-use Rattle.datatype.proofs.record_at.Reads as record-at-reads
+use Prim.Native.Nat.{ℕ}
+use mathlib.Core.Path.{refl, sym, ap, _∙_}
+use denote.Ref.{now}
+use borrow.Author.Tests.{ne-eqb}
+use Rattle.record_slot.proofs.Forms.{plain-size, slot-bytes}
+use Rattle.record_slot.specs.InnerSteps.{declaredAt, slotSize}
+use Rattle.bit_utils.proofs.byte_count.Reads as byte-count-reads
 use Rattle.record_slot.proofs.declared_length.Reads as declared-length-reads
+use Rattle.value.proofs.held_kind.Reads as held-kind-reads
+use Rattle.value_list.proofs.body_length.Reads as body-length-reads
 
-shared-slice-read-kind : tie.Need-shared-slice-read-kind
-shared-slice-read-kind c = search needs
+shared-slice-read-held-kind : tie.Need-shared-slice-read-held-kind
+shared-slice-read-held-kind c = search needs
 
-plain-size-requires : tie.Need-plain-size-requires
-plain-size-requires c κs = search needs
-
-returns : tie.Need-returns
-returns c = plain-slot (now (c .before .before .before .before .args .schema)) (c .before .before .before .before .args .at) (c .before .plain-size .ensures .0) (c .if1 .taken)
-
-returns-2 : tie.Need-returns-2
-returns-2 c = varchar-slot (now (c .before .before .before .before .before .args .schema)) (c .before .before .before .before .before .args .at) (c .if2 .taken)
+held-kind-requires : tie.Need-held-kind-requires
+held-kind-requires c κs = search needs
 
 declared-length-requires : tie.Need-declared-length-requires
 declared-length-requires c κs = search needs
 
+add-result : tie.Need-add-result
+add-result c = search needs
+
+declared-length-requires-2 : tie.Need-declared-length-requires-2
+declared-length-requires-2 c κs = search needs
+
+declared-length-requires-3 : tie.Need-declared-length-requires-3
+declared-length-requires-3 c κs = search needs
+
+byte-count-requires : tie.Need-byte-count-requires
+byte-count-requires c κs = search needs
+
+body-length-requires : tie.Need-body-length-requires
+body-length-requires c κs = search needs
+
+returns : tie.Need-returns
+returns c =
+    let p = c .before .before .before .before .before .pre in
+    ap (λ (k : ℕ). slotSize k (c .declared-length .result)) (sym (c .before .match .keys1)) ∙ slot-bytes p (c .before .before .held-kind .ensures) (c .declared-length .ensures .0)
+
+returns-2 : tie.Need-returns-2
+returns-2 c =
+    let p = c .before .before .before .before .before .pre in
+    ap (λ (k : ℕ). slotSize k (c .declared-length2 .result)) (sym (c .before .match .keys2)) ∙ slot-bytes p (c .before .before .held-kind .ensures) (c .declared-length2 .ensures .0)
+
 returns-3 : tie.Need-returns-3
-returns-3 c = c .declared-length .ensures ∙ char-slot (now (c .before .before .before .before .before .before .before .args .schema)) (c .before .before .before .before .before .before .before .args .at) (c .before .if3 .taken)
-
-record-at-requires : tie.Need-record-at-requires
-record-at-requires c κs = search needs
-
-enum-told : tie.Need-enum-told
-enum-told c = search needs
-
-enum-known-ty : tie.Need-enum-known-ty
-enum-known-ty c = search needs
-
-fixed-size-requires : tie.Need-fixed-size-requires
-fixed-size-requires c κs = search needs
+returns-3 c =
+    let p = c .before .before .before .before .pre in
+    ap (λ (k : ℕ). slotSize k (declaredAt (now (c .before .before .before .before .args .schema)) (c .before .before .before .before .args .at))) (sym (c .match .keys3)) ∙ slot-bytes p (c .before .held-kind .ensures) (refl)
 
 returns-4 : tie.Need-returns-4
-returns-4 c = rw (← c .before .before .record-at .ensures, c .enum-told .given .1)
+returns-4 c = c .byte-count .ensures ∙ ap (λ (k : ℕ). slotSize k (c .before .declared-length3 .result)) (sym (c .before .before .match .keys4)) ∙ slot-bytes (c .before .before .before .before .before .before .pre) (c .before .before .before .held-kind .ensures) (c .before .declared-length3 .ensures .0)
 
 returns-5 : tie.Need-returns-5
-returns-5 c = rw (← c .before .before .before .before .record-at .ensures, c .before .before .ty .given .1) (c .fixed-size .ensures .0)
+returns-5 c =
+    let r = c .before .match .rest in
+    c .body-length .ensures .0 ∙ plain-size _ (declaredAt (now (c .before .before .before .before .before .args .schema)) (c .before .before .before .before .before .args .at)) (r .0 .0 .0 .1) (r .0 .0 .1) (ne-eqb _ 9 (r .0 .1)) (r .1)
+    ∙ slot-bytes (c .before .before .before .before .before .pre) (c .before .before .held-kind .ensures) refl
 
 pub slot-size-spec : {M : Type 1} → statement M
 slot-size-spec =
     tie.close
     (tie.spec
-    shared-slice-read-kind
-    plain-size-requires
+    shared-slice-read-held-kind
+    held-kind-requires
+    declared-length-requires
+    add-result
+    declared-length-requires-2
+    declared-length-requires-3
+    byte-count-requires
+    body-length-requires
     returns
     returns-2
-    declared-length-requires
     returns-3
-    record-at-requires
-    enum-told
-    enum-known-ty
-    fixed-size-requires
     returns-4
     returns-5)

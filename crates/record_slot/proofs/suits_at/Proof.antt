@@ -1,48 +1,56 @@
 use borrow.Author.Needs.{needs}
 use Rattle.record_slot.proofs.suits_at.Statement.{statement}
+use Rattle.record_slot.proofs.suits_at.Tie as tie
 use native.Mathlib.Omega.{arith}
 use borrow.Author.Tests.{ne-eqb}
 use mathlib.Core.Path.{ap, _∙_}
 use mir.Syntax.{w32, w64}
 use Rattle.signed.proofs.Casts.{passed}
 use Rattle.temporal.specs.Ranges.{isDate, isTime, isTimestamp}
-use Rattle.record_slot.proofs.suits_at.Tie as tie
 use Rattle.endian.proofs.read_i32.Reads as read-i32-reads
 use Rattle.endian.proofs.read_i64.Reads as read-i64-reads
+use Rattle.record_slot.proofs.bits_suit.Reads as bits-suit-reads
+use Rattle.record_slot.proofs.number_suits.Reads as number-suits-reads
 use Rattle.record_slot.proofs.text_suits.Reads as text-suits-reads
 use Rattle.temporal.proofs.is_date.Reads as is-date-reads
 use Rattle.temporal.proofs.is_time.Reads as is-time-reads
 use Rattle.temporal.proofs.is_timestamp.Reads as is-timestamp-reads
 
+number-suits-requires : tie.Need-number-suits-requires
+number-suits-requires c κs = let h = rw (c .match .keys1) at (c .before .before .before .pre .inside) in (omega (arith, h), (c .before .before .before .pre .word, c .before .before .before .pre .digits (c .match .keys1)))
+
 shared-slice-read-result : tie.Need-shared-slice-read-result
-shared-slice-read-result c = let h = rw (c .before .match .keys2) at (c .before .before .before .before .pre) in omega arith
+shared-slice-read-result c = let h = rw (c .before .match .keys2) at (c .before .before .before .before .pre .inside) in omega arith
 
 text-suits-requires : tie.Need-text-suits-requires
-text-suits-requires c κs = let h = rw (c .match .keys3) at (c .before .before .before .pre) in omega arith
+text-suits-requires c κs = let h = rw (c .match .keys3) at (c .before .before .before .pre .inside) in omega arith
 
 text-suits-requires-2 : tie.Need-text-suits-requires-2
-text-suits-requires-2 c κs = let h = rw (c .match .keys4) at (c .before .before .before .pre) in omega arith
+text-suits-requires-2 c κs = let h = rw (c .match .keys4) at (c .before .before .before .pre .inside) in omega arith
 
 read-i32-requires : tie.Need-read-i32-requires
-read-i32-requires c κs = let h = rw (c .match .keys5) at (c .before .before .before .pre) in omega arith
+read-i32-requires c κs = let h = rw (c .match .keys5) at (c .before .before .before .pre .inside) in omega arith
 
 is-date-requires : tie.Need-is-date-requires
 is-date-requires c κs = search needs
 
 read-i64-requires : tie.Need-read-i64-requires
-read-i64-requires c κs = let h = rw (c .match .keys6) at (c .before .before .before .pre) in omega arith
+read-i64-requires c κs = let h = rw (c .match .keys6) at (c .before .before .before .pre .inside) in omega arith
 
 is-time-requires : tie.Need-is-time-requires
 is-time-requires c κs = search needs
 
+bits-suit-requires : tie.Need-bits-suit-requires
+bits-suit-requires c κs = let h = rw (c .match .keys7) at (c .before .before .before .pre .inside) in (omega (arith, h), c .before .before .before .pre .word)
+
 read-i64-requires-2 : tie.Need-read-i64-requires-2
-read-i64-requires-2 c κs = let h = rw (c .match .keys8) at (c .before .before .before .pre) in omega arith
+read-i64-requires-2 c κs = let h = rw (c .match .keys8) at (c .before .before .before .pre .inside) in omega arith
 
 is-timestamp-requires : tie.Need-is-timestamp-requires
 is-timestamp-requires c κs = search needs
 
 returns : tie.Need-returns
-returns c = rw (c .match .keys1)
+returns c = rw (c .before .match .keys1) (c .number-suits .ensures)
 
 returns-2 : tie.Need-returns-2
 returns-2 c = rw (c .before .match .keys2)
@@ -60,7 +68,7 @@ returns-6 : tie.Need-returns-6
 returns-6 c = rw (c .before .before .match .keys6) (c .is-time .ensures ∙ ap isTime (passed w64 (search needs) (c .before .read-i64 .ensures)))
 
 returns-7 : tie.Need-returns-7
-returns-7 c = rw (c .match .keys7)
+returns-7 c = rw (c .before .match .keys7) (c .bits-suit .ensures)
 
 returns-8 : tie.Need-returns-8
 returns-8 c = rw (c .before .before .match .keys8) (c .is-timestamp .ensures ∙ ap isTimestamp (passed w64 (search needs) (c .before .read-i642 .ensures)))
@@ -74,6 +82,7 @@ pub suits-at-spec : {M : Type 1} → statement M
 suits-at-spec =
     tie.close
     (tie.spec
+    number-suits-requires
     shared-slice-read-result
     text-suits-requires
     text-suits-requires-2
@@ -81,6 +90,7 @@ suits-at-spec =
     is-date-requires
     read-i64-requires
     is-time-requires
+    bits-suit-requires
     read-i64-requires-2
     is-timestamp-requires
     returns

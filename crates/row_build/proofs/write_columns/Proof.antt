@@ -2,7 +2,7 @@ use Rattle.row_build.proofs.write_columns.Statement.{statement}
 use Rattle.row_build.proofs.Writing.{Writing, write-start, write-size, write-end, write-more, write-room, write-places}
 use Rattle.row_build.proofs.Measuring.{left}
 use Rattle.row_build.proofs.Walk.{readable}
-use Rattle.record_slot.proofs.Held.{read-at}
+use Rattle.record_slot.proofs.Held.{has-type, read-at}
 use Rattle.record_slot.proofs.Forms.{entry-bytes}
 use Prim.Native.Nat.{_-_}
 use borrow.Author.Needs.{needs}
@@ -43,7 +43,7 @@ write-column-requires c κs =
     (r, write-room p (c .before .before .before .loop .inv) h (read-at r))
 
 slot-size-requires : tie.Need-slot-size-requires Inv-loop μ-loop
-slot-size-requires c κs = readable (c .before .before .before .before .before .before .before .before .before .before .before .before .before .before .pre .given) (c .before .before .before .before .before .before .loop .inv .walk) (left (c .before .before .before .before .before .before .before .before .before .before .before .before .before .before .pre .given) (c .before .before .before .before .if1 .taken)) .column
+slot-size-requires c κs = has-type (readable (c .before .before .before .before .before .before .before .before .before .before .before .before .before .before .pre .given) (c .before .before .before .before .before .before .loop .inv .walk) (left (c .before .before .before .before .before .before .before .before .before .before .before .before .before .before .pre .given) (c .before .before .before .before .if1 .taken)))
 
 add-slot : tie.Need-add-slot Inv-loop μ-loop
 add-slot c =

@@ -1,0 +1,76 @@
+use borrow.Author.Needs.{needs}
+use Rattle.record_slot.proofs.write_bits.Statement.{statement}
+use Rattle.record_slot.proofs.write_bits.Tie as tie
+use native.Mathlib.Omega.{arith}
+use mathlib.Core.Path.{_≡_}
+use Prim.Native.Nat.{_+_, _-_}
+use denote.Ref.{now}
+use Rattle.value_list.specs.Records.{rangeAt}
+use Rattle.record_slot.proofs.Forms.{bits-inside, bits-within}
+use Rattle.endian.proofs.read_u16.Reads as read-u16-reads
+use Rattle.value_encode.proofs.write_bits.Reads as write-bits-reads
+
+read-u16-requires : tie.Need-read-u16-requires
+read-u16-requires c κs = search needs
+
+cast-start : tie.Need-cast-start
+cast-start c = search needs
+
+add-read-u16 : tie.Need-add-read-u16
+add-read-u16 c = search needs
+
+read-u16-requires-2 : tie.Need-read-u16-requires-2
+read-u16-requires-2 c κs = search needs
+
+cast-length : tie.Need-cast-length
+cast-length c = search needs
+
+add-write-bits : tie.Need-add-write-bits
+add-write-bits c = search needs
+
+sub-write-bits : tie.Need-sub-write-bits
+sub-write-bits c = search needs
+
+part-write-bits-start : tie.Need-part-write-bits-start
+part-write-bits-start c = search needs
+
+part-write-bits-end : tie.Need-part-write-bits-end
+part-write-bits-end c =
+    let a = c .before .before .before .before .before .before .args in
+    let h = rw (← c .before .before .read-u16 .ensures, ← c .before .read-u162 .ensures) at (bits-inside (a .n) (rangeAt (now (a .values)) (a .body)) (now (a .text)) (c .before .before .before .before .before .before .pre .1 .1)) in
+    search needs
+
+write-bits-requires : tie.Need-write-bits-requires
+write-bits-requires c κs =
+    let a = c .before .before .before .before .before .before .before .args in
+    let s = c .before .before .before .read-u16 .result in
+    let l = c .before .before .read-u162 .result in
+    let e : s + l - s ≡ l = omega arith in
+    rw (e, c .before .before .before .read-u16 .ensures, c .before .before .read-u162 .ensures) (bits-within (a .n) (rangeAt (now (a .values)) (a .body)) (now (a .text)) (c .before .before .before .before .before .before .before .pre .1 .1), c .before .before .before .before .before .before .before .pre .1 .0)
+
+same-length : tie.Need-same-length
+same-length c = search needs
+
+returns : tie.Need-returns
+returns c =
+    let s = c .before .before .before .before .before .before .read-u16 .result in
+    let l = c .before .before .before .before .before .read-u162 .result in
+    let e : s + l - s ≡ l = omega arith in
+    rw (e, c .before .before .before .before .before .before .read-u16 .ensures, c .before .before .before .before .before .read-u162 .ensures) at (c .before .before .write-bits .ensures)
+
+pub write-bits-spec : {M : Type 1} → statement M
+write-bits-spec =
+    tie.close
+    (tie.spec
+    read-u16-requires
+    cast-start
+    add-read-u16
+    read-u16-requires-2
+    cast-length
+    add-write-bits
+    sub-write-bits
+    part-write-bits-start
+    part-write-bits-end
+    write-bits-requires
+    same-length
+    returns)
