@@ -369,6 +369,7 @@ pub fn same_content(schema: &[u8], a: &[u8], b: &[u8]) -> Result<bool, Refusal> 
 }
 
 /// Whether a column of a row is null, by the row's own header and bitmap.
+#[inline]
 pub fn is_null(row: &[u8], column: usize) -> Result<bool, Refusal> {
     // SAFETY: as in `fresh`; the call writes nothing.
     let answer = unsafe { rook_row_is_null(row.as_ptr(), row.len(), column) };

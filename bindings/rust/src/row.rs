@@ -75,6 +75,7 @@ impl<'a> RowRef<'a> {
 
     /// Whether a column's bit says null, by the row's own header. In a row that is not sound, a Varchar without an
     /// offset reads as null although its bit is clear. Refuses with 4, 3 (the row), 9 (no such column).
+    #[inline]
     pub fn is_null(self, column: usize) -> Result<bool, Error> {
         raw::is_null(self.bytes, column)
             .map_err(|refusal| Error::new(refusal, Call::Flag(self.bytes, column)))

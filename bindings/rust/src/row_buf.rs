@@ -42,6 +42,7 @@ macro_rules! reads_as_a_row {
         }
 
         /// As [`RowRef::is_null`].
+        #[inline]
         pub fn is_null(&self, column: usize) -> Result<bool, Error> {
             self.as_row().is_null(column)
         }

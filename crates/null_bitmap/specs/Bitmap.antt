@@ -1,4 +1,4 @@
--- A column's bit in lent bytes, and in a row.
+-- A column's bit in lent bytes, and in a row. FORMAT 7.5.
 use Prim.Native.Nat.{ℕ}
 use mathlib.Core.Bool.{cond}
 use mathlib.Core.List.{List}
@@ -13,7 +13,11 @@ use Rattle.error.specs.declared.Flag.the-variants.{Is, Refused}
 
 -- "Null flag (`is_column_null_in_row`, no schema): 4, 3, 9 against the header's count, 3 for a cut bitmap"
 abbrev pub columnFlag : ℕ → List ℕ → ℕ → Flag
-columnFlag n r i = cond (leb n i) (Refused NoSuchColumn) (cond (ltb (length r) (tableStart n)) (Refused RowTooShort) (Is (eqb (bitAt i (drop bitmapStart r)) 1)))
+columnFlag n r i =
+    cond (leb n i) (Refused NoSuchColumn)
+    (cond (ltb (length r) (tableStart n)) (Refused RowTooShort) (Is (eqb (bitAt i (drop bitmapStart r)) 1)))
 
 abbrev pub nullFlag : ℕ → List ℕ → ℕ → Flag
-nullFlag limit r i = cond (ltb limit (length r)) (Refused RowTooLong) (cond (ltb (length r) 4) (Refused RowTooShort) (columnFlag (fromLe (take 2 r)) r i))
+nullFlag limit r i =
+    cond (ltb limit (length r)) (Refused RowTooLong)
+    (cond (ltb (length r) 4) (Refused RowTooShort) (columnFlag (fromLe (take 2 r)) r i))

@@ -13,7 +13,11 @@ use Rattle.null_bitmap.specs.declared.BitAnswer.the-variants as Bit
 
 -- 01, "`assert!` in null_bitmap: answer 9": column i of n, where the bytes reach it
 abbrev pub flagIn : ℕ → ℕ → List ℕ → Flag
-flagIn n i bs = cond (leb n i) (Refused NoSuchColumn) (cond (leb (length bs) (i / 8)) (Refused NoSuchColumn) (Is (eqb (bitAt i bs) 1)))
+flagIn n i bs =
+    cond (leb n i) (Refused NoSuchColumn)
+    (cond (leb (length bs) (i / 8)) (Refused NoSuchColumn) (Is (eqb (bitAt i bs) 1)))
 
 abbrev pub flagPut : ℕ → ℕ → ℕ → List ℕ → BitAnswer × List ℕ
-flagPut v n i bs = cond (leb n i) (Bit.Refused NoSuchColumn, bs) (cond (leb (length bs) (i / 8)) (Bit.Refused NoSuchColumn, bs) (Bit.Done, putBitAt v i bs))
+flagPut v n i bs =
+    cond (leb n i) (Bit.Refused NoSuchColumn, bs)
+    (cond (leb (length bs) (i / 8)) (Bit.Refused NoSuchColumn, bs) (Bit.Done, putBitAt v i bs))

@@ -1,18 +1,18 @@
--- The one pass gives what reading both rows and comparing the values gives.
+-- The walk over both rows gives what reading both and comparing their values gives.
 use Prim.Native.Nat.{ℕ}
-use mathlib.Core.Path.{_≡_, refl, sym, ap, ap₂, _∙_}
+use mathlib.Core.Path.{_≡_, refl, sym, ap, ap₂, _∙_, subst}
 use mathlib.Core.Bool.{Bool, true, false, cond}
-use mathlib.Core.List.{List, [], _∷_}
+use mathlib.Core.List.{List, _∷_}
+use native.Mathlib.Omega.{arith}
 use lib.ListN.{length}
 use Rattle.error.specs.declared.Refusal.{Refusal}
 use Rattle.error.specs.declared.Flag.{Flag}
 use Rattle.error.specs.declared.Flag.the-variants.{Is, Refused}
-use Rattle.error.specs.Result.{ok, refused, before}
+use Rattle.error.specs.Result.{ok, refused}
 use Rattle.row_format.specs.Places.{offsetWidth}
 use Rattle.row_layout.specs.declared.RowLayout.{RowLayout}
-use Rattle.row_layout.specs.InnerLayout.{noColumns, withColumn}
 use Rattle.datatype.specs.declared.DataType.{DataType}
-use Rattle.datatype.specs.Types.{shapeOf, lengthOf}
+use Rattle.datatype.specs.Types.{lengthOf}
 use Rattle.datatype.specs.Check.{layoutFor}
 use Rattle.value.specs.declared.DataValue.{DataValue}
 use Rattle.value.specs.Ranges.{textOf}
@@ -23,98 +23,108 @@ use Rattle.row_column.specs.declared.Frame.the-variants as Frame
 use Rattle.row_column.specs.declared.ColumnRead.{ColumnRead}
 use Rattle.row_column.specs.declared.ColumnRead.the-variants as Column
 use Rattle.row_column.specs.Frame.{onFrame}
-use Rattle.row_column.specs.InnerWalk.{walkedFrame, walkedColumn}
+use Rattle.row_column.specs.InnerWalk.{walkedFrame}
 use Rattle.row_column.proofs.Walk.{frame-walked}
 use Rattle.row_column.proofs.Framing.{same-good}
 use Rattle.row_decode.specs.Read.{onColumn, readFrom}
-use Rattle.row_decode.specs.InnerWalk.{walkedRead}
 use Rattle.row_decode.proofs.Walk.{read-walked}
+use Rattle.row_sound.specs.Sound.{reads}
+use Rattle.row_reads.specs.InnerReads.{readAll}
 use Rattle.row_same.specs.Rows.{allColumns, sameValues, onValues, sameRows}
-use Rattle.row_same.specs.InnerWalk.{compared, onFirst, walkedCompared, walkedRows}
+use Rattle.row_same.specs.InnerWalk.{compared, walkedAll, bothRead, AllRead}
 
--- what is said once the first row gave vs: f says whether the second is to be refused, or was the same so far
-abbrev judged : Flag → Values → List DataType → List ℕ → List DataValue → List ℕ → Flag
-judged (Refused e) ws ts a vs b = Refused e
-judged (Is s) ws ts a vs b = onValues ws (λ us. Is (cond s (sameValues ts a vs b us) false))
+-- ---- the headers, where the layout of the columns ts is known as l
 
-merged : (s c d : Bool) → cond (cond s c false) d false ≡ cond s (cond c d false) false
-merged true c d = refl
-merged false c d = refl
-
--- a column more in front of both rows' values
-next : (f : Flag) (t : DataType) (ts : List DataType) (a : List ℕ) (v : DataValue) (vs : List DataValue) (b : List ℕ) (c : ColumnRead) (ws : Values)
-    → judged (compared f t v a b c) ws ts a vs b ≡ judged f (onColumn c ws) (t ∷ ts) a (v ∷ vs) b
-next (Refused e) t ts a v vs b c ws = refl
-next (Is s) t ts a v vs b (Column.Refused e) ws = refl
-next (Is s) t ts a v vs b (Column.Value w) (refused e) = refl
-next (Is s) t ts a v vs b (Column.Value w) (ok us) = ap Is (merged s (sameContent (lengthOf t) v (textOf a v) w (textOf b w)) (sameValues ts a vs b us))
-
-all-done : (f : Flag) (a b : List ℕ) → f ≡ judged f (ok []) [] a [] b
-all-done (Refused e) a b = refl
-all-done (Is true) a b = refl
-all-done (Is false) a b = refl
-
-in-front : (v : DataValue) (vs : Values) (k : List DataValue → Flag) → onValues vs (λ us. k (v ∷ us)) ≡ onValues (before v vs) k
-in-front v (ok us) k = refl
-in-front v (refused e) k = refl
-
-under : (vs : Values) {k j : List DataValue → Flag} → ((us : List DataValue) → k us ≡ j us) → onValues vs k ≡ onValues vs j
-under (ok us) h = h us
-under (refused e) h = refl
-
-module _ (l : RowLayout) (p : Bool) (a : List ℕ) (q : Bool) (b : List ℕ) where
-  abbrev firsts : RowLayout → List DataType → Values
-  firsts x ts = walkedRead l p (λ i. true) a x ts
-
-  abbrev seconds : RowLayout → List DataType → Values
-  seconds x ts = walkedRead l q (λ i. true) b x ts
-
-  pub compared-all : (f : Flag) (x : RowLayout) (ts : List DataType)
-      → walkedCompared l p a q b f x ts ≡ onValues (firsts x ts) (λ vs. judged f (seconds x ts) ts a vs b)
-  compared-all f x [] = all-done f a b
-  compared-all f x (t ∷ ts) = on-column (walkedColumn l p x t a) (λ g. compared-all g (withColumn x (shapeOf t)) ts)
-    where
-      on-column : (c : ColumnRead) → ((g : Flag) → walkedCompared l p a q b g (withColumn x (shapeOf t)) ts
-          ≡ onValues (firsts (withColumn x (shapeOf t)) ts) (λ vs. judged g (seconds (withColumn x (shapeOf t)) ts) ts a vs b)) → onFirst c (λ v. walkedCompared l p a q b (compared f t v a b (walkedColumn l q x t b)) (withColumn x (shapeOf t)) ts)
-          ≡ onValues (onColumn c (firsts (withColumn x (shapeOf t)) ts)) (λ vs. judged f (seconds x (t ∷ ts)) (t ∷ ts) a vs b)
-      on-column (Column.Refused e) again = refl
-      on-column (Column.Value v) again =
-          again (compared f t v a b (walkedColumn l q x t b))
-          ∙ under (firsts (withColumn x (shapeOf t)) ts) (λ vs. next f t ts a v vs b (walkedColumn l q x t b) (seconds (withColumn x (shapeOf t)) ts))
-          ∙ in-front v (firsts (withColumn x (shapeOf t)) ts) (λ vs. judged f (seconds x (t ∷ ts)) (t ∷ ts) a vs b)
-
--- the headers, where the layout of the columns ts is known as l
 module _ (limit : ℕ) (ts : List DataType) {l : RowLayout} (e : layoutFor ts ≡ l) where
-  abbrev walkedAll : List ℕ → Frame → Values
-  walkedAll r g = onFrame g refused (λ p. walkedRead l p (λ i. true) r noColumns ts)
+  abbrev behind : List ℕ → Frame → Values
+  behind r g = onFrame g refused (walkedAll ts l r)
 
-  all-walked : (r : List ℕ) → walkedAll r (walkedFrame limit l r) ≡ allColumns offsetWidth limit ts r
+  all-walked : (r : List ℕ) → behind r (walkedFrame limit l r) ≡ allColumns offsetWidth limit ts r
   all-walked r =
       same-good (walkedFrame limit l r) refused (λ p g. read-walked p ts (λ i. true) r e)
       ∙ ap (λ (f : Frame). onFrame f refused (λ p. readFrom offsetWidth p ts (λ i. true) r 0 (length ts)))
       (sym (frame-walked limit ts r e))
 
   module _ (a b : List ℕ) where
-    abbrev bothRead : Values → Values → Flag
-    bothRead first second = onValues first (λ vs. onValues second (λ us. Is (sameValues ts a vs b us)))
-
-    rows-all : (p : Bool) → walkedRows limit ts l p a b
-        ≡ bothRead (walkedAll a (Frame.Good p)) (walkedAll b (walkedFrame limit l b))
-    rows-all p = on-header (walkedFrame limit l b)
-      where
-        on-header : (g : Frame) → onFrame g (λ e. walkedCompared l p a true b (Refused e) noColumns ts)
-            (λ q. walkedCompared l p a q b (Is true) noColumns ts)
-            ≡ bothRead (walkedAll a (Frame.Good p)) (walkedAll b g)
-        on-header (Frame.Good q) = compared-all l p a q b (Is true) noColumns ts
-        on-header (Frame.Refused e) = compared-all l p a true b (Refused e) noColumns ts
-
     known : {g : Frame} → walkedFrame limit l a ≡ g
-        → bothRead (walkedAll a g) (walkedAll b (walkedFrame limit l b)) ≡ sameRows offsetWidth limit ts a b
-    known f = ap₂ bothRead (ap (walkedAll a) (sym f) ∙ all-walked a) (all-walked b)
+        → bothRead ts a (behind a g) b (behind b (walkedFrame limit l b)) ≡ sameRows offsetWidth limit ts a b
+    known f = ap₂ (λ (x y : Values). bothRead ts a x b y) (ap (behind a) (sym f) ∙ all-walked a) (all-walked b)
 
-    pub rows-good : {p : Bool} → walkedFrame limit l a ≡ Frame.Good p → walkedRows limit ts l p a b
-        ≡ sameRows offsetWidth limit ts a b
-    rows-good {p} f = rows-all p ∙ known f
+    pub rows-good : {p : Bool} → walkedFrame limit l a ≡ Frame.Good p
+        → bothRead ts a (walkedAll ts l a p) b (behind b (walkedFrame limit l b)) ≡ sameRows offsetWidth limit ts a b
+    rows-good f = known f
 
-    pub rows-refused : {r : Refusal} → walkedFrame limit l a ≡ Frame.Refused r → Refused r ≡ sameRows offsetWidth limit ts a b
+    pub rows-refused : {r : Refusal} → walkedFrame limit l a ≡ Frame.Refused r
+        → Refused r ≡ sameRows offsetWidth limit ts a b
     rows-refused f = known f
+
+-- ---- a row that is refused as a whole
+
+pub first-refused : (first : Values) {e : Refusal} → readAll true first ≡ Refused e → first ≡ refused e
+first-refused (ok vs) h = absurd (let z : _≡_ {A = ℕ} 0 1 = cc in omega arith)
+first-refused (refused r) h = cc
+
+pub second-refused : (ts : List DataType) (a b : List ℕ) (first : Values) (e : Refusal) → AllRead first
+    → Refused e ≡ bothRead ts a first b (refused e)
+second-refused ts a b (ok vs) e h = refl
+second-refused ts a b (refused r) e h = absurd h
+
+pub all-read : (first : Values) {t : Bool} → readAll true first ≡ Is t → AllRead first
+all-read (ok vs) h = tt
+all-read (refused r) h = absurd (let z : _≡_ {A = ℕ} 0 1 = cc in omega arith)
+
+-- ---- a column in front of both rows' values: it is c and d, the columns after it ws and us
+
+pub reads-first : (c : ColumnRead) (ws : Values) {vs : List DataValue} → onColumn c ws ≡ ok vs → reads c ≡ true
+reads-first (Column.Value v) ws h = refl
+reads-first (Column.Refused e) ws h = absurd (subst AllRead (sym h) tt)
+
+module _ (t : DataType) (ts : List DataType) (a b : List ℕ) where
+  -- what is said once the first row gave vs
+  abbrev judged : List DataType → List DataValue → Values → Flag
+  judged ss vs us = onValues us (λ ws. Is (sameValues ss a vs b ws))
+
+  pub record Later (ws us : Values) (vs : List DataValue) (d : ColumnRead) : Type 0 where
+    pub values : List DataValue
+    pub firsts : ws ≡ ok values
+    pub rest : judged ts values us ≡ judged (t ∷ ts) vs (onColumn d us)
+
+  abbrev content : DataValue → DataValue → Bool
+  content v w = sameContent (lengthOf t) v (textOf a v) w (textOf b w)
+
+  same-later : (v : DataValue) (vs : List DataValue) (w : DataValue) (us : Values) → content v w ≡ true
+      → judged ts vs us ≡ judged (t ∷ ts) (v ∷ vs) (onColumn (Column.Value w) us)
+  same-later v vs w (ok ws) e = rw e
+  same-later v vs w (refused r) e = refl
+
+  other-later : (v : DataValue) (vs : List DataValue) (w : DataValue) (us : Values) → content v w ≡ false
+      → readAll false us ≡ judged (t ∷ ts) (v ∷ vs) (onColumn (Column.Value w) us)
+  other-later v vs w (ok ws) e = rw e
+  other-later v vs w (refused r) e = refl
+
+  module _ (us : Values) {vs : List DataValue} where
+    pub column-refused : (c d : ColumnRead) (ws : Values) → onColumn c ws ≡ ok vs → {e : Refusal}
+        → compared t a c b d ≡ Refused e → Refused e ≡ judged (t ∷ ts) vs (onColumn d us)
+    column-refused (Column.Refused r) d ws h k = absurd (subst AllRead (sym h) tt)
+    column-refused (Column.Value v) (Column.Refused r) ws h k = sym k
+    column-refused (Column.Value v) (Column.Value w) ws h k = absurd (let z : _≡_ {A = ℕ} 0 1 = cc in omega arith)
+
+    pub column-other : (c d : ColumnRead) (ws : Values) → onColumn c ws ≡ ok vs → compared t a c b d ≡ Is false
+        → readAll false us ≡ judged (t ∷ ts) vs (onColumn d us)
+    column-other (Column.Refused r) d ws h k = absurd (subst AllRead (sym h) tt)
+    column-other (Column.Value v) (Column.Refused r) ws h k = absurd (let z : _≡_ {A = ℕ} 0 1 = cc in omega arith)
+    column-other (Column.Value v) (Column.Value w) (refused r) h k = absurd (subst AllRead (sym h) tt)
+    column-other (Column.Value v) (Column.Value w) (ok xs) h k =
+        let e : v ∷ xs ≡ vs = cc in
+        let f : content v w ≡ false = cc in
+        rw (← e) (other-later v xs w us f)
+
+    pub column-same : (c d : ColumnRead) (ws : Values) → onColumn c ws ≡ ok vs → compared t a c b d ≡ Is true
+        → Later ws us vs d
+    column-same (Column.Refused r) d ws h k = absurd (subst AllRead (sym h) tt)
+    column-same (Column.Value v) (Column.Refused r) ws h k = absurd (let z : _≡_ {A = ℕ} 0 1 = cc in omega arith)
+    column-same (Column.Value v) (Column.Value w) (refused r) h k = absurd (subst AllRead (sym h) tt)
+    column-same (Column.Value v) (Column.Value w) (ok xs) h k =
+        let e : v ∷ xs ≡ vs = cc in
+        let f : content v w ≡ true = cc in
+        record { values = xs; firsts = refl; rest = rw (← e) (same-later v xs w us f) }

@@ -1,70 +1,143 @@
--- The walk that compares two rows: what the columns that are left add to what was seen so far.
-use Prim.Native.Nat.{ℕ, _+_, _<_, _≤_}
-use mathlib.Core.Path.{_≡_, refl, sym, _∙_}
-use mathlib.Core.Bool.{Bool, true}
-use mathlib.Core.List.{List, []}
+-- The walk that compares two rows: the columns that are left decide, while all were the same so far.
+use Prim.Native.Nat.{ℕ, _+_, _≤_, _<_}
+use mathlib.Core.Path.{_≡_, refl, sym, ap, _∙_, subst}
+use mathlib.Core.Bool.{Bool, true, false}
+use mathlib.Core.List.{List, [], _∷_}
 use native.Mathlib.Omega.{arith}
 use lib.ListN.{length, drop, drop-of-length-le}
 use Rattle.error.specs.declared.Refusal.{Refusal}
 use Rattle.error.specs.declared.Flag.{Flag}
 use Rattle.error.specs.declared.Flag.the-variants.{Is, Refused}
-use Rattle.error.specs.Result.{ok}
+use Rattle.error.specs.Result.{ok, refused}
 use Rattle.row_layout.specs.declared.RowLayout.{RowLayout}
 use Rattle.row_layout.specs.InnerLayout.{Bounded, noColumns, withColumn}
 use Rattle.datatype.specs.declared.DataType.{DataType}
-use Rattle.datatype.specs.declared.Record.the-variants as Record
+use Rattle.datatype.specs.declared.Step.{Step}
 use Rattle.datatype.specs.Types.{shapeOf}
-use Rattle.datatype.specs.Schema.{columnRecords, columnRecordAt}
+use Rattle.datatype.specs.Schema.{columnRecordAt}
+use Rattle.datatype.specs.InnerSteps.{typeIn, passed}
 use Rattle.datatype.specs.Check.{typesIn}
-use Rattle.datatype.proofs.Again.{Ahead, ahead-start, ahead-end, ahead-split, ahead-more}
+use Rattle.datatype.proofs.Again.{Ahead, ahead-start, ahead-end, ahead-split, ahead-column, ahead-step, step-is}
 use Rattle.value.specs.declared.DataValue.{DataValue}
+use Rattle.value_list.specs.Lists.{Values}
 use Rattle.row_column.specs.declared.ColumnRead.{ColumnRead}
-use Rattle.row_column.specs.declared.ColumnRead.the-variants as Column
 use Rattle.row_column.specs.InnerWalk.{Framed, walkedColumn, Reachable}
 use Rattle.row_column.proofs.Reach.{reach-next}
-use Rattle.row_same.specs.InnerWalk.{compared, onFirst, walkedCompared, WhenOpen}
+use Rattle.row_decode.specs.Read.{onColumn}
+use Rattle.row_decode.specs.InnerWalk.{walkedRead}
+use Rattle.row_sound.specs.Sound.{reads}
+use Rattle.row_reads.specs.InnerReads.{readAll}
+use Rattle.row_same.specs.Rows.{sameValues, onValues}
+use Rattle.row_same.specs.InnerWalk.{compared, walkedAll, bothRead, AllRead}
+use Rattle.row_same.specs.InnerStored.{storedAlike, Beside}
+use Rattle.row_same.proofs.Alike.{beside, stored-alike}
+use Rattle.row_same.proofs.Compared.{reads-first, Later, column-refused, column-other, column-same}
 
-pub record Comparing (s : List ℕ) (l : RowLayout) (p : Bool) (a : List ℕ) (q : Bool) (b : List ℕ) (start f : Flag) (x : RowLayout) (at : ℕ) : Type 0 where
+module _ (s : List ℕ) (l : RowLayout) where
+  -- the columns of a row r that come after those of layout x, and the whole answer
+  abbrev pub left : Bool → List ℕ → RowLayout → Values
+  left p r x = walkedRead l p (λ i. true) r x (drop (x .«num_columns») (typesIn s))
+
+  abbrev pub whole : Bool → List ℕ → Bool → List ℕ → Flag
+  whole p a q b = bothRead (typesIn s) a (walkedAll (typesIn s) l a p) b (walkedAll (typesIn s) l b q)
+
+pub record Comparing (s : List ℕ) (l : RowLayout) (p : Bool) (a : List ℕ) (q : Bool) (b : List ℕ) (x : RowLayout)
+    (at : ℕ) : Type 0 where
   pub walk : Ahead s x at
-  pub second : WhenOpen f (Framed s l q b)
-  pub rest : walkedCompared l p a q b f x (drop (x .«num_columns») (typesIn s)) ≡ walkedCompared l p a q b start noColumns (typesIn s)
+  pub values : List DataValue
+  pub firsts : left s l p a x ≡ ok values
+  pub rest : onValues (left s l q b x) (λ us. Is (sameValues (drop (x .«num_columns») (typesIn s)) a values b us))
+      ≡ whole s l p a q b
 
-still-open : (f : Flag) (t : DataType) (v : DataValue) (a b : List ℕ) (c : ColumnRead) (P : Type 0) → WhenOpen f P → WhenOpen (compared f t v a b c) P
-still-open (Refused e) t v a b c P o = tt
-still-open (Is s) t v a b (Column.Refused e) P o = tt
-still-open (Is s) t v a b (Column.Value w) P o = o
+module _ {s : List ℕ} {l : RowLayout} {p : Bool} {a : List ℕ} {q : Bool} {b : List ℕ} where
+  pub compare-start : Framed s l p a → AllRead (walkedAll (typesIn s) l a p) → Comparing s l p a q b noColumns 0
+  compare-start d h = of (walkedAll (typesIn s) l a p) refl h
+    where
+      of : (ws : Values) → walkedAll (typesIn s) l a p ≡ ws → AllRead ws → Comparing s l p a q b noColumns 0
+      of (ok vs) e h =
+          record {
+            walk = ahead-start (d .accepted .schema);
+            values = vs;
+            firsts = e;
+            rest = sym (ap (λ (ws : Values). bothRead (typesIn s) a ws b (walkedAll (typesIn s) l b q)) e);
+          }
+      of (refused r) e h = absurd h
 
-when-open : (f : Flag) {P Q : Type 0} → (P → Q) → WhenOpen f P → WhenOpen f Q
-when-open (Is s) h o = h o
-when-open (Refused e) h o = tt
-
-module _ {s : List ℕ} {l : RowLayout} {p : Bool} {a : List ℕ} {q : Bool} {b : List ℕ} {start : Flag} where
-  pub compare-start : Framed s l p a → WhenOpen start (Framed s l q b) → Comparing s l p a q b start start noColumns 0
-  compare-start d o = record { walk = ahead-start (d .accepted .schema); second = o; rest = refl }
-
-  module _ {f : Flag} {x : RowLayout} {at : ℕ} (k : Comparing s l p a q b start f x at) where
-    pub compare-end : length s ≤ at → f ≡ walkedCompared l p a q b start noColumns (typesIn s)
+  module _ {x : RowLayout} {at : ℕ} (k : Comparing s l p a q b x at) where
+    pub compare-end : length s ≤ at → Is true ≡ whole s l p a q b
     compare-end h =
         let n : x .«num_columns» ≡ length (typesIn s) = ahead-end (k .walk) h in
-        let none : drop (x .«num_columns») (typesIn s) ≡ [] = drop-of-length-le (typesIn s) {i = x .«num_columns»} (omega (arith, n)) in
+        let none : drop (x .«num_columns») (typesIn s) ≡ [] =
+        drop-of-length-le (typesIn s) {i = x .«num_columns»} (omega (arith, n)) in
         rw none at (k .rest)
 
-    module _ (h : at < length s) {t : DataType} {next : ℕ} (e : columnRecordAt s at ≡ Record.Column t next) where
-      split : onFirst (walkedColumn l p x t a) (λ v. walkedCompared l p a q b (compared f t v a b (walkedColumn l q x t b)) (withColumn x (shapeOf t)) (drop (x .«num_columns» + 1) (typesIn s)))
-          ≡ walkedCompared l p a q b start noColumns (typesIn s)
-      split = rw (ahead-split (k .walk) h e) at (k .rest)
+    module _ (h : at < length s) where
+      -- the column that the walk has come to, and those after it
+      abbrev t : DataType
+      t = typeIn (columnRecordAt s at)
 
-      pub compare-reach : WhenOpen f (Reachable l q x t b)
-      compare-reach = when-open f (λ g. reach-next g (k .walk) h e) (k .second)
+      abbrev next : RowLayout
+      next = withColumn x (shapeOf t)
 
-      pub compare-bad : {r : Refusal} → walkedColumn l p x t a ≡ Column.Refused r → Refused r ≡ walkedCompared l p a q b start noColumns (typesIn s)
-      compare-bad g = rw g at split
+      abbrev types : List DataType
+      types = drop (x .«num_columns» + 1) (typesIn s)
 
-      pub compare-more : {v : DataValue} {c : Flag} → walkedColumn l p x t a ≡ Column.Value v → c ≡ compared f t v a b (walkedColumn l q x t b) → Bounded (withColumn x (shapeOf t))
-          → Comparing s l p a q b start c (withColumn x (shapeOf t)) next
-      compare-more {v} g c small =
-          rw c (record {
-            walk = ahead-more (k .walk) h e small;
-            second = still-open f t v a b (walkedColumn l q x t b) (Framed s l q b) (k .second);
-            rest = rw g at split;
-          })
+      abbrev later : Bool → List ℕ → Values
+      later o r = walkedRead l o (λ i. true) r next types
+
+      abbrev first : ColumnRead
+      first = walkedColumn l p x t a
+
+      abbrev second : ColumnRead
+      second = walkedColumn l q x t b
+
+      split : drop (x .«num_columns») (typesIn s) ≡ t ∷ types
+      split = let n = ahead-column (k .walk) h in rw (ap typeIn (n .is)) (ahead-split (k .walk) h (n .is))
+
+      firsts : onColumn first (later p a) ≡ ok (k .values)
+      firsts = rw split at (k .firsts)
+
+      rest : onValues (onColumn second (later q b)) (λ us. Is (sameValues (t ∷ types) a (k .values) b us))
+          ≡ whole s l p a q b
+      rest = rw split at (k .rest)
+
+      pub compare-bad : {e : Refusal} → compared t a first b second ≡ Refused e → Refused e ≡ whole s l p a q b
+      compare-bad c = column-refused t types a b (later q b) first second (later p a) firsts c ∙ rest
+
+      module _ {y : Step} (e : y ≡ passed at x (columnRecordAt s at)) where
+        after-is : y .before ≡ next
+        after-is =
+            let n = ahead-column (k .walk) h in
+            rw (ap typeIn (n .is)) (ap (λ (z : Step). z .before) (step-is (k .walk) h e))
+
+        left-is : (o : Bool) (r : List ℕ) → left s l o r (y .before) ≡ later o r
+        left-is o r = rw after-is
+
+        pub compare-other : compared t a first b second ≡ Is false
+            → readAll false (left s l q b (y .before)) ≡ whole s l p a q b
+        compare-other c =
+            ap (readAll false) (left-is q b)
+            ∙ column-other t types a b (later q b) first second (later p a) firsts c ∙ rest
+
+        pub compare-more : Bounded (y .before) → compared t a first b second ≡ Is true
+            → Comparing s l p a q b (y .before) (y .at)
+        compare-more small c =
+            let m = column-same t types a b (later q b) first second (later p a) firsts c in
+            record {
+              walk = ahead-step (k .walk) h e small;
+              values = m .values;
+              firsts = left-is p a ∙ m .firsts;
+              rest = rw after-is (m .rest ∙ rest);
+            }
+
+        module _ (f : Framed s l p a) (g : Framed s l q b) where
+          reach : {o : Bool} {r : List ℕ} → Framed s l o r → Reachable l o x t r
+          reach d = let n = ahead-column (k .walk) h in rw (ap typeIn (n .is)) (reach-next d (k .walk) h (n .is))
+
+          pub compare-beside : Beside l x (y .before) p a × Beside l x (y .before) q b
+          compare-beside = (beside l x t (reach f) after-is, beside l x t (reach g) after-is)
+
+          pub compare-stored : storedAlike l x (y .before) p a q b ≡ true → compared t a first b second ≡ Is true
+          compare-stored c =
+              stored-alike l x t p a q b (reach f) (reach g) (rw after-is at c)
+              (reads-first first (later p a) firsts)

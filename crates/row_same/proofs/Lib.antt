@@ -1,3 +1,4 @@
 pub mod Stand
+pub mod Alike
 pub mod Compared
 pub mod Comparing

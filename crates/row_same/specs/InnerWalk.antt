@@ -1,51 +1,51 @@
--- For the proofs: the walk, as the code goes it. One pass compares both rows; what the second row has shown so far
--- goes with it: whether it is the same, or its first refusal.
+-- For the proofs: the comparison of two rows, as the code goes it.
 use Prim.Native.Nat.{ℕ}
-use mathlib.Core.Bool.{Bool, true, false, cond}
-use mathlib.Core.List.{List, [], _∷_}
+use mathlib.Core.Bool.{Bool, true}
+use mathlib.Core.List.{List}
 use mathlib.Core.Path.{_≡_}
 use Rattle.error.specs.declared.Flag.{Flag}
 use Rattle.error.specs.declared.Flag.the-variants.{Is, Refused}
+use Rattle.error.specs.Result.{ok, refused}
 use Rattle.row_layout.specs.declared.RowLayout.{RowLayout}
-use Rattle.row_layout.specs.InnerLayout.{noColumns, withColumn}
+use Rattle.row_layout.specs.InnerLayout.{noColumns}
 use Rattle.datatype.specs.declared.DataType.{DataType}
-use Rattle.datatype.specs.Types.{shapeOf, lengthOf}
+use Rattle.datatype.specs.Types.{lengthOf}
 use Rattle.value.specs.declared.DataValue.{DataValue}
 use Rattle.value.specs.Ranges.{textOf}
+use Rattle.value_list.specs.Lists.{Values}
 use Rattle.value_same.specs.Same.{sameContent}
 use Rattle.value_same.specs.InnerFields.{standsIn}
 use Rattle.row_column.specs.declared.ColumnRead.{ColumnRead}
 use Rattle.row_column.specs.declared.ColumnRead.the-variants as Column
-use Rattle.row_column.specs.Frame.{onFrame}
-use Rattle.row_column.specs.InnerWalk.{walkedFrame, walkedColumn}
+use Rattle.row_column.specs.InnerWalk.{walkedColumn}
+use Rattle.row_decode.specs.InnerWalk.{walkedRead}
+use Rattle.row_same.specs.Rows.{sameValues, onValues}
 
 -- the value v of a column of row a, and what the column of row b reads as
-abbrev pub compared : Flag → DataType → DataValue → List ℕ → List ℕ → ColumnRead → Flag
-compared (Refused e) t v a b c = Refused e
-compared (Is s) t v a b (Column.Refused e) = Refused e
-compared (Is s) t v a b (Column.Value w) = Is (cond s (sameContent (lengthOf t) v (textOf a v) w (textOf b w)) false)
+abbrev pub comparedWith : DataType → DataValue → List ℕ → ColumnRead → List ℕ → Flag
+comparedWith t v a (Column.Refused e) b = Refused e
+comparedWith t v a (Column.Value w) b = Is (sameContent (lengthOf t) v (textOf a v) w (textOf b w))
 
-abbrev pub onFirst : ColumnRead → (DataValue → Flag) → Flag
-onFirst (Column.Value v) k = k v
-onFirst (Column.Refused e) k = Refused e
+-- what both read as
+abbrev pub compared : DataType → List ℕ → ColumnRead → List ℕ → ColumnRead → Flag
+compared t a (Column.Refused e) b d = Refused e
+compared t a (Column.Value v) b d = comparedWith t v a d b
 
--- the columns of types ts that come after those of layout x, in rows a and b, packed by p and q
-abbrev pub walkedCompared : RowLayout → Bool → List ℕ → Bool → List ℕ → Flag → RowLayout → List DataType → Flag
-walkedCompared l p a q b f x [] = f
-walkedCompared l p a q b f x (t ∷ ts) =
-    onFirst (walkedColumn l p x t a) (λ v. walkedCompared l p a q b (compared f t v a b (walkedColumn l q x t b))
-    (withColumn x (shapeOf t)) ts)
+-- the column of type t that comes after those of layout x, in rows with layout l, packed by p and q
+abbrev pub comparedAt : DataType → RowLayout → RowLayout → Bool → List ℕ → Bool → List ℕ → Flag
+comparedAt t l x p a q b = compared t a (walkedColumn l p x t a) b (walkedColumn l q x t b)
 
--- the first row's header is good: all columns
-abbrev pub walkedRows : ℕ → List DataType → RowLayout → Bool → List ℕ → List ℕ → Flag
-walkedRows limit ts l p a b =
-    onFrame (walkedFrame limit l b) (λ e. walkedCompared l p a true b (Refused e) noColumns ts)
-    (λ q. walkedCompared l p a q b (Is true) noColumns ts)
+-- all columns of a row with layout l
+abbrev pub walkedAll : List DataType → RowLayout → List ℕ → Bool → Values
+walkedAll ts l r p = walkedRead l p (λ i. true) r noColumns ts
 
--- the second row is read only where its header is good
-abbrev pub WhenOpen : Flag → Type 0 → Type 0
-WhenOpen (Is s) P = P
-WhenOpen (Refused e) P = Unit {0}
+-- what all columns of both rows read as
+abbrev pub bothRead : List DataType → List ℕ → Values → List ℕ → Values → Flag
+bothRead ts a first b second = onValues first (λ vs. onValues second (λ us. Is (sameValues ts a vs b us)))
+
+abbrev pub AllRead : Values → Type 0
+AllRead (ok vs) = Unit {0}
+AllRead (refused e) = ⊥
 
 -- a value that was read has its text in the row
 abbrev pub Stands : DataType → List ℕ → ColumnRead → Type 0

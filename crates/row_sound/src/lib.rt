@@ -1,4 +1,5 @@
-// Whether a row may be edited. The Rust has no such test: on other rows its edits may panic, or leave bytes that belong to no column.
+// Whether a row may be edited. The Rust has no such test: on other rows its edits may panic, or leave bytes that
+// belong to no column.
 use datatype::DataType;
 use datatype::Record;
 use datatype::schema_kinds;
@@ -52,7 +53,10 @@ fn time_sound(row: &[u8], start: usize) -> bool
 // Whether the bytes at `start` are a value of a kind that no body follows. Any bytes are a number or a truth.
 fn slot_sound(kind: u8, row: &[u8], start: usize) -> bool
     requires { ⌜ (0 < plainSize (columnKind kind)) × (start + plainSize (columnKind kind) ≤ length (now row)) ⌝ }
-    ensures { λ r. ⌜ r ≡ isValue (readSlot (plainType (columnKind kind)) start (take (plainSize (columnKind kind)) (drop start (now (row .entry))))) ⌝ }
+    ensures { λ r. ⌜ r
+        ≡ isValue
+        (readSlot (plainType (columnKind kind)) start
+        (take (plainSize (columnKind kind)) (drop start (now (row .entry))))) ⌝ }
 {
     match kind {
         schema_kinds::DATE => temporal::is_date(endian::read_i32(row, start)),
@@ -63,7 +67,7 @@ fn slot_sound(kind: u8, row: &[u8], start: usize) -> bool
 }
 
 // A column of such a kind, of `size` bytes. Its slot is looked at only where it could be no value: from Date on.
-fn plain_sound(
+pub fn plain_sound(
     kind: u8,
     size: usize,
     layout: RowLayout,
@@ -71,7 +75,8 @@ fn plain_sound(
     before: RowLayout,
     row: &[u8],
 ) -> bool
-    requires { ⌜ (size ≡ plainSize (columnKind kind)) × ((0 < size) × ((size ≤ 8) × Reachable layout packed before (plainType (columnKind kind)) (now row))) ⌝ }
+    requires { ⌜ (size ≡ plainSize (columnKind kind))
+        × ((0 < size) × ((size ≤ 8) × Reachable layout packed before (plainType (columnKind kind)) (now row))) ⌝ }
     ensures { λ r. ⌜ r ≡ walkedSound layout packed before (plainType (columnKind kind)) (now (row .entry)) ⌝ }
 {
     if kind < schema_kinds::DATE {
@@ -87,7 +92,8 @@ fn plain_sound(
 // The range of a Varchar(n) that is not null.
 fn range_sound(n: usize, row: &[u8], table: usize, varlens: usize, rank: usize) -> bool
     requires { ⌜ (rank < varlens) × (table + varlens * offsetWidth ≤ length (now row)) ⌝ }
-    ensures { λ r. ⌜ r ≡ rangeSound n (now (row .entry)) (varlenRange offsetWidth table varlens rank (now (row .entry))) ⌝ }
+    ensures { λ r. ⌜ r
+        ≡ rangeSound n (now (row .entry)) (varlenRange offsetWidth table varlens rank (now (row .entry))) ⌝ }
 {
     match row_layout::varlen_range(row, table, varlens, rank) {
         VarlenRange::Null => false,
@@ -116,7 +122,7 @@ fn varchar_sound(n: u16, layout: RowLayout, packed: bool, before: RowLayout, row
 }
 
 // The slot of a Char(n).
-fn char_sound(n: u16, layout: RowLayout, packed: bool, before: RowLayout, row: &[u8]) -> bool
+pub fn char_sound(n: u16, layout: RowLayout, packed: bool, before: RowLayout, row: &[u8]) -> bool
     requires { ⌜ Reachable layout packed before (Char n) (now row) ⌝ }
     ensures { λ r. ⌜ r ≡ isText (take n (drop (walkedPlace layout packed before (Char n)) (now (row .entry)))) ⌝ }
 {
@@ -141,7 +147,7 @@ fn column_sound(
     }
 }
 
-fn record_sound(
+pub fn record_sound(
     schema: &[u8],
     at: usize,
     layout: RowLayout,
@@ -149,8 +155,12 @@ fn record_sound(
     before: RowLayout,
     row: &[u8],
 ) -> bool
-    requires { ⌜ Recorded (now schema) at × (Reachable layout packed before (typeIn (columnRecordAt (now schema) at)) (now row) × (isVarlen (typeIn (columnRecordAt (now schema) at)) ≡ false)) ⌝ }
-    ensures { λ r. ⌜ r ≡ walkedSound layout packed before (typeIn (columnRecordAt (now (schema .entry)) at)) (now (row .entry)) ⌝ }
+    requires { ⌜ Recorded (now schema) at
+        × (Reachable layout packed before (typeIn (columnRecordAt (now schema) at)) (now row)
+        × (isVarlen (typeIn (columnRecordAt (now schema) at)) ≡ false)) ⌝ }
+    ensures { λ r. ⌜ r
+        ≡ walkedSound layout packed before (typeIn (columnRecordAt (now (schema .entry)) at))
+        (now (row .entry)) ⌝ }
 {
     match datatype::record_at(schema, at) {
         Record::Refused(_) => false,
@@ -168,8 +178,13 @@ fn body_sound(
     before: RowLayout,
     row: &[u8],
 ) -> bool
-    requires { ⌜ (kind ≡ getD (now schema) at 0) × ((plainSize (columnKind kind) ≡ 0) × (Recorded (now schema) at × Reachable layout packed before (typeIn (columnRecordAt (now schema) at)) (now row))) ⌝ }
-    ensures { λ r. ⌜ r ≡ walkedSound layout packed before (typeIn (columnRecordAt (now (schema .entry)) at)) (now (row .entry)) ⌝ }
+    requires { ⌜ (kind ≡ getD (now schema) at 0)
+        × ((plainSize (columnKind kind) ≡ 0)
+        × (Recorded (now schema) at
+        × Reachable layout packed before (typeIn (columnRecordAt (now schema) at)) (now row))) ⌝ }
+    ensures { λ r. ⌜ r
+        ≡ walkedSound layout packed before (typeIn (columnRecordAt (now (schema .entry)) at))
+        (now (row .entry)) ⌝ }
 {
     let n = endian::read_u16(schema, at + 1);
     if kind == schema_kinds::VARCHAR {
@@ -195,8 +210,11 @@ fn kind_sound(
     before: RowLayout,
     row: &[u8],
 ) -> bool
-    requires { ⌜ Recorded (now schema) at × Reachable layout packed before (typeIn (columnRecordAt (now schema) at)) (now row) ⌝ }
-    ensures { λ r. ⌜ r ≡ walkedSound layout packed before (typeIn (columnRecordAt (now (schema .entry)) at)) (now (row .entry)) ⌝ }
+    requires { ⌜ Recorded (now schema) at
+        × Reachable layout packed before (typeIn (columnRecordAt (now schema) at)) (now row) ⌝ }
+    ensures { λ r. ⌜ r
+        ≡ walkedSound layout packed before (typeIn (columnRecordAt (now (schema .entry)) at))
+        (now (row .entry)) ⌝ }
 {
     let kind = schema[at];
     let size = datatype::plain_size(kind);
@@ -226,7 +244,8 @@ fn columns_sound(schema: &[u8], layout: RowLayout, packed: bool, row: &[u8]) -> 
 
 // The first offset that is not 0, else the row's length.
 fn first_payload(layout: RowLayout, row: &[u8]) -> usize
-    requires { ⌜ Bounded layout × (fixedStart offsetWidth (layout .«num_columns») (layout .«num_varlen_cols») ≤ length (now row)) ⌝ }
+    requires { ⌜ Bounded layout
+        × (fixedStart offsetWidth (layout .«num_columns») (layout .«num_varlen_cols») ≤ length (now row)) ⌝ }
     ensures { λ r. ⌜ r ≡ walkedFirst layout (now (row .entry)) ⌝ }
 {
     let varlens = layout.num_varlen_cols;

@@ -1,4 +1,4 @@
--- What the same content says of stored forms: the words of `same-stored`.
+-- What the same content says of stored forms: the words of `same-stored`. FORMAT 7.4.
 use Prim.Native.Nat.{ℕ}
 use mathlib.Core.Path.{_≡_}
 use mathlib.Core.List.{List}

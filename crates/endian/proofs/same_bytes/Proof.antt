@@ -1,4 +1,4 @@
-use Rattle.laws.proofs.Same.{Comparing, same-lengths, compare-start, compare-more, compare-other, compare-end}
+use Rattle.laws.proofs.Same.{Comparing, same-lengths, compare-more, compare-other, compare-end}
 use denote.Ref.{now}
 use lib.ListN.{length}
 use Prim.Native.Nat.{_-_}
@@ -14,10 +14,15 @@ abbrev μ-loop : tie.MeasureT-loop
 μ-loop a b i₀ i = length a - i
 
 returns : tie.Need-returns Inv-loop μ-loop
-returns c = sym (same-lengths (now (c .before .args .a)) (now (c .before .args .b)) (search needs))
+returns c =
+    let a = c .before .before .before .args in
+    sym (same-lengths (now (a .a)) (now (a .b)) (search needs))
+
+same-words-requires : tie.Need-same-words-requires Inv-loop μ-loop
+same-words-requires c κs = search needs
 
 loop-holds : tie.Need-loop-holds Inv-loop μ-loop
-loop-holds c = compare-start (search needs)
+loop-holds c = record { lengths = search needs; within = c .same-words .ensures .0; rest = c .same-words .ensures .1 }
 
 shared-slice-read-if2 : tie.Need-shared-slice-read-if2 Inv-loop μ-loop
 shared-slice-read-if2 c = search needs
@@ -47,6 +52,7 @@ same-bytes-spec =
     Inv-loop
     μ-loop
     returns
+    same-words-requires
     loop-holds
     shared-slice-read-if2
     shared-slice-read-if2-2

@@ -9,16 +9,15 @@ enum-known-column-2 : tie.Need-enum-known-column-2
 enum-known-column-2 c = search needs
 
 same-content-requires : tie.Need-same-content-requires
-same-content-requires c κs = (c .before .before .before .before .before .before .pre .0, rw (c .before .before .column2 .given .1) at (c .before .before .before .before .before .before .pre .1))
+same-content-requires c κs =
+    let p = c .before .before .before .before .before .pre in
+    (p .0, rw (c .before .column2 .given .1) at (p .1))
 
 returns : tie.Need-returns
-returns c = rw (c .before .before .before .column2 .given .1, c .before .if1 .taken, c .same-content .ensures)
+returns c = rw (c .before .column .given .1)
 
 returns-2 : tie.Need-returns-2
-returns-2 c = rw (c .before .column .given .1)
-
-returns-3 : tie.Need-returns-3
-returns-3 c = rw (c .before .before .column2 .given .1, c .if1 .left)
+returns-2 c = rw (c .before .before .column2 .given .1, c .same-content .ensures)
 
 pub compare-spec : {M : Type 1} → statement M
 compare-spec =
@@ -28,5 +27,4 @@ compare-spec =
     enum-known-column-2
     same-content-requires
     returns
-    returns-2
-    returns-3)
+    returns-2)

@@ -1,33 +1,41 @@
 use borrow.Author.Needs.{needs}
 use Rattle.row_same.proofs.compare_column.Statement.{statement}
 use Rattle.row_same.proofs.compare_column.Tie as tie
-use Rattle.row_same.proofs.Stand.{column-stands}
+use mathlib.Core.Path.{sym, _∙_}
+use Rattle.row_sound.proofs.ByKind.{recorded-good}
 
-enum-known-so-far : tie.Need-enum-known-so-far
-enum-known-so-far c = search needs
+record-at-requires : tie.Need-record-at-requires
+record-at-requires c κs = search needs
 
-enum-known-so-far-2 : tie.Need-enum-known-so-far-2
-enum-known-so-far-2 c = search needs
+enum-known-e : tie.Need-enum-known-e
+enum-known-e c = search needs
 
-read-column-requires : tie.Need-read-column-requires
-read-column-requires c κs = rw (c .before .so-far2 .given .1) at (c .before .before .before .before .before .pre .1)
+enum-known-ty : tie.Need-enum-known-ty
+enum-known-ty c = search needs
 
-compare-requires : tie.Need-compare-requires
-compare-requires c κs = (c .before .before .before .before .before .before .pre .0, rw (c .read-column .ensures .0) (column-stands (rw (c .before .before .so-far2 .given .1) at (c .before .before .before .before .before .before .pre .1))))
+compare-values-requires : tie.Need-compare-values-requires
+compare-values-requires c κs =
+    let m = c .before .before .before in
+    rw (← m .record-at .ensures, c .before .ty .given .1) at (m .before .before .before .before .pre .1)
 
 returns : tie.Need-returns
-returns c = rw (c .before .so-far .given .1)
+returns c =
+    let m = c .before .before .before in
+    let n = m .before .before .before .before in
+    absurd (recorded-good (n .pre .0) (sym (m .record-at .ensures) ∙ c .before .e .given .1))
 
 returns-2 : tie.Need-returns-2
-returns-2 c = rw (c .before .before .before .so-far2 .given .1, ← c .before .read-column .ensures .0) (c .compare .ensures)
+returns-2 c =
+    let m = c .before .before in
+    rw (← m .before .before .record-at .ensures, m .ty .given .1) (c .compare-values .ensures)
 
 pub compare-column-spec : {M : Type 1} → statement M
 compare-column-spec =
     tie.close
     (tie.spec
-    enum-known-so-far
-    enum-known-so-far-2
-    read-column-requires
-    compare-requires
+    record-at-requires
+    enum-known-e
+    enum-known-ty
+    compare-values-requires
     returns
     returns-2)

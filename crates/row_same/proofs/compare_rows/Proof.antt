@@ -17,22 +17,27 @@ enum-known-e c = search needs
 enum-known-p : tie.Need-enum-known-p
 enum-known-p c = search needs
 
-compare-framed-requires : tie.Need-compare-framed-requires
-compare-framed-requires c κs = framed (c .before .before .before .before .before .before .before .pre) (sym (c .before .before .before .check-frame .ensures) ∙ c .before .p .given .1)
+compare-read-requires : tie.Need-compare-read-requires
+compare-read-requires c κs =
+    let m = c .before .before .before in
+    framed (m .before .before .before .before .pre) (sym (m .check-frame .ensures) ∙ c .before .p .given .1)
 
 returns : tie.Need-returns
 returns c =
-    let a = c .before .before .before .before .before .before .before .args in
-    rows-refused rowLimit (typesIn (now (a .schema)))
-    (c .before .before .before .before .before .before .before .pre .layout) (now (a .a)) (now (a .b))
-    (sym (c .before .before .before .check-frame .ensures) ∙ c .before .e .given .1)
+    let m = c .before .before .before in
+    let n = m .before .before .before .before in
+    let a = n .args in
+    rows-refused rowLimit (typesIn (now (a .schema))) (n .pre .layout) (now (a .a)) (now (a .b))
+    (sym (m .check-frame .ensures) ∙ c .before .e .given .1)
 
 returns-2 : tie.Need-returns-2
 returns-2 c =
-    let a = c .before .before .before .before .before .before .before .before .args in
-    c .compare-framed .ensures ∙ rows-good rowLimit (typesIn (now (a .schema)))
-    (c .before .before .before .before .before .before .before .before .pre .layout) (now (a .a)) (now (a .b))
-    (sym (c .before .before .before .before .check-frame .ensures) ∙ c .before .before .p .given .1)
+    let m = c .before .before .before .before in
+    let n = m .before .before .before .before in
+    let a = n .args in
+    c .compare-read .ensures
+    ∙ rows-good rowLimit (typesIn (now (a .schema))) (n .pre .layout) (now (a .a)) (now (a .b))
+    (sym (m .check-frame .ensures) ∙ c .before .before .p .given .1)
 
 pub compare-rows-spec : {M : Type 1} → statement M
 compare-rows-spec =
@@ -41,6 +46,6 @@ compare-rows-spec =
     check-frame-requires
     enum-known-e
     enum-known-p
-    compare-framed-requires
+    compare-read-requires
     returns
     returns-2)

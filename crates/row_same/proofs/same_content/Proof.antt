@@ -17,13 +17,24 @@ enum-known-layout : tie.Need-enum-known-layout
 enum-known-layout c = search needs
 
 compare-rows-requires : tie.Need-compare-rows-requires
-compare-rows-requires c κs = accepted (now (c .before .before .before .before .before .before .before .args .schema)) (sym (c .before .before .before .check-schema .ensures .0) ∙ c .before .layout .given .1) ((rw (c .before .layout .given .1) at (c .before .before .before .check-schema .ensures .1)) .bounded)
+compare-rows-requires c κs =
+    let m = c .before .before .before in
+    let e = c .before .layout .given .1 in
+    accepted (now (m .before .before .before .before .args .schema)) (sym (m .check-schema .ensures .0) ∙ e)
+    ((rw e at (m .check-schema .ensures .1)) .bounded)
 
 returns : tie.Need-returns
-returns c = on-refused (schemaOf offsetWidth rowLimit (now (c .before .before .before .before .before .before .before .args .schema))) _ _ (sym (c .before .before .before .check-schema .ensures .0) ∙ c .before .e .given .1)
+returns c =
+    let m = c .before .before .before in
+    on-refused (schemaOf offsetWidth rowLimit (now (m .before .before .before .before .args .schema))) _ _
+    (sym (m .check-schema .ensures .0) ∙ c .before .e .given .1)
 
 returns-2 : tie.Need-returns-2
-returns-2 c = c .compare-rows .ensures ∙ on-good (now (c .before .before .before .before .before .before .before .before .args .schema)) (sym (c .before .before .before .before .check-schema .ensures .0) ∙ c .before .before .layout .given .1) _ _
+returns-2 c =
+    let m = c .before .before .before .before in
+    c .compare-rows .ensures
+    ∙ on-good (now (m .before .before .before .before .args .schema))
+    (sym (m .check-schema .ensures .0) ∙ c .before .before .layout .given .1) _ _
 
 pub same-content-spec : {M : Type 1} → statement M
 same-content-spec =

@@ -62,9 +62,10 @@ returns-3 c =
 
 same-bits-requires : tie.Need-same-bits-requires
 same-bits-requires c κs =
+    let entry = c .before .before .before .before .before .before .before .before .before in
     let e = sym (c .before .before .before .before .before .kind .ensures) ∙ c .if4 .taken in
     let f = sym (c .before .before .before .before .kind2 .ensures) ∙ sym (c .before .before .before .if1 .left) ∙ c .if4 .taken in
-    rw (c .before .before .before .before .before .before .declared-length .ensures) (c .before .before .before .before .before .before .before .before .before .pre .0 e, c .before .before .before .before .before .before .before .before .before .pre .1 f)
+    rw (c .before .before .before .before .before .before .declared-length .ensures) (entry .pre .0 e, entry .pre .1 f)
 
 returns-4 : tie.Need-returns-4
 returns-4 c = rw (← c .before .before .before .before .before .before .kind .ensures, ← c .before .before .before .before .before .kind2 .ensures, ← c .before .before .before .before .before .before .before .declared-length .ensures) (search by-tests depth 9)

@@ -1,0 +1,54 @@
+-- For the proofs: two columns that are null, or of the same bytes, told without their type.
+use Prim.Native.Nat.{ℕ, _+_, _-_, _≤_, _<_}
+use mathlib.Core.Bool.{Bool, false, cond}
+use mathlib.Core.List.{List}
+use lib.Dec.{eqb, ltb}
+use lib.ListN.{length, take, drop}
+use Rattle.laws.specs.Bits.{bitAt}
+use Rattle.laws.specs.Bytes.{sameBytes}
+use Rattle.row_format.specs.Places.{bitmapStart, tableStart, fixedStart, offsetWidth}
+use Rattle.row_layout.specs.declared.RowLayout.{RowLayout}
+use Rattle.row_layout.specs.declared.VarlenRange.{VarlenRange}
+use Rattle.row_layout.specs.declared.VarlenRange.the-variants.{Null, Bytes, Outside}
+use Rattle.row_layout.specs.Layout.{sizeIn}
+use Rattle.row_layout.specs.Range.{varlenRange}
+use Rattle.row_layout.specs.InnerLayout.{Bounded}
+
+-- two ranges that are parts of their rows
+abbrev pub alikeRanges : List ℕ → VarlenRange → List ℕ → VarlenRange → Bool
+alikeRanges a Null b y = false
+alikeRanges a Outside b y = false
+alikeRanges a (Bytes s e) b Null = false
+alikeRanges a (Bytes s e) b Outside = false
+alikeRanges a (Bytes s e) b (Bytes f t) = sameBytes (take (e - s) (drop s a)) (take (t - f) (drop f b))
+
+-- the column after those of layout x, in a row r with layout l, packed or padded; y is the layout with it
+abbrev pub fixedPart : RowLayout → RowLayout → RowLayout → Bool → List ℕ → List ℕ
+fixedPart l x y p r =
+    let base : ℕ = fixedStart offsetWidth (l .«num_columns») (l .«num_varlen_cols») in
+    take (base + sizeIn y p - (base + sizeIn x p)) (drop (base + sizeIn x p) r)
+
+abbrev pub rangeIn : RowLayout → RowLayout → List ℕ → VarlenRange
+rangeIn l x r = varlenRange offsetWidth (tableStart (l .«num_columns»)) (l .«num_varlen_cols») (x .«num_varlen_cols») r
+
+abbrev pub isMarked : RowLayout → List ℕ → Bool
+isMarked x r = eqb (bitAt (x .«num_columns») (drop bitmapStart r)) 1
+
+abbrev pub presentAlike : RowLayout → RowLayout → RowLayout → Bool → List ℕ → Bool → List ℕ → Bool
+presentAlike l x y p a q b =
+    cond (ltb (x .«num_varlen_cols») (y .«num_varlen_cols»)) (alikeRanges a (rangeIn l x a) b (rangeIn l x b))
+    (sameBytes (fixedPart l x y p a) (fixedPart l x y q b))
+
+abbrev pub storedAlike : RowLayout → RowLayout → RowLayout → Bool → List ℕ → Bool → List ℕ → Bool
+storedAlike l x y p a q b =
+    cond (isMarked x a) (isMarked x b) (cond (isMarked x b) false (presentAlike l x y p a q b))
+
+-- the row has all of that
+pub record Beside (l x y : RowLayout) (p : Bool) (r : List ℕ) : Type 0 where
+  pub whole : Bounded l
+  pub column : x .«num_columns» < l .«num_columns»
+  pub table : fixedStart offsetWidth (l .«num_columns») (l .«num_varlen_cols») ≤ length r
+  pub rank : x .«num_varlen_cols» < y .«num_varlen_cols» → x .«num_varlen_cols» < l .«num_varlen_cols»
+  pub rises : (x .«num_varlen_cols» < y .«num_varlen_cols» → ⊥) → sizeIn x p ≤ sizeIn y p
+  pub slot : (x .«num_varlen_cols» < y .«num_varlen_cols» → ⊥)
+      → fixedStart offsetWidth (l .«num_columns») (l .«num_varlen_cols») + sizeIn y p ≤ length r
