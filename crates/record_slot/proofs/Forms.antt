@@ -32,7 +32,7 @@ use Rattle.value_list.specs.Records.{bodyLength, numericAt, rangeAt, valueAt, r
 use Rattle.stored_form.specs.Write.{fitsText, accepted, storedForm}
 use Rattle.stored_form.proofs.Lengths.{fits-below, fits-length}
 use Rattle.record_slot.specs.Stored.{isNull}
-use Rattle.record_slot.specs.InnerSteps.{HasType, Readable, valueIn, declaredAt, textSuits, bitsSuit, suitsAt, Testable, payloadLength, payloadIn, formIn, slotSize, bodyStored, blankFilled, numberStored, bitsStored, slotStored, SlotReady, NumberReady}
+use Rattle.record_slot.specs.InnerSteps.{HasType, Readable, valueIn, declaredAt, textSuits, bitsSuit, suitsAt, Testable, payloadLength, payloadIn, formIn, slotSize, bodyStored, slotStored, SlotReady, NumberReady}
 use Rattle.record_slot.proofs.Tests.{payload-short, cell-wrong, cell-unsuited, size-refused, size-null, size-fixed, size-varchar}
 use Rattle.record_slot.proofs.Held.{read-at, value-body, body-within, Declared, told}
 
@@ -187,6 +187,10 @@ module _ (k n : ℕ) where
   plain-stored : (list : List ℕ) (at : ℕ) (area : List ℕ) → (k ≡ 6 → ⊥) → (k ≡ 8 → ⊥) → (k ≡ 12 → ⊥) → bodyStored k list at ≡ slotStored k n list at area
   plain-stored list at area a b c = rw (ne-eqb k 6 a, ne-eqb k 8 b, ne-eqb k 12 c)
 
+  -- no kind at all
+  pub none-stored : (list : List ℕ) (at : ℕ) → (k ≡ 1 → ⊥) → (k ≡ 2 → ⊥) → (k ≡ 3 → ⊥) → (k ≡ 4 → ⊥) → (k ≡ 5 → ⊥) → (k ≡ 7 → ⊥) → (k ≡ 10 → ⊥) → (k ≡ 11 → ⊥) → (k ≡ 13 → ⊥) → [] ≡ bodyStored k list at
+  none-stored list at a b c d e f g h i = simp (ne-eqb k 1 a, ne-eqb k 2 b, ne-eqb k 3 c, ne-eqb k 4 d, ne-eqb k 5 e, ne-eqb k 7 f, ne-eqb k 10 g, ne-eqb k 11 h, ne-eqb k 13 i)
+
   pub plain-size : (k ≡ 6 → ⊥) → (k ≡ 8 → ⊥) → eqb k 9 ≡ false → (k ≡ 12 → ⊥) → bodyLength k ≡ slotSize k n
   plain-size a b d c = rw (ne-eqb k 6 a, ne-eqb k 8 b, d, ne-eqb k 12 c)
 
@@ -241,6 +245,9 @@ module _ {s : List ℕ} {at : ℕ} {list : List ℕ} {from : ℕ} (r : Readable 
   -- its bytes in the offset table, by its kind
   pub entry-bytes : {j z : ℕ} → j ≡ heldKind (columnKind (getD s at 0)) → z ≡ cond (eqb j 9) offsetWidth 0 → z ≡ cond (isVarlen t) offsetWidth 0
   entry-bytes e f = f ∙ ap (λ (m : ℕ). cond (eqb m 9) offsetWidth 0) (e ∙ told s at (read-at r .type-is) .0) ∙ ap (λ (b : Bool). cond b offsetWidth 0) (sym (varlen-kind t))
+
+  pub within-at : (j : ℕ) → k ≡ j → from + 1 + bodyLength j ≤ length list
+  within-at j e = subst (λ (m : ℕ). from + 1 + bodyLength m ≤ length list) e (body-within r)
 
   pub is-null : k ≡ 0 → isNull v ≡ true
   is-null e = rw (value-body r, e) refl
@@ -347,44 +354,24 @@ module _ {s : List ℕ} {at : ℕ} {list : List ℕ} {from : ℕ} (r : Readable 
     slot-room : slot + slotSize k n ≤ room
     slot-room = rw (kind-is (p .match), by-type .size) (p .room)
 
-    module _ (e : k ≡ 6) where
-      pub number-ready : NumberReady (n % 256) (numericAt list (from + 1)) slot room
-      number-ready =
-          let d = digits-declared t n (told s at (read-at r .type-is) .1) (sym (kind-is (p .match)) ∙ e) in
-          record {
-            few = rw d (p .digits);
-            below = fits-below (T.Numeric (n % 256) (n / 256)) _ _ (ap (λ (j : ℕ). suitsAt j n list (from + 1) area) (sym e) ∙ slot-suits);
-            room = subst (λ (j : ℕ). slot + slotSize j n ≤ room) e slot-room;
-          }
+    -- the same by the kind that was found
+    module _ (j : ℕ) (e : k ≡ j) where
+      pub form-at : slotStored j n list (from + 1) area ≡ formIn s at list from area
+      form-at = ap (λ (m : ℕ). slotStored m n list (from + 1) area) (sym e) ∙ slot-form
 
-      pub number-stored : numberStored (n % 256) (numericAt list (from + 1)) ≡ formIn s at list from area
-      number-stored = ap (λ (j : ℕ). slotStored j n list (from + 1) area) (sym e) ∙ slot-form
+      pub suits-at : suitsAt j n list (from + 1) area ≡ true
+      suits-at = ap (λ (m : ℕ). suitsAt m n list (from + 1) area) (sym e) ∙ slot-suits
 
-    module _ (e : k ≡ 8) where
-      pub char-stored : blankFilled n (part area (rangeAt list (from + 1))) ≡ formIn s at list from area
-      char-stored = ap (λ (j : ℕ). slotStored j n list (from + 1) area) (sym e) ∙ slot-form
+      pub room-at : slot + slotSize j n ≤ room
+      room-at = subst (λ (m : ℕ). slot + slotSize m n ≤ room) e slot-room
 
-      pub char-room : slot + n ≤ room
-      char-room = subst (λ (j : ℕ). slot + slotSize j n ≤ room) e slot-room
+    pub number-ready : k ≡ 6 → NumberReady (n % 256) (numericAt list (from + 1)) slot room
+    number-ready e =
+        record {
+          few = rw (digits-declared t n (told s at (read-at r .type-is) .1) (sym (kind-is (p .match)) ∙ e)) (p .digits);
+          below = fits-below (T.Numeric (n % 256) (n / 256)) _ _ (suits-at 6 e);
+          room = room-at 6 e;
+        }
 
-      pub char-suits : textSuits n (rangeAt list (from + 1)) area ≡ true
-      char-suits = ap (λ (j : ℕ). suitsAt j n list (from + 1) area) (sym e) ∙ slot-suits
-
-    module _ (e : k ≡ 12) where
-      pub bit-stored : bitsStored n (part area (rangeAt list (from + 1))) ≡ formIn s at list from area
-      bit-stored = ap (λ (j : ℕ). slotStored j n list (from + 1) area) (sym e) ∙ slot-form
-
-      pub bit-room : slot + bytesFor n ≤ room
-      bit-room = subst (λ (j : ℕ). slot + slotSize j n ≤ room) e slot-room
-
-      pub bit-suits : bitsSuit n (rangeAt list (from + 1)) area ≡ true
-      bit-suits = ap (λ (j : ℕ). suitsAt j n list (from + 1) area) (sym e) ∙ slot-suits
-
-    module _ (a : k ≡ 6 → ⊥) (b : k ≡ 8 → ⊥) (c : k ≡ 12 → ⊥) where
-      pub body-stored : bodyStored k list (from + 1) ≡ formIn s at list from area
-      body-stored = plain-stored k n list (from + 1) area a b c ∙ slot-form
-
-      pub body-room : slot + bodyLength k ≤ room
-      body-room =
-          let d : eqb k 9 ≡ false = ap (λ (j : ℕ). eqb j 9) (kind-is (p .match)) ∙ sym (varlen-kind t) ∙ p .fixed in
-          rw (plain-size k n a b d c) slot-room
+    pub body-stored : (k ≡ 6 → ⊥) → (k ≡ 8 → ⊥) → (k ≡ 12 → ⊥) → bodyStored k list (from + 1) ≡ formIn s at list from area
+    body-stored a b c = plain-stored k n list (from + 1) area a b c ∙ slot-form

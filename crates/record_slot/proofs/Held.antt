@@ -4,13 +4,13 @@ use mathlib.Core.Path.{_≡_, refl, sym, ap, _∙_}
 use mathlib.Core.Bool.{Bool, true, false, cond, _&&_}
 use mathlib.Core.List.{List}
 use native.Mathlib.Omega.{arith}
-use borrow.Author.Tests.{eqb-true, eqb-false, le-leb, lt-leb, leb-true, ltb-false}
+use borrow.Author.Tests.{eqb-true, eqb-false, le-leb, lt-leb, leb-true, ltb-false, lt-ltb, le-ltb}
 use lib.Dec.{eqb, leb, ltb}
 use lib.ListN.{length, getD, take, drop, length-drop}
 use lib.Seq.{length-take-le}
-use Rattle.error.specs.declared.Refusal.the-variants.{BadRecord, BadSchema}
+use Rattle.error.specs.declared.Refusal.the-variants.{BadRecord, BadSchema, BadValueList}
 use Rattle.laws.proofs.Bytes.{from-add, from-one}
-use Rattle.laws.proofs.Truths.{by-cond, and-left, and-right}
+use Rattle.laws.proofs.Truths.{cases, by-cond, and-left, and-right}
 use Rattle.text.specs.Rfc3629.{isText}
 use Rattle.bit_utils.specs.Bits.{bytesFor}
 use Rattle.datatype.specs.declared.DataType.{DataType}
@@ -27,8 +27,10 @@ use Rattle.value.specs.InnerKinds.{heldKind}
 use Rattle.value_list.specs.declared.ValueRecord.{ValueRecord}
 use Rattle.value_list.specs.declared.ValueRecord.the-variants as Value
 use Rattle.value_list.specs.Records.{bodyLength, numberAt, valueAt, recordAt as valueRecordAt}
+use Rattle.value_list.specs.InnerSizes.{sizeAt}
 use Rattle.value_list.proofs.Records.{Given, given}
-use Rattle.record_slot.specs.InnerSteps.{HasType, Readable, ReadAt, valueIn, afterColumn, givenAt, declaredAt, textSuits, bitsSuit}
+use Rattle.value_list.proofs.Sizes.{Whole, size-none, size-some}
+use Rattle.record_slot.specs.InnerSteps.{lengthAt, HasType, Readable, ReadAt, valueIn, afterColumn, givenAt, declaredAt, textSuits, bitsSuit}
 
 -- ---- the records at two places
 
@@ -54,6 +56,20 @@ module _ (s : List ℕ) (at : ℕ) where
       by-size : (b : Bool) → eqb (plainSize (columnKind (getD s at 0))) 0 ≡ b → cond b (at + 3) (at + 1) ≡ next
       by-size true f = sym (rw e at (long-of (bodied (getD s at 0) (eqb-true _ 0 f))))
       by-size false f = ap placeIn (sym (plain-record s at (eqb-false _ 0 f)) ∙ e)
+
+-- a value's record by its length
+module _ (list : List ℕ) (from : ℕ) {z : ℕ} (e : z ≡ lengthAt list from) where
+  there : (z ≡ 0 → ⊥) → from < length list
+  there n = cases from (length list) (λ h. h) (λ h. absurd (n (e ∙ rw (le-ltb from (length list) h))))
+
+  size-is : from < length list → z ≡ sizeAt list from
+  size-is h = e ∙ rw (lt-ltb from (length list) h)
+
+  pub some-length : (z ≡ 0 → ⊥) → (from < length list) × (Whole list from × (z ≡ sizeAt list from))
+  some-length n = (there n, (size-some list from (there n) (λ f. n (size-is (there n) ∙ f)), size-is (there n)))
+
+  pub no-length : z ≡ 0 → from < length list → valueRecordAt list from ≡ Value.Refused (BadValueList from)
+  no-length n h = size-none list from h (sym (size-is h) ∙ n)
 
 module _ {s : List ℕ} {at : ℕ} {list : List ℕ} {from : ℕ} (r : Readable s at list from) where
   pub has-type : HasType s at

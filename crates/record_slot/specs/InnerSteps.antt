@@ -31,6 +31,7 @@ use Rattle.value.specs.Kinds.{matches}
 use Rattle.value.specs.Ranges.{inArea, part, textOf}
 use Rattle.value_list.specs.declared.ValueRecord.{ValueRecord}
 use Rattle.value_list.specs.declared.ValueRecord.the-variants as Value
+use Rattle.value_list.specs.InnerSizes.{sizeAt}
 use Rattle.value_list.specs.Records.{bodyLength, numberAt, numericAt, rangeAt, recordAt as valueRecordAt}
 use Rattle.stored_form.specs.Number.{isNegative, magnitude}
 use Rattle.stored_form.specs.Write.{fitsDigits, fitsText, accepted as holds, storedForm}
@@ -68,13 +69,23 @@ abbrev pub valueIn : ValueRecord → DataValue
 valueIn (Value.Value v next) = v
 valueIn (Value.Refused e) = Null
 
+-- the bytes of the value's record at a place, 0 where there is none
+abbrev pub lengthAt : List ℕ → ℕ → ℕ
+lengthAt list from = cond (ltb from (length list)) (sizeAt list from) 0
+
 -- the place after a column's record: one byte of kind, and two more where the kind has no size of its own
 abbrev pub afterColumn : List ℕ → ℕ → ℕ
 afterColumn s at = cond (eqb (plainSize (columnKind (getD s at 0))) 0) (at + 3) (at + 1)
 
 -- the records at two places, where there are any
 abbrev pub givenAt : List ℕ → ℕ → List ℕ → ℕ → Given
-givenAt s at list from = record { ty = typeIn (columnRecordAt s at); value = valueIn (valueRecordAt list from); next-type = afterColumn s at; next-value = from + 1 + bodyLength (getD list from 0) }
+givenAt s at list from =
+    record {
+      ty = typeIn (columnRecordAt s at);
+      value = valueIn (valueRecordAt list from);
+      next-type = afterColumn s at;
+      next-value = from + 1 + bodyLength (getD list from 0);
+    }
 
 -- the two bytes after the kind: a length, or precision and scale
 abbrev pub declaredAt : List ℕ → ℕ → ℕ
@@ -89,7 +100,8 @@ bitsSuit n r area = cond (inArea (length area) r) (eqb (length (part area r)) (b
 abbrev pub numberSuits : ℕ → NumericValue → Bool
 numberSuits n x = fitsDigits (T.Numeric (n % 256) (n / 256)) (x .scale) (magnitude (x .high) (x .low))
 
--- whether a value of kind k, whose body stands at a place of the list, suits a type of that kind which was declared with n
+-- whether a value of kind k, whose body stands at a place of the list, suits a type of that kind which was declared
+-- with n
 abbrev pub suitsAt : ℕ → ℕ → List ℕ → ℕ → List ℕ → Bool
 suitsAt k n list at area =
     cond (eqb k 6) (numberSuits n (numericAt list at))
@@ -122,7 +134,9 @@ payloadAnswer t (ok c) = Answer.Done (payloadAdded t c)
 payloadAnswer t (refused e) = Answer.Refused e
 
 abbrev pub payloadIn : ℕ → List ℕ → ℕ → List ℕ → ℕ → List ℕ → Answer
-payloadIn i s at list from area = payloadAnswer (typeIn (columnRecordAt s at)) (cellIn i (typeIn (columnRecordAt s at)) (valueIn (valueRecordAt list from)) area)
+payloadIn i s at list from area =
+    payloadAnswer (typeIn (columnRecordAt s at))
+    (cellIn i (typeIn (columnRecordAt s at)) (valueIn (valueRecordAt list from)) area)
 
 abbrev pub Short : Answer → Type 0
 Short (Answer.Done n) = n ≤ rowLimit
@@ -132,7 +146,9 @@ Short (Answer.Refused e) = Unit {0}
 
 -- the stored form of the value at a place
 abbrev pub formIn : List ℕ → ℕ → List ℕ → ℕ → List ℕ → List ℕ
-formIn s at list from area = storedForm (typeIn (columnRecordAt s at)) (valueIn (valueRecordAt list from)) (textOf area (valueIn (valueRecordAt list from)))
+formIn s at list from area =
+    storedForm (typeIn (columnRecordAt s at)) (valueIn (valueRecordAt list from))
+    (textOf area (valueIn (valueRecordAt list from)))
 
 -- the bytes of a slot for values of kind k, declared with n
 abbrev pub slotSize : ℕ → ℕ → ℕ

@@ -1,4 +1,5 @@
-// A value record as its column takes it: whether the column holds the value, and the stored form in the column's slot, by kinds and bytes.
+// A value record as its column takes it: whether the column holds the value, and the stored form in the column's
+// slot, by kinds and bytes.
 use error::Answer;
 use error::Refusal;
 use value::value_kinds;
@@ -15,7 +16,7 @@ ghost use Rattle.datatype.specs.Schema.{columnRecordAt};
 ghost use Rattle.datatype.specs.InnerSteps.{typeIn};
 ghost use Rattle.value.specs.Ranges.{part};
 ghost use Rattle.value_list.specs.Records.{bodyLength, numericAt, rangeAt, recordAt as valueRecordAt};
-ghost use Rattle.record_slot.specs.InnerSteps.{HasType, Readable, declaredAt, afterColumn, textSuits, bitsSuit, numberSuits, suitsAt, Testable, payloadLength, payloadIn, Short, valueIn, formIn, bodyStored, blankFilled, numberStored, bitsStored, SlotReady, NumberReady};
+ghost use Rattle.record_slot.specs.InnerSteps.{lengthAt, HasType, Readable, declaredAt, afterColumn, textSuits, bitsSuit, numberSuits, suitsAt, Testable, payloadLength, payloadIn, Short, valueIn, formIn, blankFilled, numberStored, bitsStored, SlotReady, NumberReady};
 
 // The two bytes after the kind of a column, a length or precision and scale; 0 where the record is too short for them.
 fn declared_length(schema: &[u8], at: usize) -> usize
@@ -37,6 +38,24 @@ pub fn after_column(schema: &[u8], at: usize) -> usize
         return at + 3;
     }
     at + 1
+}
+
+// The bytes of the record at a place of the list; 0 where there is none, its kind is unknown or it is cut off.
+pub fn record_length(values: &[u8], from: usize) -> usize
+    ensures { λ r. ⌜ r ≡ lengthAt (now (values .entry)) from ⌝ }
+{
+    if values.len() <= from {
+        return 0;
+    }
+    let kind = values[from];
+    if value_kinds::TIMESTAMP < kind {
+        return 0;
+    }
+    let body = value_list::body_length(kind);
+    if values.len() - from - 1 < body {
+        return 0;
+    }
+    1 + body
 }
 
 // Whether the range at a place of the list is a text of at most n bytes.
@@ -121,7 +140,8 @@ pub fn payload_at(
     text: &[u8],
 ) -> Answer
     requires { ⌜ Readable (now schema) at (now values) from × (length (now text) ≤ rowLimit) ⌝ }
-    ensures { λ r. ⌜ (r ≡ payloadIn column (now (schema .entry)) at (now (values .entry)) from (now (text .entry))) × Short r ⌝ }
+    ensures { λ r. ⌜ (r ≡ payloadIn column (now (schema .entry)) at (now (values .entry)) from (now (text .entry)))
+        × Short r ⌝ }
 {
     let kind = values[from];
     if kind == value_kinds::NULL {
@@ -161,33 +181,13 @@ pub fn entry_size(kind: u8) -> usize
     0
 }
 
-// The body of a value, which is its stored form for all kinds but Numeric, Char, Varchar and Bit.
-fn write_body(out: &mut [u8], slot: usize, kind: u8, values: &[u8], body: usize)
-    requires { ⌜ (body + bodyLength kind ≤ length (now values)) × (slot + bodyLength kind ≤ length (now out)) ⌝ }
-    ensures { λ _. ⌜ now (out .exit) ≡ sets (now (out .entry)) slot (bodyStored kind (now (values .entry)) body) ⌝ }
-{
-    match kind {
-        value_kinds::SMALL_INT => endian::write_u16(out, slot, endian::read_u16(values, body)),
-        value_kinds::INT => endian::write_u32(out, slot, endian::read_u32(values, body)),
-        value_kinds::BIG_INT => endian::write_u64(out, slot, endian::read_u64(values, body)),
-        value_kinds::REAL => endian::write_u32(out, slot, endian::read_u32(values, body)),
-        value_kinds::DOUBLE_PRECISION => endian::write_u64(
-            out,
-            slot,
-            endian::read_u64(values, body),
-        ),
-        value_kinds::BOOL => out[slot] = values[body],
-        value_kinds::DATE => endian::write_u32(out, slot, endian::read_u32(values, body)),
-        value_kinds::TIME => endian::write_u64(out, slot, endian::read_u64(values, body)),
-        value_kinds::TIMESTAMP => endian::write_u64(out, slot, endian::read_u64(values, body)),
-        _ => {}
-    }
-}
-
 // A Char's text, whose range stands at a place of the list, and blanks up to n bytes.
 fn write_char(out: &mut [u8], slot: usize, n: usize, values: &[u8], body: usize, text: &[u8])
-    requires { ⌜ (body + 4 ≤ length (now values)) × ((slot + n ≤ length (now out)) × (textSuits n (rangeAt (now values) body) (now text) ≡ true)) ⌝ }
-    ensures { λ _. ⌜ now (out .exit) ≡ sets (now (out .entry)) slot (blankFilled n (part (now (text .entry)) (rangeAt (now (values .entry)) body))) ⌝ }
+    requires { ⌜ (body + 4 ≤ length (now values))
+        × ((slot + n ≤ length (now out)) × (textSuits n (rangeAt (now values) body) (now text) ≡ true)) ⌝ }
+    ensures { λ _. ⌜ now (out .exit)
+        ≡ sets (now (out .entry)) slot
+        (blankFilled n (part (now (text .entry)) (rangeAt (now (values .entry)) body))) ⌝ }
 {
     let start = endian::read_u16(values, body) as usize;
     let length = endian::read_u16(values, body + 2) as usize;
@@ -196,8 +196,10 @@ fn write_char(out: &mut [u8], slot: usize, n: usize, values: &[u8], body: usize,
 
 // The packed form of the number at a place of the list.
 fn write_number(out: &mut [u8], slot: usize, p: usize, values: &[u8], body: usize)
-    requires { ⌜ (body + 17 ≤ length (now values)) × NumberReady p (numericAt (now values) body) slot (length (now out)) ⌝ }
-    ensures { λ _. ⌜ now (out .exit) ≡ sets (now (out .entry)) slot (numberStored p (numericAt (now (values .entry)) body)) ⌝ }
+    requires { ⌜ (body + 17 ≤ length (now values))
+        × NumberReady p (numericAt (now values) body) slot (length (now out)) ⌝ }
+    ensures { λ _. ⌜ now (out .exit)
+        ≡ sets (now (out .entry)) slot (numberStored p (numericAt (now (values .entry)) body)) ⌝ }
 {
     value_encode::write_number(
         out,
@@ -210,8 +212,12 @@ fn write_number(out: &mut [u8], slot: usize, p: usize, values: &[u8], body: usiz
 
 // The n bits whose range stands at a place of the list.
 fn write_bits(out: &mut [u8], slot: usize, n: usize, values: &[u8], body: usize, text: &[u8])
-    requires { ⌜ (body + 4 ≤ length (now values)) × ((slot + bytesFor n ≤ length (now out)) × (bitsSuit n (rangeAt (now values) body) (now text) ≡ true)) ⌝ }
-    ensures { λ _. ⌜ now (out .exit) ≡ sets (now (out .entry)) slot (bitsStored n (part (now (text .entry)) (rangeAt (now (values .entry)) body))) ⌝ }
+    requires { ⌜ (body + 4 ≤ length (now values))
+        × ((slot + bytesFor n ≤ length (now out))
+        × (bitsSuit n (rangeAt (now values) body) (now text) ≡ true)) ⌝ }
+    ensures { λ _. ⌜ now (out .exit)
+        ≡ sets (now (out .entry)) slot
+        (bitsStored n (part (now (text .entry)) (rangeAt (now (values .entry)) body))) ⌝ }
 {
     let start = endian::read_u16(values, body) as usize;
     let length = endian::read_u16(values, body + 2) as usize;
@@ -228,34 +234,33 @@ pub fn write_slot(
     out: &mut [u8],
     slot: usize,
 )
-    requires { ⌜ Readable (now schema) at (now values) from × SlotReady (typeIn (columnRecordAt (now schema) at)) (valueIn (valueRecordAt (now values) from)) (now text) slot (length (now out)) ⌝ }
-    ensures { λ _. ⌜ now (out .exit) ≡ sets (now (out .entry)) slot (formIn (now (schema .entry)) at (now (values .entry)) from (now (text .entry))) ⌝ }
+    requires { ⌜ Readable (now schema) at (now values) from
+        × SlotReady (typeIn (columnRecordAt (now schema) at)) (valueIn (valueRecordAt (now values) from))
+        (now text) slot (length (now out)) ⌝ }
+    ensures { λ _. ⌜ now (out .exit)
+        ≡ sets (now (out .entry)) slot
+        (formIn (now (schema .entry)) at (now (values .entry)) from (now (text .entry))) ⌝ }
 {
     let kind = values[from];
+    let body = from + 1;
+    let n = declared_length(schema, at);
     match kind {
-        value_kinds::NUMERIC => write_number(
+        value_kinds::SMALL_INT => endian::write_u16(out, slot, endian::read_u16(values, body)),
+        value_kinds::INT => endian::write_u32(out, slot, endian::read_u32(values, body)),
+        value_kinds::BIG_INT => endian::write_u64(out, slot, endian::read_u64(values, body)),
+        value_kinds::REAL => endian::write_u32(out, slot, endian::read_u32(values, body)),
+        value_kinds::DOUBLE_PRECISION => endian::write_u64(
             out,
             slot,
-            declared_length(schema, at) % 256,
-            values,
-            from + 1,
+            endian::read_u64(values, body),
         ),
-        value_kinds::CHAR => write_char(
-            out,
-            slot,
-            declared_length(schema, at),
-            values,
-            from + 1,
-            text,
-        ),
-        value_kinds::BIT => write_bits(
-            out,
-            slot,
-            declared_length(schema, at),
-            values,
-            from + 1,
-            text,
-        ),
-        _ => write_body(out, slot, kind, values, from + 1),
+        value_kinds::NUMERIC => write_number(out, slot, n % 256, values, body),
+        value_kinds::BOOL => out[slot] = values[body],
+        value_kinds::CHAR => write_char(out, slot, n, values, body, text),
+        value_kinds::DATE => endian::write_u32(out, slot, endian::read_u32(values, body)),
+        value_kinds::TIME => endian::write_u64(out, slot, endian::read_u64(values, body)),
+        value_kinds::BIT => write_bits(out, slot, n, values, body, text),
+        value_kinds::TIMESTAMP => endian::write_u64(out, slot, endian::read_u64(values, body)),
+        _ => {}
     }
 }

@@ -1,6 +1,7 @@
 pub mod Nulls
 pub mod Walk
 pub mod Bits
+pub mod Prefix
 pub mod Measuring
 pub mod Cells
 pub mod Columns

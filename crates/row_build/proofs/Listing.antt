@@ -2,6 +2,7 @@
 use Prim.Native.Nat.{ℕ}
 use mathlib.Core.Path.{_≡_, refl, sym, ap, _∙_, subst}
 use mathlib.Core.List.{List}
+use borrow.Author.Tests.{eq-eqb, le-ltb}
 use lib.ListN.{length}
 use Rattle.error.specs.declared.Refusal.{Refusal}
 use Rattle.error.specs.declared.Refusal.the-variants.{NoRoom}
@@ -12,7 +13,7 @@ use Rattle.datatype.specs.Check.{typesIn}
 use Rattle.value.specs.declared.DataValue.{DataValue}
 use Rattle.value_list.specs.declared.ListCheck.{ListCheck}
 use Rattle.value_list.specs.declared.ListCheck.the-variants as Check
-use Rattle.value_list.specs.Lists.{Values, checked}
+use Rattle.value_list.specs.Lists.{Values, judged, checked}
 use Rattle.value_list.proofs.Lists.{Taken, checked-taken}
 use Rattle.value_list.specs.InnerLists.{answer}
 use Rattle.datatype.proofs.Again.{columns-all}
@@ -56,5 +57,9 @@ module _ {s : List ℕ} {l : RowLayout} (a : Accepted s l) (list area : List ℕ
     pub listed : Buildable s l list area
     listed = record { accepted = a; taken = taken .all ∙ ap ok (sym same-values); count = ap length same-values ∙ taken .count; short = taken .short }
 
-    pub on-list-good : {A : Type 0} (bad : Refusal → A) (k : List DataValue → A) → k (valuesIn list) ≡ onResult said bad k
-    on-list-good bad k = ap k same-values ∙ sym (ap (λ (q : Values). onResult q bad k) (good-values said (sym said-is ∙ f)))
+-- and of a list that is known to be good
+pub on-list : {s : List ℕ} {l : RowLayout} {list area : List ℕ} → Buildable s l list area → {A : Type 0} (bad : Refusal → A) (k : List DataValue → A)
+    → k (valuesIn list) ≡ onResult (checked rowLimit (length (typesIn s)) (length area) list) bad k
+on-list {s} {l} {list} {area} b bad k =
+    sym (ap (λ (q : Values). onResult (judged rowLimit (length (typesIn s)) (length area) (length list) q) bad k) (b .taken)
+    ∙ rw (eq-eqb (length (valuesIn list)) (length (typesIn s)) (b .count), le-ltb rowLimit (length area) (b .short)))

@@ -1,17 +1,18 @@
 -- The first pass: what was counted, and what the columns that are left add to it.
-use Prim.Native.Nat.{ℕ, _+_, _*_, _≤_, _<_}
+use Prim.Native.Nat.{ℕ, _+_, _*_, _-_, _≤_, _<_}
 use mathlib.Core.Path.{_≡_, refl, sym, ap, _∙_, subst}
 use mathlib.Core.Bool.{Bool, true, false, cond}
 use mathlib.Core.List.{List, [], _∷_, map}
 use native.Mathlib.Nat.{add-zero, add-assoc}
 use native.Mathlib.Omega.{arith}
-use lib.ListN.{length, drop, length-append, drop-of-length-le}
+use lib.ListN.{length, getD, drop, length-append, drop-of-length-le}
 use Rattle.error.specs.declared.Refusal.{Refusal}
 use Rattle.error.specs.declared.Answer.{Answer}
 use Rattle.error.specs.declared.Answer.the-variants as Answer
 use Rattle.error.specs.Result.{Result, ok, refused, before}
 use Rattle.row_format.specs.declared.Shape.{Shape}
 use Rattle.row_format.specs.declared.Shape.the-variants.{Fixed, Varlen}
+use Rattle.row_format.specs.Places.{rowLimit}
 use Rattle.row_format.specs.Table.{Cell, bytes, payloads}
 use Rattle.row_format.specs.Row.{varlenCells}
 use Rattle.row_layout.specs.declared.RowLayout.{RowLayout}
@@ -20,11 +21,19 @@ use Rattle.datatype.specs.declared.DataType.{DataType}
 use Rattle.datatype.specs.Types.{sizeOf, alignmentOf, isVarlen, shapeOf}
 use Rattle.datatype.specs.Check.{typesIn}
 use Rattle.datatype.proofs.Again.{columns-all}
+use Rattle.datatype.proofs.Walk.{not-refused}
+use Rattle.datatype.specs.InnerCheck.{Accepted}
+use Rattle.value.specs.declared.DataValue.{DataValue}
+use Rattle.value_list.specs.Records.{bodyLength}
+use Rattle.value_list.specs.Lists.{valuesOf}
+use Rattle.value_list.proofs.Records.{given}
 use Rattle.record_slot.specs.Stored.{cellIn}
 use Rattle.row_build.specs.Cells.{onCell, cellsFrom}
-use Rattle.record_slot.specs.InnerSteps.{Given, ReadAt, payloadAdded, payloadAnswer, Short}
-use Rattle.row_build.specs.InnerSteps.{valuesIn, Buildable, measured}
-use Rattle.row_build.proofs.Walk.{Together, together-start, types-split, values-split, together-next}
+use Rattle.record_slot.specs.InnerSteps.{lengthAt, Readable, afterColumn, payloadIn, Given, ReadAt, payloadAdded, payloadAnswer, Short}
+use Rattle.row_build.specs.InnerSteps.{valuesGiven, valuesIn, Buildable, measured, Lengthed}
+use Rattle.record_slot.proofs.Held.{some-length, no-length, read-at}
+use Rattle.row_build.proofs.Prefix.{Prefix, prefix-start, prefix-next, prefix-more, prefix-end}
+use Rattle.row_build.proofs.Walk.{Columns, column-there, columns-next, IsValue, readable, Together, together-start, types-split, values-split, together-next}
 
 -- ---- a column more
 
@@ -95,9 +104,97 @@ module _ {s : List ℕ} {l : RowLayout} {list area : List ℕ} (b : Buildable s 
             bound = omega (arith, k .bound);
           }
 
-      -- far from the machine's limit
-      pub measure-room : {n : ℕ} → res ≡ Answer.Done n → Short res → size + n ≤ 40000000
-      measure-room {n} f short =
-          let few : n ≤ 65535 = rw f at short in
-          let l = b .accepted .bounded in
-          omega (arith, k .bound, columns-all (b .accepted), l .few, l .ranked, l .tight)
+-- ---- the walk while it is not known whether the list is good
+
+values-are : (list : List ℕ) {vs : List DataValue} → valuesOf list ≡ ok vs → valuesIn list ≡ vs
+unfolding valuesIn
+values-are list g = ap valuesGiven g
+
+pub record Walking (s : List ℕ) (l : RowLayout) (list area : List ℕ) (size i at from : ℕ) : Type 0 where
+  pub told : Buildable s l list area → Measuring s l list area size i at from
+  pub side : Columns s i at
+  pub prefix : Prefix list i from
+  pub bound : size ≤ minimumOf l true + 65535 * i
+  pub short : length area ≤ rowLimit
+
+module _ {s : List ℕ} {l : RowLayout} (a : Accepted s l) {list area : List ℕ} where
+  pub walk-start : length area ≤ rowLimit → Walking s l list area (minimumOf l true) 0 0 0
+  walk-start h =
+      record {
+        told = λ b. measure-start b;
+        side = record { within = omega arith; columns = a .schema };
+        prefix = prefix-start list;
+        bound = omega arith;
+        short = h;
+      }
+
+  module _ {size i at from : ℕ} (k : Walking s l list area size i at from) where
+    module _ (c : i < l .«num_columns») {z : ℕ} (e : z ≡ lengthAt list from) where
+      h : i < length (typesIn s)
+      h = omega (arith, c, columns-all a)
+
+      -- a good list has a record here
+      pub walk-none : z ≡ 0 → Buildable s l list area → ⊥
+      walk-none n b = let r = readable b (k .told b .walk) h in r .value-there (no-length list from e n (r .value))
+
+      module _ (n : z ≡ 0 → ⊥) where
+        pub walk-readable : Readable s at list from
+        walk-readable =
+            let w = some-length list from e n in
+            record {
+              column = column-there (k .side) h;
+              type-there = λ f. not-refused s at (256 - i) (k .side .columns) (column-there (k .side) h) f;
+              value = w .0;
+              value-there = λ f. subst IsValue (sym (w .1 .0 .value) ∙ f) tt;
+            }
+
+        module _ (res : Answer) (f : res ≡ payloadIn i s at list from area) where
+          pub walk-bad : {u : Refusal} → res ≡ Answer.Refused u → Buildable s l list area → Answer.Refused u ≡ measured (minimumOf l true) (typesIn s) (cellsFrom 0 (typesIn s) (valuesIn list) area)
+          walk-bad g b = measure-bad b (k .told b) h (read-at walk-readable) res f g
+
+          module _ {m : ℕ} (g : res ≡ Answer.Done m) (short : Short res) where
+            few : m ≤ 65535
+            few = rw g at short
+
+            -- far from the machine's limit
+            pub walk-room : size + m ≤ 40000000
+            walk-room = let b = a .bounded in omega (arith, few, k .bound, h, columns-all a, b .few, b .ranked, b .tight)
+
+            pub walk-more : Walking s l list area (size + m) (i + 1) (afterColumn s at) (from + z)
+            walk-more =
+                let w = some-length list from e n .1 in
+                let next : from + z ≡ from + 1 + bodyLength (getD list from 0) = rw (w .1) (given list from (w .0 .value) .place) in
+                record {
+                  told = λ b. rw next (measure-more b (k .told b) h (read-at walk-readable) res f g short);
+                  side = columns-next (k .side) h (read-at walk-readable .type-is);
+                  prefix = rw (w .1) (prefix-next (k .prefix) (walk-readable .value) (w .0 .value) (omega (arith, w .0 .some)) (w .0 .within));
+                  bound = omega (arith, few, k .bound);
+                  short = k .short;
+                }
+
+    module _ (c : l .«num_columns» ≤ i) where
+      -- a good list has no record more
+      pub walk-left : (from ≡ length list → ⊥) → Buildable s l list area → ⊥
+      walk-left n b =
+          let m = prefix-more (k .prefix) (omega (arith, n, k .prefix .inside)) (b .taken) in
+          omega (arith, m, c, b .count, columns-all a)
+
+      pub walk-end : from ≡ length list → Lengthed s l list area (Answer.Done size)
+      walk-end e =
+          let t = prefix-end (k .prefix) e in
+          let same : valuesIn list ≡ k .prefix .done = values-are list t in
+          record {
+            good = λ b. measure-end b (k .told b) c;
+            done = λ f. record {
+              accepted = a;
+              taken = t ∙ ap ok (sym same);
+              count = rw same (k .prefix .count ∙ omega (arith, c, k .side .within, columns-all a));
+              short = k .short;
+            };
+          }
+
+  pub no-length-told : {r : Refusal} → (Buildable s l list area → ⊥) → Lengthed s l list area (Answer.Refused r)
+  no-length-told n = record { good = λ b. absurd (n b); done = λ f. absurd (subst IsDone (sym f) tt) }
+
+  pub bad-told : {r : Refusal} → (Buildable s l list area → Answer.Refused r ≡ measured (minimumOf l true) (typesIn s) (cellsFrom 0 (typesIn s) (valuesIn list) area)) → Lengthed s l list area (Answer.Refused r)
+  bad-told n = record { good = n; done = λ f. absurd (subst IsDone (sym f) tt) }

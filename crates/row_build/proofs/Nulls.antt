@@ -59,7 +59,7 @@ null-stored l out {p} {q} {r} {s} a b c d =
 
 pub null-row : (ts : List DataType) → nullRow (layoutFor ts) ≡ freshRow offsetWidth ts
 unfolding header nullRow
-null-row ts = rw (← length-map ts shapeOf, fresh-row, bitmap-nulls, append-assoc)
+null-row ts = rw (← length-map ts shapeOf, fresh-row, bitmap-nulls) (simp append-assoc)
 
 pub accepted-nulls : {s : List ℕ} {l : RowLayout} → Accepted s l → nullRow l ≡ freshRow offsetWidth (typesIn s)
 accepted-nulls {s} a = ap nullRow (sym (a .layout)) ∙ null-row (typesIn s)

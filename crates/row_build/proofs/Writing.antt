@@ -118,7 +118,7 @@ module _ {s : List ℕ} {l : RowLayout} {list area out₀ : List ℕ} (f : Filla
 
     pub write-end : l .«num_columns» ≤ i → out ≡ sets out₀ 0 (rowGiven s list area)
     write-end h =
-        let n : i ≡ length cs = rw (forall-length fit, length-map ts shapeOf) (omega (arith, k .walk .within, columns-all (f .given .accepted))) in
+        let n : i ≡ length cs = rw (forall-length fit, length-map ts shapeOf) (omega (arith, k .walk .side .within, columns-all (f .given .accepted))) in
         k .written ∙ ap (λ (ds : List Cell). sets out₀ 0 (builtRow offsetWidth ss ds)) (ap (λ (j : ℕ). upTo j cs) n ∙ up-to-end cs)
 
     module _ (h : i < length ts) {g : Given} (r : ReadAt s at list from g) where

@@ -1,4 +1,5 @@
 -- 01, "What each call hands back", Build: "1, 2, 10, then 11 and 12 by rising column, 13, 14"; Fresh: "1, 2, 14".
+-- FORMAT 8.2, 8.3.
 use Prim.Native.Nat.{ℕ}
 use mathlib.Core.Bool.{cond}
 use mathlib.Core.List.{List, map}
@@ -22,13 +23,16 @@ rowPlaced limit out r = cond (ltb limit (length r)) (unchanged out RowLimit) (pl
 
 -- the row of values vs under types ts, with offsets of w bytes
 abbrev pub buildValues : ℕ → ℕ → List DataType → List DataValue → List ℕ → List ℕ → Outcome
-buildValues w limit ts vs area out = onResult (cellsFrom 0 ts vs area) (unchanged out) (λ cs. rowPlaced limit out (builtRow w (map shapeOf ts) cs))
+buildValues w limit ts vs area out =
+    onResult (cellsFrom 0 ts vs area) (unchanged out) (λ cs. rowPlaced limit out (builtRow w (map shapeOf ts) cs))
 
 abbrev pub buildRow : ℕ → ℕ → List DataType → List ℕ → List ℕ → List ℕ → Outcome
-buildRow w limit ts list area out = onResult (checked limit (length ts) (length area) list) (unchanged out) (λ vs. buildValues w limit ts vs area out)
+buildRow w limit ts list area out =
+    onResult (checked limit (length ts) (length area) list) (unchanged out) (λ vs. buildValues w limit ts vs area out)
 
 abbrev pub buildCall : ℕ → ℕ → List ℕ → List ℕ → List ℕ → List ℕ → Outcome
-buildCall w limit schema list area out = onResult (schemaOf w limit schema) (unchanged out) (λ ts. buildRow w limit ts list area out)
+buildCall w limit schema list area out =
+    onResult (schemaOf w limit schema) (unchanged out) (λ ts. buildRow w limit ts list area out)
 
 -- a row of nulls
 abbrev pub freshRow : ℕ → List DataType → List ℕ

@@ -1,4 +1,5 @@
 -- What a build that answers Done has done, which lists build equal rows, and what a fresh row is built of.
+-- FORMAT 8.2, 8.3.
 use Prim.Native.Nat.{ℕ, _^_, _≤_, _<_}
 use mathlib.Core.List.{List, [], map}
 use mathlib.Core.Logic.{_↔_}

@@ -15,6 +15,7 @@ use Rattle.row_format.specs.Table.{Cell, payloads}
 use Rattle.row_format.specs.Row.{packedFlag, bitmap, varlenCells, builtRow}
 use Rattle.row_format.specs.Edit.{bitEdit}
 use Rattle.row_layout.specs.declared.RowLayout.{RowLayout}
+use Rattle.row_layout.specs.InnerLayout.{minimumOf}
 use Rattle.datatype.specs.declared.DataType.{DataType}
 use Rattle.datatype.specs.Types.{sizeOf, isVarlen, shapeOf, precisionOf}
 use Rattle.datatype.specs.Check.{typesIn}
@@ -35,7 +36,9 @@ abbrev pub nullBits : ℕ → List ℕ
 nullBits n = bitmap (bitmapSize n) (replicate n none)
 
 unfoldable pub nullRow : RowLayout → List ℕ
-nullRow l = (toLe 2 (l .«num_columns») ++ toLe 2 (l .«num_varlen_cols» + packedFlag)) ++ (nullBits (l .«num_columns») ++ replicate (l .«num_varlen_cols» * offsetWidth + l .«packed_size») 0)
+nullRow l =
+    (toLe 2 (l .«num_columns») ++ toLe 2 (l .«num_varlen_cols» + packedFlag)) ++
+    (nullBits (l .«num_columns») ++ replicate (l .«num_varlen_cols» * offsetWidth + l .«packed_size») 0)
 
 -- ---- schema and value list, walked together
 
@@ -61,6 +64,13 @@ abbrev pub measured : ℕ → List DataType → Result (List Cell) → Answer
 measured m ts (ok cs) = Answer.Done (m + length (payloads (varlenCells (map shapeOf ts) cs)))
 measured m ts (refused e) = Answer.Refused e
 
+-- what the first pass says: the row's length or the first refusal where the list is good, and it is good where the
+-- answer is Done
+pub record Lengthed (s : List ℕ) (l : RowLayout) (list area : List ℕ) (r : Answer) : Type 0 where
+  pub good : Buildable s l list area → r
+      ≡ measured (minimumOf l true) (typesIn s) (cellsFrom 0 (typesIn s) (valuesIn list) area)
+  pub done : {n : ℕ} → r ≡ Answer.Done n → Buildable s l list area
+
 -- ---- the second pass: one column after another
 
 -- x stored for column i: in its slot, or at the row's end with its offset; and its bit cleared
@@ -72,7 +82,9 @@ varlenStored i entry x end out = bitEdit i (some x) (sets (sets out entry (toLe 
 
 -- the row's end and the output afterwards
 abbrev pub columnStored : ℕ → ℕ → ℕ → DataType → DataValue → List ℕ → ℕ → List ℕ → ℕ × List ℕ
-columnStored i slot entry t v x end out = cond (isNull v) (end, out) (cond (isVarlen t) (end + length x, varlenStored i entry x end out) (end, fixedStored i slot x out))
+columnStored i slot entry t v x end out =
+    cond (isNull v) (end, out)
+    (cond (isVarlen t) (end + length x, varlenStored i entry x end out) (end, fixedStored i slot x out))
 
 -- a payload of n bytes at the row's end, and a column's bit
 pub record PayloadReady (r : TextRange) (area : List ℕ) (entry end n : ℕ) : Type 0 where

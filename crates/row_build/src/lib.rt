@@ -1,4 +1,5 @@
-// row.rs, `serialize_nullable_typed_row`, and `Row::new` then `serialize`: the row of a value list, and the row of nulls, in the lent output.
+// row.rs, `serialize_nullable_typed_row`, and `Row::new` then `serialize`: the row of a value list, and the row of
+// nulls, in the lent output.
 use datatype::SchemaCheck;
 use error::Answer;
 use error::Refusal;
@@ -27,7 +28,7 @@ ghost use Rattle.record_slot.specs.Stored.{isNull};
 ghost use Rattle.row_build.specs.Cells.{cellsFrom};
 ghost use Rattle.row_build.specs.Build.{buildValues, buildRow, buildCall, freshCall};
 ghost use Rattle.record_slot.specs.InnerSteps.{Readable, valueIn, formIn, SlotReady};
-ghost use Rattle.row_build.specs.InnerSteps.{nullBits, nullRow, valuesIn, Buildable, measured, fixedStored, varlenStored, columnStored, PayloadReady, BitReady, Storable, rowGiven, Fillable};
+ghost use Rattle.row_build.specs.InnerSteps.{nullBits, nullRow, valuesIn, Buildable, measured, Lengthed, fixedStored, varlenStored, columnStored, PayloadReady, BitReady, Storable, rowGiven, Fillable};
 
 // n bits that are set, and clear ones up to the end of the last byte.
 fn write_null_bits(out: &mut [u8], at: usize, n: usize)
@@ -65,12 +66,12 @@ fn fresh_row(layout: RowLayout, out: &mut [u8]) -> Answer
     requires { ⌜ Bounded layout ⌝ }
     ensures { λ r. ⌜ (r, now (out .exit)) ≡ placed (now (out .entry)) (nullRow layout) ⌝ }
 {
-    let n = layout.min_row_size(true);
-    if out.len() < n {
+    let least = layout.min_row_size(true);
+    if out.len() < least {
         return Answer::Refused(Refusal::NoRoom);
     }
     write_nulls(layout, out);
-    Answer::Done(n)
+    Answer::Done(least)
 }
 
 // A row of which every column is null.
@@ -83,16 +84,24 @@ pub fn fresh(schema: &[u8], out: &mut [u8]) -> Answer
     }
 }
 
-// The row's length, or the first refusal.
+// The row's length. A refusal is the first of 11 and 12, but where the list is refused it says nothing: `build_row`
+// asks for 10 then.
 fn row_length(schema: &[u8], layout: RowLayout, values: &[u8], text: &[u8]) -> Answer
-    requires { ⌜ Buildable (now schema) layout (now values) (now text) ⌝ }
-    ensures { λ r. ⌜ r ≡ measured (minimumOf layout true) (typesIn (now (schema .entry))) (cellsFrom 0 (typesIn (now (schema .entry))) (valuesIn (now (values .entry))) (now (text .entry))) ⌝ }
+    requires { ⌜ Accepted (now schema) layout ⌝ }
+    ensures { λ r. ⌜ Lengthed (now (schema .entry)) layout (now (values .entry)) (now (text .entry)) r ⌝ }
 {
+    if RowLayout::ROW_LIMIT < text.len() {
+        return Answer::Refused(Refusal::BadValueList(0));
+    }
     let mut size = layout.min_row_size(true);
     let mut column = 0;
     let mut at = 0;
     let mut from = 0;
     while column < layout.num_columns {
+        let length = record_slot::record_length(values, from);
+        if length == 0 {
+            return Answer::Refused(Refusal::BadValueList(from));
+        }
         match record_slot::payload_at(schema, at, column, values, from, text) {
             Answer::Refused(e) => {
                 return Answer::Refused(e);
@@ -101,9 +110,12 @@ fn row_length(schema: &[u8], layout: RowLayout, values: &[u8], text: &[u8]) -> A
                 size += n;
                 column += 1;
                 at = record_slot::after_column(schema, at);
-                from = from + 1 + value_list::body_length(values[from]);
+                from += length;
             }
         }
+    }
+    if from != values.len() {
+        return Answer::Refused(Refusal::BadValueList(from));
     }
     Answer::Done(size)
 }
@@ -129,14 +141,19 @@ fn write_fixed(
     column: usize,
     slot: usize,
 )
-    requires { ⌜ Readable (now schema) at (now values) from × (SlotReady (typeIn (columnRecordAt (now schema) at)) (valueIn (valueRecordAt (now values) from)) (now text) slot (length (now out)) × BitReady columns column (length (now out))) ⌝ }
-    ensures { λ _. ⌜ now (out .exit) ≡ fixedStored column slot (formIn (now (schema .entry)) at (now (values .entry)) from (now (text .entry))) (now (out .entry)) ⌝ }
+    requires { ⌜ Readable (now schema) at (now values) from
+        × (SlotReady (typeIn (columnRecordAt (now schema) at)) (valueIn (valueRecordAt (now values) from))
+        (now text) slot (length (now out)) × BitReady columns column (length (now out))) ⌝ }
+    ensures { λ _. ⌜ now (out .exit)
+        ≡ fixedStored column slot (formIn (now (schema .entry)) at (now (values .entry)) from (now (text .entry)))
+        (now (out .entry)) ⌝ }
 {
     record_slot::write_slot(schema, at, values, from, text, out, slot);
     clear_bit(out, columns, column);
 }
 
-// A payload at the row's end, with its offset and the column's bit; the new end. The payload's range stands at a place of the list.
+// A payload at the row's end, with its offset and the column's bit; the new end. The payload's range stands at a
+// place of the list.
 fn write_varchar(
     values: &[u8],
     body: usize,
@@ -147,8 +164,13 @@ fn write_varchar(
     entry: usize,
     end: usize,
 ) -> usize
-    requires { ⌜ (body + 4 ≤ length (now values)) × (PayloadReady (rangeAt (now values) body) (now text) entry end (length (now out)) × BitReady columns column (length (now out))) ⌝ }
-    ensures { λ r. ⌜ (r ≡ end + rangeAt (now (values .entry)) body .length) × (now (out .exit) ≡ varlenStored column entry (part (now (text .entry)) (rangeAt (now (values .entry)) body)) end (now (out .entry))) ⌝ }
+    requires { ⌜ (body + 4 ≤ length (now values))
+        × (PayloadReady (rangeAt (now values) body) (now text) entry end (length (now out))
+        × BitReady columns column (length (now out))) ⌝ }
+    ensures { λ r. ⌜ (r ≡ end + rangeAt (now (values .entry)) body .length)
+        × (now (out .exit)
+        ≡ varlenStored column entry (part (now (text .entry)) (rangeAt (now (values .entry)) body)) end
+        (now (out .entry))) ⌝ }
 {
     let start = endian::read_u16(values, body) as usize;
     let length = endian::read_u16(values, body + 2) as usize;
@@ -172,8 +194,15 @@ fn write_column(
     entry: usize,
     end: usize,
 ) -> usize
-    requires { ⌜ Readable (now schema) at (now values) from × (isNull (valueIn (valueRecordAt (now values) from)) ≡ false → Storable columns column slot entry (typeIn (columnRecordAt (now schema) at)) (valueIn (valueRecordAt (now values) from)) (now text) end (length (now out))) ⌝ }
-    ensures { λ r. ⌜ (r, now (out .exit)) ≡ columnStored column slot entry (typeIn (columnRecordAt (now (schema .entry)) at)) (valueIn (valueRecordAt (now (values .entry)) from)) (formIn (now (schema .entry)) at (now (values .entry)) from (now (text .entry))) end (now (out .entry)) ⌝ }
+    requires { ⌜ Readable (now schema) at (now values) from
+        × (isNull (valueIn (valueRecordAt (now values) from)) ≡ false
+        → Storable columns column slot entry (typeIn (columnRecordAt (now schema) at))
+        (valueIn (valueRecordAt (now values) from)) (now text) end (length (now out))) ⌝ }
+    ensures { λ r. ⌜ (r, now (out .exit))
+        ≡ columnStored column slot entry (typeIn (columnRecordAt (now (schema .entry)) at))
+        (valueIn (valueRecordAt (now (values .entry)) from))
+        (formIn (now (schema .entry)) at (now (values .entry)) from (now (text .entry))) end
+        (now (out .entry)) ⌝ }
 {
     let kind = values[from];
     if kind == value_kinds::NULL {
@@ -189,7 +218,8 @@ fn write_column(
 // All columns, over the row of nulls.
 fn write_columns(schema: &[u8], layout: RowLayout, values: &[u8], text: &[u8], out: &mut [u8])
     requires { ⌜ Fillable (now schema) layout (now values) (now text) (now out) ⌝ }
-    ensures { λ _. ⌜ now (out .exit) ≡ sets (now (out .entry)) 0 (rowGiven (now (schema .entry)) (now (values .entry)) (now (text .entry))) ⌝ }
+    ensures { λ _. ⌜ now (out .exit)
+        ≡ sets (now (out .entry)) 0 (rowGiven (now (schema .entry)) (now (values .entry)) (now (text .entry))) ⌝ }
 {
     let mut column = 0;
     let mut at = 0;
@@ -229,8 +259,13 @@ fn place_row(
     out: &mut [u8],
     n: usize,
 ) -> Answer
-    requires { ⌜ Buildable (now schema) layout (now values) (now text) × (Done n ≡ measured (minimumOf layout true) (typesIn (now schema)) (cellsFrom 0 (typesIn (now schema)) (valuesIn (now values)) (now text))) ⌝ }
-    ensures { λ r. ⌜ (r, now (out .exit)) ≡ buildValues offsetWidth rowLimit (typesIn (now (schema .entry))) (valuesIn (now (values .entry))) (now (text .entry)) (now (out .entry)) ⌝ }
+    requires { ⌜ Buildable (now schema) layout (now values) (now text)
+        × (Done n
+        ≡ measured (minimumOf layout true) (typesIn (now schema))
+        (cellsFrom 0 (typesIn (now schema)) (valuesIn (now values)) (now text))) ⌝ }
+    ensures { λ r. ⌜ (r, now (out .exit))
+        ≡ buildValues offsetWidth rowLimit (typesIn (now (schema .entry))) (valuesIn (now (values .entry)))
+        (now (text .entry)) (now (out .entry)) ⌝ }
 {
     if RowLayout::ROW_LIMIT < n {
         return Answer::Refused(Refusal::RowLimit);
@@ -243,29 +278,22 @@ fn place_row(
     Answer::Done(n)
 }
 
-fn build_values(
-    schema: &[u8],
-    layout: RowLayout,
-    values: &[u8],
-    text: &[u8],
-    out: &mut [u8],
-) -> Answer
-    requires { ⌜ Buildable (now schema) layout (now values) (now text) ⌝ }
-    ensures { λ r. ⌜ (r, now (out .exit)) ≡ buildValues offsetWidth rowLimit (typesIn (now (schema .entry))) (valuesIn (now (values .entry))) (now (text .entry)) (now (out .entry)) ⌝ }
-{
-    match row_length(schema, layout, values, text) {
-        Answer::Refused(e) => Answer::Refused(e),
-        Answer::Done(n) => place_row(schema, layout, values, text, out, n),
-    }
-}
-
+// One pass tests the list and its values. A refusal is asked again of the list, since 10 comes before 11 and 12 of
+// every column.
 fn build_row(schema: &[u8], layout: RowLayout, values: &[u8], text: &[u8], out: &mut [u8]) -> Answer
     requires { ⌜ Accepted (now schema) layout ⌝ }
-    ensures { λ r. ⌜ (r, now (out .exit)) ≡ buildRow offsetWidth rowLimit (typesIn (now (schema .entry))) (now (values .entry)) (now (text .entry)) (now (out .entry)) ⌝ }
+    ensures { λ r. ⌜ (r, now (out .exit))
+        ≡ buildRow offsetWidth rowLimit (typesIn (now (schema .entry))) (now (values .entry)) (now (text .entry))
+        (now (out .entry)) ⌝ }
 {
-    match value_list::check_values(values, layout.num_columns, text.len()) {
-        ListCheck::Refused(e) => Answer::Refused(e),
-        ListCheck::Good => build_values(schema, layout, values, text, out),
+    match row_length(schema, layout, values, text) {
+        Answer::Done(n) => place_row(schema, layout, values, text, out, n),
+        Answer::Refused(e) => {
+            match value_list::check_values(values, layout.num_columns, text.len()) {
+                ListCheck::Refused(first) => Answer::Refused(first),
+                ListCheck::Good => Answer::Refused(e),
+            }
+        }
     }
 }
 
@@ -276,7 +304,9 @@ pub fn serialize_nullable_typed_row(
     text: &[u8],
     out: &mut [u8],
 ) -> Answer
-    ensures { λ r. ⌜ (r, now (out .exit)) ≡ buildCall offsetWidth rowLimit (now (schema .entry)) (now (values .entry)) (now (text .entry)) (now (out .entry)) ⌝ }
+    ensures { λ r. ⌜ (r, now (out .exit))
+        ≡ buildCall offsetWidth rowLimit (now (schema .entry)) (now (values .entry)) (now (text .entry))
+        (now (out .entry)) ⌝ }
 {
     match datatype::check_schema(schema) {
         SchemaCheck::Refused(e) => Answer::Refused(e),

@@ -26,13 +26,17 @@ add-if1 : tie.Need-add-if1
 add-if1 c = search needs
 
 returns : tie.Need-returns
-returns c = rw (← c .before .before .read-u16 .ensures, ← c .before .read-u162 .ensures) (bits-outside (c .before .before .before .before .before .args .n) (c .before .before .read-u16 .result) (c .before .read-u162 .result) (now (c .before .before .before .before .before .args .text)) (c .if1 .taken))
+returns c =
+    let entry = c .before .before .before .before .before in
+    rw (← c .before .before .read-u16 .ensures, ← c .before .read-u162 .ensures) (bits-outside (entry .args .n) (c .before .before .read-u16 .result) (c .before .read-u162 .result) (now (entry .args .text)) (c .if1 .taken))
 
 byte-count-requires : tie.Need-byte-count-requires
 byte-count-requires c κs = search needs
 
 returns-2 : tie.Need-returns-2
-returns-2 c = rw (← c .before .before .before .read-u16 .ensures, ← c .before .before .read-u162 .ensures) (bits-told (c .before .before .before .before .before .before .args .n) (c .before .before .before .read-u16 .result) (c .before .before .read-u162 .result) (now (c .before .before .before .before .before .before .args .text)) (c .before .if1 .left) (c .byte-count .ensures) refl)
+returns-2 c =
+    let entry = c .before .before .before .before .before .before in
+    rw (← c .before .before .before .read-u16 .ensures, ← c .before .before .read-u162 .ensures) (bits-told (entry .args .n) (c .before .before .before .read-u16 .result) (c .before .before .read-u162 .result) (now (entry .args .text)) (c .before .if1 .left) (c .byte-count .ensures) refl)
 
 pub bits-suit-spec : {M : Type 1} → statement M
 bits-suit-spec =

@@ -15,7 +15,9 @@ shared-slice-read-kind : tie.Need-shared-slice-read-kind
 shared-slice-read-kind c = search needs
 
 returns : tie.Need-returns
-returns c = (null-payload (c .before .before .before .before .before .pre .0) (c .before .before .before .before .before .args .column) (now (c .before .before .before .before .before .args .text)) (c .if1 .taken), omega arith)
+returns c =
+    let entry = c .before .before .before .before .before in
+    (null-payload (entry .pre .0) (entry .args .column) (now (entry .args .text)) (c .if1 .taken), omega arith)
 
 shared-slice-read-held-kind : tie.Need-shared-slice-read-held-kind
 shared-slice-read-held-kind c = search needs
@@ -24,7 +26,9 @@ held-kind-requires : tie.Need-held-kind-requires
 held-kind-requires c κs = search needs
 
 returns-2 : tie.Need-returns-2
-returns-2 c = (wrong-kind (c .before .before .before .before .before .before .before .before .pre .0) (c .before .before .before .before .before .before .before .before .args .column) (now (c .before .before .before .before .before .before .before .before .args .text)) (c .before .before .before .if1 .left) (λ e. c .if2 .taken (e ∙ sym (c .before .held-kind .ensures))), tt)
+returns-2 c =
+    let entry = c .before .before .before .before .before .before .before .before in
+    (wrong-kind (entry .pre .0) (entry .args .column) (now (entry .args .text)) (c .before .before .before .if1 .left) (λ e. c .if2 .taken (e ∙ sym (c .before .held-kind .ensures))), tt)
 
 declared-length-requires : tie.Need-declared-length-requires
 declared-length-requires c κs = search needs
@@ -34,9 +38,10 @@ add-suits-at c = search needs
 
 suits-at-requires : tie.Need-suits-at-requires
 suits-at-requires c κs =
-    let a = c .before .before .before .before .before .before .before .before .before .args in
+    let entry = c .before .before .before .before .before .before .before .before .before in
+    let a = entry .args in
     let d = c .declared-length .ensures in
-    testable (c .before .before .before .before .before .before .before .before .before .pre .0) (a .column) (now (a .text)) (c .before .before .before .before .if1 .left) (c .before .if2 .left ∙ c .before .before .held-kind .ensures) (d .0) (d .1)
+    testable (entry .pre .0) (a .column) (now (a .text)) (c .before .before .before .before .if1 .left) (c .before .if2 .left ∙ c .before .before .held-kind .ensures) (d .0) (d .1)
 
 add-payload-length : tie.Need-add-payload-length
 add-payload-length c = search needs
@@ -46,8 +51,9 @@ payload-length-requires c κs = body-within (c .before .before .before .before .
 
 returns-3 : tie.Need-returns-3
 returns-3 c =
-    let a = c .before .before .before .before .before .before .before .before .before .before .before .before .args in
-    let p = c .before .before .before .before .before .before .before .before .before .before .before .before .pre in
+    let entry = c .before .before .before .before .before .before .before .before .before .before .before .before in
+    let a = entry .args in
+    let p = entry .pre in
     let z = c .before .before .before .before .before .before .before .if1 .left in
     let h = c .before .before .before .before .if2 .left ∙ c .before .before .before .before .before .held-kind .ensures in
     let d = c .before .before .before .declared-length .ensures .0 in
@@ -57,9 +63,10 @@ returns-3 c =
 
 returns-4 : tie.Need-returns-4
 returns-4 c =
-    let a = c .before .before .before .before .before .before .before .before .before .before .before .args in
+    let entry = c .before .before .before .before .before .before .before .before .before .before .before in
+    let a = entry .args in
     let h = c .before .before .before .if2 .left ∙ c .before .before .before .before .held-kind .ensures in
-    (unsuitable (c .before .before .before .before .before .before .before .before .before .before .before .pre .0) (a .column) (now (a .text)) (c .before .before .before .before .before .before .if1 .left) h (c .before .before .declared-length .ensures .0) (c .before .suits-at .ensures) (c .if3 .left), tt)
+    (unsuitable (entry .pre .0) (a .column) (now (a .text)) (c .before .before .before .before .before .before .if1 .left) h (c .before .before .declared-length .ensures .0) (c .before .suits-at .ensures) (c .if3 .left), tt)
 
 pub payload-at-spec : {M : Type 1} → statement M
 payload-at-spec =

@@ -48,17 +48,19 @@ returns-2 c =
 
 returns-3 : tie.Need-returns-3
 returns-3 c =
-    let p = c .before .before .before .before .pre in
-    ap (λ (k : ℕ). slotSize k (declaredAt (now (c .before .before .before .before .args .schema)) (c .before .before .before .before .args .at))) (sym (c .match .keys3)) ∙ slot-bytes p (c .before .held-kind .ensures) (refl)
+    let entry = c .before .before .before .before in
+    let p = entry .pre in
+    ap (λ (k : ℕ). slotSize k (declaredAt (now (entry .args .schema)) (entry .args .at))) (sym (c .match .keys3)) ∙ slot-bytes p (c .before .held-kind .ensures) (refl)
 
 returns-4 : tie.Need-returns-4
 returns-4 c = c .byte-count .ensures ∙ ap (λ (k : ℕ). slotSize k (c .before .declared-length3 .result)) (sym (c .before .before .match .keys4)) ∙ slot-bytes (c .before .before .before .before .before .before .pre) (c .before .before .before .held-kind .ensures) (c .before .declared-length3 .ensures .0)
 
 returns-5 : tie.Need-returns-5
 returns-5 c =
+    let entry = c .before .before .before .before .before in
     let r = c .before .match .rest in
-    c .body-length .ensures .0 ∙ plain-size _ (declaredAt (now (c .before .before .before .before .before .args .schema)) (c .before .before .before .before .before .args .at)) (r .0 .0 .0 .1) (r .0 .0 .1) (ne-eqb _ 9 (r .0 .1)) (r .1)
-    ∙ slot-bytes (c .before .before .before .before .before .pre) (c .before .before .held-kind .ensures) refl
+    c .body-length .ensures .0 ∙ plain-size _ (declaredAt (now (entry .args .schema)) (entry .args .at)) (r .0 .0 .0 .1) (r .0 .0 .1) (ne-eqb _ 9 (r .0 .1)) (r .1)
+    ∙ slot-bytes (entry .pre) (c .before .before .held-kind .ensures) refl
 
 pub slot-size-spec : {M : Type 1} → statement M
 slot-size-spec =

@@ -17,7 +17,9 @@ use Rattle.temporal.proofs.is_time.Reads as is-time-reads
 use Rattle.temporal.proofs.is_timestamp.Reads as is-timestamp-reads
 
 number-suits-requires : tie.Need-number-suits-requires
-number-suits-requires c κs = let h = rw (c .match .keys1) at (c .before .before .before .pre .inside) in (omega (arith, h), (c .before .before .before .pre .word, c .before .before .before .pre .digits (c .match .keys1)))
+number-suits-requires c κs =
+    let entry = c .before .before .before in
+    let h = rw (c .match .keys1) at (entry .pre .inside) in (omega (arith, h), (entry .pre .word, entry .pre .digits (c .match .keys1)))
 
 shared-slice-read-result : tie.Need-shared-slice-read-result
 shared-slice-read-result c = let h = rw (c .before .match .keys2) at (c .before .before .before .before .pre .inside) in omega arith
@@ -41,7 +43,9 @@ is-time-requires : tie.Need-is-time-requires
 is-time-requires c κs = search needs
 
 bits-suit-requires : tie.Need-bits-suit-requires
-bits-suit-requires c κs = let h = rw (c .match .keys7) at (c .before .before .before .pre .inside) in (omega (arith, h), c .before .before .before .pre .word)
+bits-suit-requires c κs =
+    let entry = c .before .before .before in
+    let h = rw (c .match .keys7) at (entry .pre .inside) in (omega (arith, h), entry .pre .word)
 
 read-i64-requires-2 : tie.Need-read-i64-requires-2
 read-i64-requires-2 c κs = let h = rw (c .match .keys8) at (c .before .before .before .pre .inside) in omega arith

@@ -25,10 +25,14 @@ add-if1 : tie.Need-add-if1
 add-if1 c = search needs
 
 returns : tie.Need-returns
-returns c = rw (← c .before .before .read-u16 .ensures, ← c .before .read-u162 .ensures) (text-outside (c .before .before .before .before .before .args .n) (c .before .before .read-u16 .result) (c .before .read-u162 .result) (now (c .before .before .before .before .before .args .text)) (c .if1 .taken))
+returns c =
+    let entry = c .before .before .before .before .before in
+    rw (← c .before .before .read-u16 .ensures, ← c .before .read-u162 .ensures) (text-outside (entry .args .n) (c .before .before .read-u16 .result) (c .before .read-u162 .result) (now (entry .args .text)) (c .if1 .taken))
 
 returns-2 : tie.Need-returns-2
-returns-2 c = rw (← c .before .before .before .read-u16 .ensures, ← c .before .before .read-u162 .ensures) (text-long (c .before .before .before .before .before .before .args .n) (c .before .before .before .read-u16 .result) (c .before .before .read-u162 .result) (now (c .before .before .before .before .before .before .args .text)) (c .before .if1 .left) (c .if2 .taken))
+returns-2 c =
+    let entry = c .before .before .before .before .before .before in
+    rw (← c .before .before .before .read-u16 .ensures, ← c .before .before .read-u162 .ensures) (text-long (entry .args .n) (c .before .before .before .read-u16 .result) (c .before .before .read-u162 .result) (now (entry .args .text)) (c .before .if1 .left) (c .if2 .taken))
 
 add-is-valid : tie.Need-add-is-valid
 add-is-valid c = search needs
@@ -46,7 +50,9 @@ is-valid-requires : tie.Need-is-valid-requires
 is-valid-requires c κs = search needs
 
 returns-3 : tie.Need-returns-3
-returns-3 c = rw (← c .before .before .before .before .before .read-u16 .ensures, ← c .before .before .before .before .read-u162 .ensures) (text-told (c .before .before .before .before .before .before .before .before .args .n) (c .before .before .before .before .before .read-u16 .result) (c .before .before .before .before .read-u162 .result) (now (c .before .before .before .before .before .before .before .before .args .text)) (c .before .before .before .if1 .left) (c .before .before .if2 .left) (c .is-valid .ensures))
+returns-3 c =
+    let entry = c .before .before .before .before .before .before .before .before in
+    rw (← c .before .before .before .before .before .read-u16 .ensures, ← c .before .before .before .before .read-u162 .ensures) (text-told (entry .args .n) (c .before .before .before .before .before .read-u16 .result) (c .before .before .before .before .read-u162 .result) (now (entry .args .text)) (c .before .before .before .if1 .left) (c .before .before .if2 .left) (c .is-valid .ensures))
 
 pub text-suits-spec : {M : Type 1} → statement M
 text-suits-spec =

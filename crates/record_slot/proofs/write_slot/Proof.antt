@@ -2,121 +2,277 @@ use borrow.Author.Needs.{needs}
 use Rattle.record_slot.proofs.write_slot.Statement.{statement}
 use Rattle.record_slot.proofs.write_slot.Tie as tie
 use native.Mathlib.Omega.{arith}
+use Prim.Native.Nat.{_+_}
 use mathlib.Core.Path.{ap, _∙_}
 use lib.Seq.{sets}
+use mir.Syntax.{w16, w32, w64}
 use denote.Ref.{now}
-use Rattle.record_slot.proofs.Held.{body-within}
-use Rattle.record_slot.proofs.Forms.{number-ready, number-stored, char-stored, char-room, char-suits, bit-stored, bit-room, bit-suits, body-stored, body-room}
+use Rattle.laws.specs.Bytes.{toLe}
+use Rattle.record_slot.proofs.Forms.{by-bits, within-at, form-at, suits-at, room-at, number-ready, none-stored, body-stored}
+use Rattle.endian.proofs.read_u16.Reads as read-u16-reads
+use Rattle.endian.proofs.read_u32.Reads as read-u32-reads
+use Rattle.endian.proofs.read_u64.Reads as read-u64-reads
+use Rattle.endian.proofs.write_u16.Reads as write-u16-reads
+use Rattle.endian.proofs.write_u32.Reads as write-u32-reads
+use Rattle.endian.proofs.write_u64.Reads as write-u64-reads
 use Rattle.record_slot.proofs.declared_length.Reads as declared-length-reads
 use Rattle.record_slot.proofs.write_bits.Reads as write-bits-reads
-use Rattle.record_slot.proofs.write_body.Reads as write-body-reads
 use Rattle.record_slot.proofs.write_char.Reads as write-char-reads
 use Rattle.record_slot.proofs.write_number.Reads as write-number-reads
 
 shared-slice-read-kind : tie.Need-shared-slice-read-kind
 shared-slice-read-kind c = search needs
 
+add-body : tie.Need-add-body
+add-body c = search needs
+
 declared-length-requires : tie.Need-declared-length-requires
 declared-length-requires c κs = search needs
 
-add-write-number : tie.Need-add-write-number
-add-write-number c = search needs
+read-u16-requires : tie.Need-read-u16-requires
+read-u16-requires c κs = within-at (c .before .before .before .before .before .before .before .before .pre .0) 1 (c .before .match .keys1)
+
+write-u16-requires : tie.Need-write-u16-requires
+write-u16-requires c κs =
+    let entry = c .before .before .before .before .before .before .before .before .before in
+    room-at (entry .pre .0) (entry .pre .1) 1 (c .before .before .match .keys1)
+
+read-u32-requires : tie.Need-read-u32-requires
+read-u32-requires c κs = within-at (c .before .before .before .before .before .before .before .before .pre .0) 2 (c .before .match .keys2)
+
+write-u32-requires : tie.Need-write-u32-requires
+write-u32-requires c κs =
+    let entry = c .before .before .before .before .before .before .before .before .before in
+    room-at (entry .pre .0) (entry .pre .1) 2 (c .before .before .match .keys2)
+
+read-u64-requires : tie.Need-read-u64-requires
+read-u64-requires c κs = within-at (c .before .before .before .before .before .before .before .before .pre .0) 3 (c .before .match .keys3)
+
+write-u64-requires : tie.Need-write-u64-requires
+write-u64-requires c κs =
+    let entry = c .before .before .before .before .before .before .before .before .before in
+    room-at (entry .pre .0) (entry .pre .1) 3 (c .before .before .match .keys3)
+
+read-u32-requires-2 : tie.Need-read-u32-requires-2
+read-u32-requires-2 c κs = within-at (c .before .before .before .before .before .before .before .before .pre .0) 4 (c .before .match .keys4)
+
+write-u32-requires-2 : tie.Need-write-u32-requires-2
+write-u32-requires-2 c κs =
+    let entry = c .before .before .before .before .before .before .before .before .before in
+    room-at (entry .pre .0) (entry .pre .1) 4 (c .before .before .match .keys4)
+
+read-u64-requires-2 : tie.Need-read-u64-requires-2
+read-u64-requires-2 c κs = within-at (c .before .before .before .before .before .before .before .before .pre .0) 5 (c .before .match .keys5)
+
+write-u64-requires-2 : tie.Need-write-u64-requires-2
+write-u64-requires-2 c κs =
+    let entry = c .before .before .before .before .before .before .before .before .before in
+    room-at (entry .pre .0) (entry .pre .1) 5 (c .before .before .match .keys5)
 
 write-number-requires : tie.Need-write-number-requires
 write-number-requires c κs =
     let p = c .before .before .before .before .before .before .before .before .pre in
-    let k = c .before .before .match .keys1 in
-    let h = rw k at (body-within (p .0)) in
-    rw (c .declared-length .ensures .0) (omega (arith, h), number-ready (p .0) (p .1) k)
+    rw (c .before .before .declared-length .ensures .0) (within-at (p .0) 6 (c .before .match .keys6), number-ready (p .0) (p .1) (c .before .match .keys6))
 
-declared-length-requires-2 : tie.Need-declared-length-requires-2
-declared-length-requires-2 c κs = search needs
+shared-slice-read-out : tie.Need-shared-slice-read-out
+shared-slice-read-out c = let h = within-at (c .before .before .before .before .before .before .before .before .pre .0) 7 (c .before .match .keys7) in omega (arith, h)
 
-add-write-char : tie.Need-add-write-char
-add-write-char c = search needs
+slice-write-out : tie.Need-slice-write-out
+slice-write-out c =
+    let entry = c .before .before .before .before .before .before .before .before in
+    let h = room-at (entry .pre .0) (entry .pre .1) 7 (c .before .match .keys7) in omega (arith, h)
 
 write-char-requires : tie.Need-write-char-requires
 write-char-requires c κs =
     let p = c .before .before .before .before .before .before .before .before .pre in
-    let k = c .before .before .match .keys2 in
-    let h = rw k at (body-within (p .0)) in
-    rw (c .declared-length2 .ensures .0) (omega (arith, h), (char-room (p .0) (p .1) k, char-suits (p .0) (p .1) k))
+    let k = c .before .match .keys8 in
+    rw (c .before .before .declared-length .ensures .0) (within-at (p .0) 8 k, (room-at (p .0) (p .1) 8 k, suits-at (p .0) (p .1) 8 k))
 
-declared-length-requires-3 : tie.Need-declared-length-requires-3
-declared-length-requires-3 c κs = search needs
+read-u32-requires-3 : tie.Need-read-u32-requires-3
+read-u32-requires-3 c κs = within-at (c .before .before .before .before .before .before .before .before .pre .0) 10 (c .before .match .keys9)
 
-add-write-bits : tie.Need-add-write-bits
-add-write-bits c = search needs
+write-u32-requires-3 : tie.Need-write-u32-requires-3
+write-u32-requires-3 c κs =
+    let entry = c .before .before .before .before .before .before .before .before .before in
+    room-at (entry .pre .0) (entry .pre .1) 10 (c .before .before .match .keys9)
+
+read-u64-requires-3 : tie.Need-read-u64-requires-3
+read-u64-requires-3 c κs = within-at (c .before .before .before .before .before .before .before .before .pre .0) 11 (c .before .match .keys10)
+
+write-u64-requires-3 : tie.Need-write-u64-requires-3
+write-u64-requires-3 c κs =
+    let entry = c .before .before .before .before .before .before .before .before .before in
+    room-at (entry .pre .0) (entry .pre .1) 11 (c .before .before .match .keys10)
 
 write-bits-requires : tie.Need-write-bits-requires
 write-bits-requires c κs =
     let p = c .before .before .before .before .before .before .before .before .pre in
-    let k = c .before .before .match .keys3 in
-    let h = rw k at (body-within (p .0)) in
-    rw (c .declared-length3 .ensures .0) (omega (arith, h), (bit-room (p .0) (p .1) k, bit-suits (p .0) (p .1) k))
+    let k = c .before .match .keys11 in
+    rw (c .before .before .declared-length .ensures .0) (within-at (p .0) 12 k, (room-at (p .0) (p .1) 12 k, suits-at (p .0) (p .1) 12 k))
 
-add-write-body : tie.Need-add-write-body
-add-write-body c = search needs
+read-u64-requires-4 : tie.Need-read-u64-requires-4
+read-u64-requires-4 c κs = within-at (c .before .before .before .before .before .before .before .before .pre .0) 13 (c .before .match .keys12)
 
-write-body-requires : tie.Need-write-body-requires
-write-body-requires c κs =
-    let p = c .before .before .before .before .before .before .before .pre in
-    let r = c .before .match .rest in
-    (body-within (p .0), body-room (p .0) (p .1) (r .0 .0 .1) (r .0 .1) (r .1))
+write-u64-requires-4 : tie.Need-write-u64-requires-4
+write-u64-requires-4 c κs =
+    let entry = c .before .before .before .before .before .before .before .before .before in
+    room-at (entry .pre .0) (entry .pre .1) 13 (c .before .before .match .keys12)
 
 same-length : tie.Need-same-length
 same-length c = search needs
 
 returns : tie.Need-returns
 returns c =
-    let a = c .before .before .before .before .before .before .before .before .before .before .before .args in
-    let p = c .before .before .before .before .before .before .before .before .before .before .before .pre in
-    (rw (c .before .before .before .declared-length .ensures .0) at (c .before .before .write-number .ensures)) ∙ ap (sets (now (a .out)) (a .slot)) (number-stored (p .0) (p .1) (c .before .before .before .before .before .match .keys1))
+    let entry = c .before .before .before .before .before .before .before .before .before .before .before .before in
+    let a = entry .args in
+    let p = entry .pre in
+    c .before .before .write-u16 .ensures ∙ ap (sets (now (a .out)) (a .slot)) (ap (toLe 2) (by-bits w16 (search needs) (c .before .before .before .read-u16 .ensures)) ∙ form-at (p .0) (p .1) 1 (c .before .before .before .before .before .match .keys1))
 
 same-length-2 : tie.Need-same-length-2
 same-length-2 c = search needs
 
 returns-2 : tie.Need-returns-2
 returns-2 c =
-    let a = c .before .before .before .before .before .before .before .before .before .before .before .args in
-    let p = c .before .before .before .before .before .before .before .before .before .before .before .pre in
-    (rw (c .before .before .before .declared-length2 .ensures .0) at (c .before .before .write-char .ensures)) ∙ ap (sets (now (a .out)) (a .slot)) (char-stored (p .0) (p .1) (c .before .before .before .before .before .match .keys2))
+    let entry = c .before .before .before .before .before .before .before .before .before .before .before .before in
+    let a = entry .args in
+    let p = entry .pre in
+    c .before .before .write-u32 .ensures ∙ ap (sets (now (a .out)) (a .slot)) (ap (toLe 4) (by-bits w32 (search needs) (c .before .before .before .read-u32 .ensures)) ∙ form-at (p .0) (p .1) 2 (c .before .before .before .before .before .match .keys2))
 
 same-length-3 : tie.Need-same-length-3
 same-length-3 c = search needs
 
 returns-3 : tie.Need-returns-3
 returns-3 c =
-    let a = c .before .before .before .before .before .before .before .before .before .before .before .args in
-    let p = c .before .before .before .before .before .before .before .before .before .before .before .pre in
-    (rw (c .before .before .before .declared-length3 .ensures .0) at (c .before .before .write-bits .ensures)) ∙ ap (sets (now (a .out)) (a .slot)) (bit-stored (p .0) (p .1) (c .before .before .before .before .before .match .keys3))
+    let entry = c .before .before .before .before .before .before .before .before .before .before .before .before in
+    let a = entry .args in
+    let p = entry .pre in
+    c .before .before .write-u64 .ensures ∙ ap (sets (now (a .out)) (a .slot)) (ap (toLe 8) (by-bits w64 (search needs) (c .before .before .before .read-u64 .ensures)) ∙ form-at (p .0) (p .1) 3 (c .before .before .before .before .before .match .keys3))
 
 same-length-4 : tie.Need-same-length-4
 same-length-4 c = search needs
 
 returns-4 : tie.Need-returns-4
 returns-4 c =
-    let a = c .before .before .before .before .before .before .before .before .before .before .args in
-    let p = c .before .before .before .before .before .before .before .before .before .before .pre in
-    let r = c .before .before .before .before .match .rest in
-    c .before .before .write-body .ensures ∙ ap (sets (now (a .out)) (a .slot)) (body-stored (p .0) (p .1) (r .0 .0 .1) (r .0 .1) (r .1))
+    let entry = c .before .before .before .before .before .before .before .before .before .before .before .before in
+    let a = entry .args in
+    let p = entry .pre in
+    c .before .before .write-u322 .ensures ∙ ap (sets (now (a .out)) (a .slot)) (ap (toLe 4) (c .before .before .before .read-u322 .ensures) ∙ form-at (p .0) (p .1) 4 (c .before .before .before .before .before .match .keys4))
+
+same-length-5 : tie.Need-same-length-5
+same-length-5 c = search needs
+
+returns-5 : tie.Need-returns-5
+returns-5 c =
+    let entry = c .before .before .before .before .before .before .before .before .before .before .before .before in
+    let a = entry .args in
+    let p = entry .pre in
+    c .before .before .write-u642 .ensures ∙ ap (sets (now (a .out)) (a .slot)) (ap (toLe 8) (c .before .before .before .read-u642 .ensures) ∙ form-at (p .0) (p .1) 5 (c .before .before .before .before .before .match .keys5))
+
+same-length-6 : tie.Need-same-length-6
+same-length-6 c = search needs
+
+returns-6 : tie.Need-returns-6
+returns-6 c =
+    let entry = c .before .before .before .before .before .before .before .before .before .before .before in
+    let a = entry .args in
+    let p = entry .pre in
+    (rw (c .before .before .before .before .before .declared-length .ensures .0) at (c .before .before .write-number .ensures)) ∙ ap (sets (now (a .out)) (a .slot)) (form-at (p .0) (p .1) 6 (c .before .before .before .before .match .keys6))
+
+same-length-7 : tie.Need-same-length-7
+same-length-7 c = search needs
+
+returns-7 : tie.Need-returns-7
+returns-7 c =
+    let entry = c .before .before .before .before .before .before .before .before in
+    ap (sets (now (entry .args .out)) (entry .args .slot)) (form-at (entry .pre .0) (entry .pre .1) 7 (c .before .match .keys7))
+
+same-length-8 : tie.Need-same-length-8
+same-length-8 c = search needs
+
+returns-8 : tie.Need-returns-8
+returns-8 c =
+    let entry = c .before .before .before .before .before .before .before .before .before .before .before in
+    let a = entry .args in
+    let p = entry .pre in
+    (rw (c .before .before .before .before .before .declared-length .ensures .0) at (c .before .before .write-char .ensures)) ∙ ap (sets (now (a .out)) (a .slot)) (form-at (p .0) (p .1) 8 (c .before .before .before .before .match .keys8))
+
+same-length-9 : tie.Need-same-length-9
+same-length-9 c = search needs
+
+returns-9 : tie.Need-returns-9
+returns-9 c =
+    let entry = c .before .before .before .before .before .before .before .before .before .before .before .before in
+    let a = entry .args in
+    let p = entry .pre in
+    c .before .before .write-u323 .ensures ∙ ap (sets (now (a .out)) (a .slot)) (ap (toLe 4) (by-bits w32 (search needs) (c .before .before .before .read-u323 .ensures)) ∙ form-at (p .0) (p .1) 10 (c .before .before .before .before .before .match .keys9))
+
+same-length-10 : tie.Need-same-length-10
+same-length-10 c = search needs
+
+returns-10 : tie.Need-returns-10
+returns-10 c =
+    let entry = c .before .before .before .before .before .before .before .before .before .before .before .before in
+    let a = entry .args in
+    let p = entry .pre in
+    c .before .before .write-u643 .ensures ∙ ap (sets (now (a .out)) (a .slot)) (ap (toLe 8) (by-bits w64 (search needs) (c .before .before .before .read-u643 .ensures)) ∙ form-at (p .0) (p .1) 11 (c .before .before .before .before .before .match .keys10))
+
+same-length-11 : tie.Need-same-length-11
+same-length-11 c = search needs
+
+returns-11 : tie.Need-returns-11
+returns-11 c =
+    let entry = c .before .before .before .before .before .before .before .before .before .before .before in
+    let a = entry .args in
+    let p = entry .pre in
+    (rw (c .before .before .before .before .before .declared-length .ensures .0) at (c .before .before .write-bits .ensures)) ∙ ap (sets (now (a .out)) (a .slot)) (form-at (p .0) (p .1) 12 (c .before .before .before .before .match .keys11))
+
+same-length-12 : tie.Need-same-length-12
+same-length-12 c = search needs
+
+returns-12 : tie.Need-returns-12
+returns-12 c =
+    let entry = c .before .before .before .before .before .before .before .before .before .before .before .before in
+    let a = entry .args in
+    let p = entry .pre in
+    c .before .before .write-u644 .ensures ∙ ap (sets (now (a .out)) (a .slot)) (ap (toLe 8) (by-bits w64 (search needs) (c .before .before .before .read-u644 .ensures)) ∙ form-at (p .0) (p .1) 13 (c .before .before .before .before .before .match .keys12))
+
+returns-13 : tie.Need-returns-13
+returns-13 c =
+    let entry = c .before .before .before .before .before .before .before in
+    let a = entry .args in
+    let p = entry .pre in
+    let r = c .match .rest in
+    ap (sets (now (a .out)) (a .slot))
+    (none-stored _ 0 (now (a .values)) (a .from + 1) (r .0 .0 .0 .0 .0 .0 .0 .0 .0 .0 .0 .1) (r .0 .0 .0 .0 .0 .0 .0 .0 .0 .0 .1) (r .0 .0 .0 .0 .0 .0 .0 .0 .0 .1) (r .0 .0 .0 .0 .0 .0 .0 .0 .1) (r .0 .0 .0 .0 .0 .0 .0 .1) (r .0 .0 .0 .0 .0 .1) (r .0 .0 .0 .1) (r .0 .0 .1) (r .1) ∙ body-stored (p .0) (p .1) (r .0 .0 .0 .0 .0 .0 .1) (r .0 .0 .0 .0 .1) (r .0 .1))
 
 pub write-slot-spec : {M : Type 1} → statement M
 write-slot-spec =
     tie.close
     (tie.spec
     shared-slice-read-kind
+    add-body
     declared-length-requires
-    add-write-number
+    read-u16-requires
+    write-u16-requires
+    read-u32-requires
+    write-u32-requires
+    read-u64-requires
+    write-u64-requires
+    read-u32-requires-2
+    write-u32-requires-2
+    read-u64-requires-2
+    write-u64-requires-2
     write-number-requires
-    declared-length-requires-2
-    add-write-char
+    shared-slice-read-out
+    slice-write-out
     write-char-requires
-    declared-length-requires-3
-    add-write-bits
+    read-u32-requires-3
+    write-u32-requires-3
+    read-u64-requires-3
+    write-u64-requires-3
     write-bits-requires
-    add-write-body
-    write-body-requires
+    read-u64-requires-4
+    write-u64-requires-4
     same-length
     returns
     same-length-2
@@ -124,4 +280,21 @@ write-slot-spec =
     same-length-3
     returns-3
     same-length-4
-    returns-4)
+    returns-4
+    same-length-5
+    returns-5
+    same-length-6
+    returns-6
+    same-length-7
+    returns-7
+    same-length-8
+    returns-8
+    same-length-9
+    returns-9
+    same-length-10
+    returns-10
+    same-length-11
+    returns-11
+    same-length-12
+    returns-12
+    returns-13)

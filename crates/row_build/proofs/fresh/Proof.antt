@@ -29,10 +29,11 @@ same-length c = search needs
 
 returns-2 : tie.Need-returns-2
 returns-2 c =
-    let s = now (c .before .before .before .before .before .before .before .before .before .before .args .schema) in
+    let entry = c .before .before .before .before .before .before .before .before .before .before in
+    let s = now (entry .args .schema) in
     let e = sym (c .before .before .before .before .before .before .before .check-schema .ensures .0) ∙ c .before .before .before .before .before .layout .given .1 in
     let a = accepted s e ((rw (c .before .before .before .before .before .layout .given .1) at (c .before .before .before .before .before .before .before .check-schema .ensures .1)) .bounded) in
-    c .before .before .fresh-row .ensures ∙ ap (placed (now (c .before .before .before .before .before .before .before .before .before .before .args .out))) (accepted-nulls a) ∙ on-good s e _ _
+    c .before .before .fresh-row .ensures ∙ ap (placed (now (entry .args .out))) (accepted-nulls a) ∙ on-good s e _ _
 
 pub fresh-spec : {M : Type 1} → statement M
 fresh-spec =

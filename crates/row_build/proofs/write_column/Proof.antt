@@ -30,9 +30,10 @@ same-length c = search needs
 
 returns-2 : tie.Need-returns-2
 returns-2 c =
-    let p = c .before .before .before .before .before .before .before .before .before .before .before .pre in
+    let entry = c .before .before .before .before .before .before .before .before .before .before .before in
+    let p = entry .pre in
     let z = is-value (p .0) (c .before .before .before .before .before .if1 .left) in
-    varchar-stored (p .0) (p .1 z) (c .before .before .before .before .if2 .taken) _ (now (c .before .before .before .before .before .before .before .before .before .before .before .args .out)) _ z (c .before .before .write-varchar .ensures .0) (c .before .before .write-varchar .ensures .1)
+    varchar-stored (p .0) (p .1 z) (c .before .before .before .before .if2 .taken) _ (now (entry .args .out)) _ z (c .before .before .write-varchar .ensures .0) (c .before .before .write-varchar .ensures .1)
 
 write-fixed-requires : tie.Need-write-fixed-requires
 write-fixed-requires c κs =
@@ -45,9 +46,10 @@ same-length-2 c = search needs
 
 returns-3 : tie.Need-returns-3
 returns-3 c =
-    let p = c .before .before .before .before .before .before .before .before .before .before .before .pre in
+    let entry = c .before .before .before .before .before .before .before .before .before .before .before in
+    let p = entry .pre in
     let z = is-value (p .0) (c .before .before .before .before .before .if1 .left) in
-    slot-stored (p .0) (p .1 z) (c .before .before .before .before .if2 .left) (now (c .before .before .before .before .before .before .before .before .before .before .before .args .out)) _ z (c .before .before .write-fixed .ensures)
+    slot-stored (p .0) (p .1 z) (c .before .before .before .before .if2 .left) (now (entry .args .out)) _ z (c .before .before .write-fixed .ensures)
 
 pub write-column-spec : {M : Type 1} → statement M
 write-column-spec =

@@ -43,7 +43,9 @@ write-column-requires c κs =
     (r, write-room p (c .before .before .before .loop .inv) h (read-at r))
 
 slot-size-requires : tie.Need-slot-size-requires Inv-loop μ-loop
-slot-size-requires c κs = has-type (readable (c .before .before .before .before .before .before .before .before .before .before .before .before .before .before .pre .given) (c .before .before .before .before .before .before .loop .inv .walk) (left (c .before .before .before .before .before .before .before .before .before .before .before .before .before .before .pre .given) (c .before .before .before .before .if1 .taken)))
+slot-size-requires c κs =
+    let entry = c .before .before .before .before .before .before .before .before .before .before .before .before .before .before in
+    has-type (readable (entry .pre .given) (c .before .before .before .before .before .before .loop .inv .walk) (left (entry .pre .given) (c .before .before .before .before .if1 .taken)))
 
 add-slot : tie.Need-add-slot Inv-loop μ-loop
 add-slot c =
@@ -53,7 +55,9 @@ add-slot c =
     search needs
 
 shared-slice-read-held-kind : tie.Need-shared-slice-read-held-kind Inv-loop μ-loop
-shared-slice-read-held-kind c = readable (c .before .before .before .before .before .before .before .before .before .before .before .before .before .before .before .before .pre .given) (c .before .before .before .before .before .before .before .before .loop .inv .walk) (left (c .before .before .before .before .before .before .before .before .before .before .before .before .before .before .before .before .pre .given) (c .before .before .before .before .before .before .if1 .taken)) .column
+shared-slice-read-held-kind c =
+    let entry = c .before .before .before .before .before .before .before .before .before .before .before .before .before .before .before .before in
+    readable (entry .pre .given) (c .before .before .before .before .before .before .before .before .loop .inv .walk) (left (entry .pre .given) (c .before .before .before .before .before .before .if1 .taken)) .column
 
 held-kind-requires : tie.Need-held-kind-requires Inv-loop μ-loop
 held-kind-requires c κs = search needs
@@ -69,21 +73,28 @@ add-entry c =
     search needs
 
 after-column-requires : tie.Need-after-column-requires Inv-loop μ-loop
-after-column-requires c κs = readable (c .before .before .before .before .before .before .before .before .before .before .before .before .before .before .before .before .before .before .pre .given) (c .before .before .before .before .before .before .before .before .before .before .loop .inv .walk) (left (c .before .before .before .before .before .before .before .before .before .before .before .before .before .before .before .before .before .before .pre .given) (c .before .before .before .before .before .before .before .before .if1 .taken)) .column
+after-column-requires c κs =
+    let entry = c .before .before .before .before .before .before .before .before .before .before .before .before .before .before .before .before .before .before in
+    readable (entry .pre .given) (c .before .before .before .before .before .before .before .before .before .before .loop .inv .walk) (left (entry .pre .given) (c .before .before .before .before .before .before .before .before .if1 .taken)) .column
 
 add-from : tie.Need-add-from Inv-loop μ-loop
-add-from c = let q = readable (c .before .before .before .before .before .before .before .before .before .before .before .before .before .before .before .before .before .before .before .pre .given) (c .before .before .before .before .before .before .before .before .before .before .before .loop .inv .walk) (left (c .before .before .before .before .before .before .before .before .before .before .before .before .before .before .before .before .before .before .before .pre .given) (c .before .before .before .before .before .before .before .before .before .if1 .taken)) .value in search needs
+add-from c =
+    let entry = c .before .before .before .before .before .before .before .before .before .before .before .before .before .before .before .before .before .before .before in
+    let q = readable (entry .pre .given) (c .before .before .before .before .before .before .before .before .before .before .before .loop .inv .walk) (left (entry .pre .given) (c .before .before .before .before .before .before .before .before .before .if1 .taken)) .value in search needs
 
 shared-slice-read-body-length : tie.Need-shared-slice-read-body-length Inv-loop μ-loop
-shared-slice-read-body-length c = readable (c .before .before .before .before .before .before .before .before .before .before .before .before .before .before .before .before .before .before .before .before .pre .given) (c .before .before .before .before .before .before .before .before .before .before .before .before .loop .inv .walk) (left (c .before .before .before .before .before .before .before .before .before .before .before .before .before .before .before .before .before .before .before .before .pre .given) (c .before .before .before .before .before .before .before .before .before .before .if1 .taken)) .value
+shared-slice-read-body-length c =
+    let entry = c .before .before .before .before .before .before .before .before .before .before .before .before .before .before .before .before .before .before .before .before in
+    readable (entry .pre .given) (c .before .before .before .before .before .before .before .before .before .before .before .before .loop .inv .walk) (left (entry .pre .given) (c .before .before .before .before .before .before .before .before .before .before .if1 .taken)) .value
 
 body-length-requires : tie.Need-body-length-requires Inv-loop μ-loop
 body-length-requires c κs = search needs
 
 add-from-2 : tie.Need-add-from-2 Inv-loop μ-loop
 add-from-2 c =
+    let entry = c .before .before .before .before .before .before .before .before .before .before .before .before .before .before .before .before .before .before .before .before .before in
     let g = c .before .before .before .before .before .before .before .before .before .before .before .before .before .before .before .before .before .before .before .before .before .good in
-    let q = readable (c .before .before .before .before .before .before .before .before .before .before .before .before .before .before .before .before .before .before .before .before .before .pre .given) (c .before .before .before .before .before .before .before .before .before .before .before .before .before .loop .inv .walk) (left (c .before .before .before .before .before .before .before .before .before .before .before .before .before .before .before .before .before .before .before .before .before .pre .given) (c .before .before .before .before .before .before .before .before .before .before .before .if1 .taken)) .value in
+    let q = readable (entry .pre .given) (c .before .before .before .before .before .before .before .before .before .before .before .before .before .loop .inv .walk) (left (entry .pre .given) (c .before .before .before .before .before .before .before .before .before .before .before .if1 .taken)) .value in
     let b = c .body-length .ensures .1 in
     search needs
 

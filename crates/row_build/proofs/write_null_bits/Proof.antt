@@ -28,13 +28,17 @@ same-length : tie.Need-same-length
 same-length c = search needs
 
 returns : tie.Need-returns
-returns c = bits-more (now (c .before .before .before .before .before .before .args .out)) (c .before .before .before .before .before .before .args .at) (c .before .before .before .before .before .before .args .n) (c .before .before .before .fill .ensures) (c .if1 .taken)
+returns c =
+    let entry = c .before .before .before .before .before .before in
+    bits-more (now (entry .args .out)) (entry .args .at) (entry .args .n) (c .before .before .before .fill .ensures) (c .if1 .taken)
 
 same-length-2 : tie.Need-same-length-2
 same-length-2 c = search needs
 
 returns-2 : tie.Need-returns-2
-returns-2 c = bits-whole (now (c .before .before .before .before .before .before .args .out)) (c .before .before .before .before .before .before .args .at) (c .before .before .before .before .before .before .args .n) (c .before .before .before .fill .ensures) (c .if1 .left)
+returns-2 c =
+    let entry = c .before .before .before .before .before .before in
+    bits-whole (now (entry .args .out)) (entry .args .at) (entry .args .n) (c .before .before .before .fill .ensures) (c .if1 .left)
 
 pub write-null-bits-spec : {M : Type 1} → statement M
 write-null-bits-spec =

@@ -41,7 +41,9 @@ same-length : tie.Need-same-length
 same-length c = search needs
 
 returns : tie.Need-returns
-returns c = null-stored (c .before .before .before .before .before .before .before .before .before .before .before .before .before .before .before .before .before .before .before .before .args .layout) (now (c .before .before .before .before .before .before .before .before .before .before .before .before .before .before .before .before .before .before .before .before .args .out)) (c .before .before .before .before .before .before .before .before .before .before .before .before .before .before .before .before .before .write-u16 .ensures) (c .before .before .before .before .before .before .before .before .before .before .before .before .before .write-u162 .ensures) (rw (c .before .before .before .before .before .before .before .before .before .bitmap-offset .ensures) at (c .before .before .before .before .before .before .before .before .write-null-bits .ensures)) (rw (c .before .before .before .before .varlen-table-offset .ensures) at (c .before .before .fill .ensures))
+returns c =
+    let entry = c .before .before .before .before .before .before .before .before .before .before .before .before .before .before .before .before .before .before .before .before in
+    null-stored (entry .args .layout) (now (entry .args .out)) (c .before .before .before .before .before .before .before .before .before .before .before .before .before .before .before .before .before .write-u16 .ensures) (c .before .before .before .before .before .before .before .before .before .before .before .before .before .write-u162 .ensures) (rw (c .before .before .before .before .before .before .before .before .before .bitmap-offset .ensures) at (c .before .before .before .before .before .before .before .before .write-null-bits .ensures)) (rw (c .before .before .before .before .varlen-table-offset .ensures) at (c .before .before .fill .ensures))
 
 pub write-nulls-spec : {M : Type 1} → statement M
 write-nulls-spec =
