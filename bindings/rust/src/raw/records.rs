@@ -142,7 +142,11 @@ impl<'a> Records<'_, 'a> {
         let at = cursor.at + usize::from(step.skipped);
         cursor.rank += 1;
         let list = self.list.get(at..).unwrap_or_default();
-        Some(decode(list, step.bits, self.row, |value, length| {
+        let Some(record) = known(list) else {
+            cursor.at = BEYOND;
+            return Some(then(unknown(list)));
+        };
+        Some(decode(record, step.bits, self.row, |value, length| {
             cursor.at = at + length;
             then(value)
         }))
@@ -162,7 +166,12 @@ impl<'a> Records<'_, 'a> {
             if step.skipped != 0 {
                 list = list.get(usize::from(step.skipped)..).unwrap_or_default();
             }
-            result = decode(list, step.bits, self.row, |value, length| {
+            let Some(record) = known(list) else {
+                result = each(result, unknown(list));
+                list = &[];
+                continue;
+            };
+            result = decode(record, step.bits, self.row, |value, length| {
                 list = list.get(length..).unwrap_or_default();
                 each(result, value)
             });
@@ -218,7 +227,10 @@ pub(crate) fn read_one<'a>(
     super::read(schema.as_bytes(), row, &[number], &mut list)?;
     let bits = schema.data_type(column).map_or(0, bits_of);
     let list = list.get(column..).unwrap_or_default();
-    Ok(decode(list, bits, row, |value, _| value))
+    Ok(match known(list) {
+        Some(record) => decode(record, bits, row, |value, _| value),
+        None => unknown(list),
+    })
 }
 
 /// The text of a column, or none for a null.
@@ -244,26 +256,39 @@ fn bits_of(data_type: DataType) -> u16 {
 /// The length of a record of unknown kind: what comes behind it is not known either. No list is as long.
 const BEYOND: usize = 1 << 20;
 
+/// The last kind that is known: a Timestamp.
+const LAST_KIND: u8 = 13;
+
 /// The length of a record by its kind.
 fn length_of(kind: u8) -> usize {
-    const LENGTHS: [u8; 14] = [1, 3, 5, 9, 5, 9, 18, 2, 5, 5, 5, 9, 5, 9];
+    const LENGTHS: [u8; LAST_KIND as usize + 1] = [1, 3, 5, 9, 5, 9, 18, 2, 5, 5, 5, 9, 5, 9];
     LENGTHS
         .get(usize::from(kind))
         .map_or(BEYOND, |&length| usize::from(length))
 }
 
-/// What `then` makes of the value of a list's first record, and of the record's length. It is handed each kind of value
-/// in an arm of its own, so that the compiler knows there which one it is.
+/// The first record of a list, by its greatest length, if its kind is known. It is asked before `decode`, so that a
+/// loop has no arm for what does not happen.
+#[inline(always)]
+fn known(list: &[u8]) -> Option<&[u8; RECORD]> {
+    list.first_chunk().filter(|record| record[0] <= LAST_KIND)
+}
+
+/// What is read where there is no record of a known kind.
+fn unknown(list: &[u8]) -> Value<'static> {
+    let kind = list.first_chunk::<RECORD>().map_or(255, |record| record[0]);
+    Value::Unknown { kind }
+}
+
+/// What `then` makes of the value of a record of known kind, and of the record's length. It is handed each kind of
+/// value in an arm of its own, so that the compiler knows there which one it is.
 #[inline(always)]
 fn decode<'a, R>(
-    list: &[u8],
+    record: &[u8; RECORD],
     bits: u16,
     row: &'a [u8],
     then: impl FnOnce(Value<'a>, usize) -> R,
 ) -> R {
-    let Some(record) = list.first_chunk::<RECORD>() else {
-        return then(Value::Unknown { kind: 255 }, BEYOND);
-    };
     let int = || i32::from_le_bytes(body(record));
     let long = || i64::from_le_bytes(body(record));
     match record[0] {
@@ -293,8 +318,8 @@ fn decode<'a, R>(
             Some(bits) => then(Value::Bit(bits), 5),
             None => then(Value::Unknown { kind: 12 }, 5),
         },
-        13 => then(Value::Timestamp(Timestamp::from_micros(long())), 9),
-        kind => then(Value::Unknown { kind }, BEYOND),
+        // Higher ones are not known.
+        LAST_KIND.. => then(Value::Timestamp(Timestamp::from_micros(long())), 9),
     }
 }
 
