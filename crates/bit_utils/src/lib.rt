@@ -29,7 +29,8 @@ fn high_bits(b: u8, k: usize) -> u8
 // The bytes at `at` that n bits fill, the bits past the first n set to zero.
 pub fn clear_spare_bits(s: &mut [u8], at: usize, n: usize)
     requires { ⌜ at + bytesFor n ≤ length (now s) ⌝ }
-    ensures { λ _. ⌜ now (s .exit) ≡ sets (now (s .entry)) at (packBits n (unpackBits n (take (bytesFor n) (drop at (now (s .entry)))))) ⌝ }
+    ensures { λ _. ⌜ now (s .exit)
+        ≡ sets (now (s .entry)) at (packBits n (unpackBits n (take (bytesFor n) (drop at (now (s .entry)))))) ⌝ }
 {
     let used = n % 8;
     if 0 < used {

@@ -25,7 +25,8 @@ stepped buf end (Value v) = (Answer.Done (end + length (recordOf v)), sets buf e
 stepped buf end (Refused e) = (Answer.Refused e, buf)
 
 -- what the walk has come to: a record of the schema, and room for the column's own
-pub record DecodeAt (s : List ℕ) (at : ℕ) (l : RowLayout) (p : Bool) (b : RowLayout) (r buf : List ℕ) (end : ℕ) : Type 0 where
+pub record DecodeAt (s : List ℕ) (at : ℕ) (l : RowLayout) (p : Bool) (b : RowLayout) (r buf : List ℕ) (end : ℕ) : Type
+    0 where
   pub here : at < length s
   pub few : b .«num_columns» < 256
   pub good : (e : Refusal) → columnRecordAt s at ≡ Record.Refused e → ⊥

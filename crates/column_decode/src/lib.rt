@@ -41,8 +41,12 @@ fn decode_varchar(
     buf: &mut [u8],
     end: usize,
 ) -> Answer
-    requires { ⌜ ((rank < varlens) × (table + varlens * offsetWidth ≤ length (now row))) × ((length (now row) ≤ 65535) × (end + 18 ≤ length (now buf))) ⌝ }
-    ensures { λ r. ⌜ (r, now (buf .exit)) ≡ stepped (now (buf .entry)) end (varlenValue (VarcharType n) i (now (row .entry)) (varlenRange offsetWidth table varlens rank (now (row .entry)))) ⌝ }
+    requires { ⌜ ((rank < varlens) × (table + varlens * offsetWidth ≤ length (now row)))
+        × ((length (now row) ≤ 65535) × (end + 18 ≤ length (now buf))) ⌝ }
+    ensures { λ r. ⌜ (r, now (buf .exit))
+        ≡ stepped (now (buf .entry)) end
+        (varlenValue (VarcharType n) i (now (row .entry))
+        (varlenRange offsetWidth table varlens rank (now (row .entry)))) ⌝ }
 {
     match row_layout::varlen_range(row, table, varlens, rank) {
         VarlenRange::Null => Answer::Done(record_encode::write_null(buf, end)),
@@ -63,8 +67,12 @@ fn decode_char(
     buf: &mut [u8],
     end: usize,
 ) -> Answer
-    requires { ⌜ Reachable layout packed before (CharType n) (now row) × ((length (now row) ≤ 65535) × (end + 18 ≤ length (now buf))) ⌝ }
-    ensures { λ r. ⌜ (r, now (buf .exit)) ≡ stepped (now (buf .entry)) end (readBytes (CharType n) (before .«num_columns») (now (row .entry)) (walkedPlace layout packed before (CharType n)) (walkedPlace layout packed before (CharType n) + n)) ⌝ }
+    requires { ⌜ Reachable layout packed before (CharType n) (now row)
+        × ((length (now row) ≤ 65535) × (end + 18 ≤ length (now buf))) ⌝ }
+    ensures { λ r. ⌜ (r, now (buf .exit))
+        ≡ stepped (now (buf .entry)) end
+        (readBytes (CharType n) (before .«num_columns») (now (row .entry))
+        (walkedPlace layout packed before (CharType n)) (walkedPlace layout packed before (CharType n) + n)) ⌝ }
 {
     let start = layout.fixed_data_start() + before.slot_start(packed, 1);
     slot_record::char_record(before.num_columns, row, start, start + n, buf, end)
@@ -82,7 +90,10 @@ fn decode_value(
     end: usize,
 ) -> Answer
     requires { ⌜ DecodeAt (now schema) at layout packed before (now row) (now buf) end ⌝ }
-    ensures { λ r. ⌜ (r, now (buf .exit)) ≡ stepped (now (buf .entry)) end (walkedColumn layout packed before (typeAt (typesIn (now (schema .entry))) (before .«num_columns»)) (now (row .entry))) ⌝ }
+    ensures { λ r. ⌜ (r, now (buf .exit))
+        ≡ stepped (now (buf .entry)) end
+        (walkedColumn layout packed before (typeAt (typesIn (now (schema .entry))) (before .«num_columns»))
+        (now (row .entry))) ⌝ }
 {
     match datatype::record_at(schema, at) {
         Record::Refused(e) => Answer::Refused(e),
@@ -104,8 +115,12 @@ fn decode_body(
     buf: &mut [u8],
     end: usize,
 ) -> Answer
-    requires { ⌜ DecodeAt (now schema) at layout packed before (now row) (now buf) end × (eqb (bitAt (before .«num_columns») (drop bitmapStart (now row))) 1 ≡ false) ⌝ }
-    ensures { λ r. ⌜ (r, now (buf .exit)) ≡ stepped (now (buf .entry)) end (walkedColumn layout packed before (typeAt (typesIn (now (schema .entry))) (before .«num_columns»)) (now (row .entry))) ⌝ }
+    requires { ⌜ DecodeAt (now schema) at layout packed before (now row) (now buf) end
+        × (eqb (bitAt (before .«num_columns») (drop bitmapStart (now row))) 1 ≡ false) ⌝ }
+    ensures { λ r. ⌜ (r, now (buf .exit))
+        ≡ stepped (now (buf .entry)) end
+        (walkedColumn layout packed before (typeAt (typesIn (now (schema .entry))) (before .«num_columns»))
+        (now (row .entry))) ⌝ }
 {
     match schema[at] {
         schema_kinds::CHAR => {
@@ -145,8 +160,12 @@ pub fn decode_present(
     buf: &mut [u8],
     end: usize,
 ) -> Answer
-    requires { ⌜ DecodeAt (now schema) at layout packed before (now row) (now buf) end × (eqb (bitAt (before .«num_columns») (drop bitmapStart (now row))) 1 ≡ false) ⌝ }
-    ensures { λ r. ⌜ (r, now (buf .exit)) ≡ stepped (now (buf .entry)) end (walkedColumn layout packed before (typeAt (typesIn (now (schema .entry))) (before .«num_columns»)) (now (row .entry))) ⌝ }
+    requires { ⌜ DecodeAt (now schema) at layout packed before (now row) (now buf) end
+        × (eqb (bitAt (before .«num_columns») (drop bitmapStart (now row))) 1 ≡ false) ⌝ }
+    ensures { λ r. ⌜ (r, now (buf .exit))
+        ≡ stepped (now (buf .entry)) end
+        (walkedColumn layout packed before (typeAt (typesIn (now (schema .entry))) (before .«num_columns»))
+        (now (row .entry))) ⌝ }
 {
     let kind = schema[at];
     let size = datatype::plain_size(kind);

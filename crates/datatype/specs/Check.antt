@@ -1,4 +1,4 @@
--- What the check of a schema hands back, and what the calls do with it.
+-- What the check of a schema hands back, and what the calls do with it. FORMAT 2.3.
 use Prim.Native.Nat.{ℕ}
 use mathlib.Core.List.{List, [], map}
 use lib.ListN.{getD}

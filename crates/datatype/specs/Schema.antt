@@ -1,4 +1,4 @@
--- 01, "Schema and value bytes": the columns that a schema's bytes say, or the refusal.
+-- 01, "Schema and value bytes": the columns that a schema's bytes say, or the refusal. FORMAT 2.1, 2.3.
 use Prim.Native.Nat.{ℕ, zero, suc, _+_}
 use mathlib.Core.Bool.{Bool, false, cond, _&&_}
 use mathlib.Core.List.{List, [], _∷_, map}
@@ -60,7 +60,9 @@ columnRecordOf unknown s at = Refused (BadRecord at)
 columnRecordOf (plain t) s at = Column t (at + 1)
 columnRecordOf (sized t) s at = unlessCut s at (Column (t (fromLe (take 2 (drop (at + 1) s)))) (at + 3))
 columnRecordOf (digits t) s at =
-    unlessCut s at (cond (goodDigits (getD s (at + 1) 0) (getD s (at + 2) 0)) (Column (t (getD s (at + 1) 0) (getD s (at + 2) 0)) (at + 3)) (Refused (BadSchema at)))
+    unlessCut s at
+    (cond (goodDigits (getD s (at + 1) 0) (getD s (at + 2) 0))
+    (Column (t (getD s (at + 1) 0) (getD s (at + 2) 0)) (at + 3)) (Refused (BadSchema at)))
 
 abbrev pub columnRecordAt : List ℕ → ℕ → Record
 columnRecordAt s at = columnRecordOf (columnKind (getD s at 0)) s at
@@ -74,12 +76,14 @@ abbrev pub onColumnRecord : Record → (ℕ → Parsed) → Parsed
 onColumnRecord (Column t next) rest = before t (rest next)
 onColumnRecord (Refused r) rest = refused r
 
--- at most n records from a place on. "The first bad schema record decides"; 2: "a 257th record begins", "whatever its kind"
+-- at most n records from a place on. "The first bad schema record decides"; 2: "a 257th record begins", "whatever its
+-- kind"
 abbrev pub columnRecords : ℕ → List ℕ → ℕ → Parsed
 columnRecords zero s at = cond (ltb at (length s)) (refused (BadSchema at)) (ok [])
 columnRecords (suc n) s at = cond (ltb at (length s)) (onColumnRecord (columnRecordAt s at) (columnRecords n s)) (ok [])
 
--- 2: "after the last record, padded minimum above 65,535 (place: schema length)", for offsets of w bytes and rows of at most `limit`
+-- 2: "after the last record, padded minimum above 65,535 (place: schema length)", for offsets of w bytes and rows of
+-- at most `limit`
 abbrev pub limited : ℕ → ℕ → ℕ → Parsed → Parsed
 limited w limit len (ok ts) = cond (ltb limit (minimum w false (map shapeOf ts))) (refused (BadSchema len)) (ok ts)
 limited w limit len (refused r) = refused r

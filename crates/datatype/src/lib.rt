@@ -326,8 +326,8 @@ fn body_shape(kind: u8, first: u8, n: u16) -> Shape
     Shape::Fixed(n as usize, 1)
 }
 
-// The walk from a column to the next, in a schema that was checked: what comes after the record at a place. It looks at no more of the type than the
-// layout does, and is short, so that the compiler puts it into each loop that walks.
+// The walk from a column to the next, in a schema that was checked: what comes after the record at a place. It looks
+// at no more of the type than the layout does, and is short, so that the compiler puts it into each loop that walks.
 pub fn next_column(schema: &[u8], at: usize, before: RowLayout) -> Step
     requires { ⌜ Passable (now schema) at × ((before .«num_columns» < 256) × Bounded before) ⌝ }
     ensures { λ r. ⌜ (r ≡ passed at before (columnRecordAt (now (schema .entry)) at)) × Bounded (r .before) ⌝ }

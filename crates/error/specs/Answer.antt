@@ -1,4 +1,5 @@
 -- 01, "What each call hands back", for the calls that write: the answer, and the bytes of the lent output afterwards.
+-- FORMAT 6.
 use mathlib.Core.Bool.{cond}
 use mathlib.Core.List.{List}
 use Prim.Native.Nat.{ℕ}

@@ -1,4 +1,4 @@
--- 01, "What each call hands back": the number of each refusal, and its place.
+-- 01, "What each call hands back": the number of each refusal, and its place. FORMAT 6.
 use Prim.Native.Nat.{ℕ}
 use Rattle.error.specs.declared.Refusal.{Refusal}
 use Rattle.error.specs.declared.Refusal.the-variants.{BadRecord, BadSchema, RowTooShort, RowTooLong, WrongColumnCount, WrongVarlenCount, BadRange, NoValue, NoSuchColumn, BadValueList, WrongKind, Unsuitable, RowLimit, NoRoom, NotSound}
@@ -20,7 +20,8 @@ numberOf RowLimit = 13
 numberOf NoRoom = 14
 numberOf NotSound = 15
 
--- "the first byte of the bad record, in the schema for 1 and 2 and in the value list for 10; a column for 7, 8, 11 and 12; else 0"
+-- "the first byte of the bad record, in the schema for 1 and 2 and in the value list for 10; a column for 7, 8, 11
+-- and 12; else 0"
 abbrev pub placeOf : Refusal → ℕ
 placeOf (BadRecord at) = at
 placeOf (BadSchema at) = at

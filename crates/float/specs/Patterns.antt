@@ -1,4 +1,4 @@
--- The comparison by value, told by the bits alone: the words of `by-bits`.
+-- The comparison by value, told by the bits alone: the words of `by-bits`. FORMAT 7.4.
 use Prim.Native.Nat.{ℕ, _*_, _%_}
 use mathlib.Core.Path.{_≡_}
 use mathlib.Core.Bool.{Bool, true, _&&_, _||_}

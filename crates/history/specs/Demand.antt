@@ -1,4 +1,5 @@
 -- Demand 3, and 01, "Histories of edits": "Demand 3 is one claim about the whole list, not one for each call."
+-- FORMAT 9.3, 9.4.
 use Prim.Native.Nat.{ℕ, _+_, _<_, _≤_}
 use mathlib.Core.Bool.{true}
 use mathlib.Core.List.{List, [], _∷_, map}

@@ -1,5 +1,5 @@
--- 01, "Read" and "Editing", for one set or set null that answers 0: a read of all columns gives the new value in its column and what it gave before in every
--- other, a text compared by the bytes of its range.
+-- 01, "Read" and "Editing", for one set or set null that answers 0: a read of all columns gives the new value in its
+-- column and what it gave before in every other, a text compared by the bytes of its range. FORMAT 8.4, 8.5.
 use Prim.Native.Nat.{ℕ, _+_, _<_}
 use mathlib.Core.Bool.{Bool, true}
 use mathlib.Core.List.{List, map}
@@ -26,10 +26,12 @@ columnOf (setValue i list area) = i
 columnOf (setNull i) = i
 
 abbrev pub givenContent : DataType → Call → Content
-givenContent t (setValue i list area) = valueContent t (oneValue (valuesOf list)) (textOf area (oneValue (valuesOf list)))
+givenContent t (setValue i list area) =
+    valueContent t (oneValue (valuesOf list)) (textOf area (oneValue (valuesOf list)))
 givenContent t (setNull i) = nullContent
 
--- a read of all n columns of a row answers with the values vs, into any output: "such a list whose text area is the row itself"
+-- a read of all n columns of a row answers with the values vs, into any output: "such a list whose text area is the
+-- row itself"
 pub record ReadsAll (schema : List ℕ) (n : ℕ) (row : List ℕ) (vs : List DataValue) : Type 0 where
   pub count : length vs ≡ n
   pub read : (wanted out : List ℕ) → ((i : ℕ) → i < n → isWanted wanted i ≡ true)
@@ -48,8 +50,10 @@ pub record Edits (schema : List ℕ) (c : Call) (old new : State) : Type 0 where
   pub new-values : List DataValue
   pub old-read : ReadsAll schema (length columns) (rowOf old) old-values
   pub new-read : ReadsAll schema (length columns) (rowOf new) new-values
-  pub changed : contents (rowOf new) new-values ≡ set (contents (rowOf old) old-values) (columnOf c) (givenContent (typeAt columns (columnOf c)) c)
-  -- the row is sound as before, and its length "the layout's minimum plus the payload lengths of its non-null Varchar columns"
+  pub changed : contents (rowOf new) new-values
+      ≡ set (contents (rowOf old) old-values) (columnOf c) (givenContent (typeAt columns (columnOf c)) c)
+  -- the row is sound as before, and its length "the layout's minimum plus the payload lengths of its non-null Varchar
+  -- columns"
   pub packed : Bool
   pub old-sound : SoundRow offsetWidth rowLimit columns packed (rowOf old)
   pub new-sound : SoundRow offsetWidth rowLimit columns packed (rowOf new)

@@ -1,4 +1,5 @@
--- 01, "Stored forms": "Numeric and Decimal: digits of the unscaled number, one a nibble, a zero nibble in front when precision is even, then C or D; D only below zero".
+-- 01, "Stored forms": "Numeric and Decimal: digits of the unscaled number, one a nibble, a zero nibble in front when
+-- precision is even, then C or D; D only below zero". FORMAT 5.1, 5.2.
 use Prim.Native.Nat.{ℕ, _+_, _*_, _/_, _%_, _^_}
 use mathlib.Core.Bool.{Bool, true, false, cond, _&&_}
 use mathlib.Core.List.{List, [], _∷_, _++_}
@@ -44,7 +45,8 @@ abbrev pub magnitudeOf : List ℕ → Magnitude
 magnitudeOf ds = cond (allDigits ds) (M.Number (denote ds / 2 ^ 64) (denote ds % 2 ^ 64)) M.Broken
 
 abbrev pub signed : ℕ → Magnitude → Decoded
-signed s (M.Number high low) = cond (eqb s 0xC) (D.Value false high low) (cond (eqb s 0xD) (D.Value true high low) D.Broken)
+signed s (M.Number high low) =
+    cond (eqb s 0xC) (D.Value false high low) (cond (eqb s 0xD) (D.Value true high low) D.Broken)
 signed s M.Broken = D.Broken
 
 abbrev pub decodeBcd : ℕ → List ℕ → Decoded

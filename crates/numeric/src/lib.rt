@@ -92,7 +92,8 @@ fn long_digits(s: &mut [u8], high: u64, low: u64)
     put_pairs(s, i, l);
 }
 
-// The decimal digits of a number in two halves, two a byte as the packed form has them: 39, and a zero where the sign goes.
+// The decimal digits of a number in two halves, two a byte as the packed form has them: 39, and a zero where the sign
+// goes.
 pub fn digits_of(high: u64, low: u64) -> [u8; 20]
     ensures { λ r. ⌜ r ≡ pairs (digits 39 (halves high low)) ⌝ }
 {

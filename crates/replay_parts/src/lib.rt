@@ -51,7 +51,8 @@ pub fn after<'r>(fields: &'r [u8]) -> &'r [u8] {
     &fields[end..]
 }
 
-// What the Rust does where a number is answered: 0 it answers, 1 Internal, 2 TypeMismatch, 3 a panic, 255 none of these.
+// What the Rust does where a number is answered: 0 it answers, 1 Internal, 2 TypeMismatch, 3 a panic, 255 none of
+// these.
 pub fn variant(number: u32) -> u8 {
     match number {
         0 => 0,

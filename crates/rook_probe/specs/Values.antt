@@ -1,4 +1,5 @@
--- One value and one column: what the inner functions make of them, as numbers and bytes. A refusal leaves the lent bytes.
+-- One value and one column: what the inner functions make of them, as numbers and bytes. A refusal leaves the lent
+-- bytes.
 use Prim.Native.Nat.{ℕ, _≤_}
 use mathlib.Core.Bool.{Bool, true, cond}
 use mathlib.Core.List.{List, [], _∷_}
@@ -64,7 +65,9 @@ placedForm bs out = cond (ltb (length out) (length bs)) (refuse 14 out) (hand bs
 
 -- 11: another kind; 12: the value does not suit
 abbrev pub storedValue : DataType → DataValue → List ℕ → List ℕ → ValueProbe × List ℕ
-storedValue t v area out = cond (matches t v) (cond (accepted t v area) (placedForm (storedForm t v (textOf area v)) out) (refuse 12 out)) (refuse 11 out)
+storedValue t v area out =
+    cond (matches t v) (cond (accepted t v area) (placedForm (storedForm t v (textOf area v)) out) (refuse 12 out))
+    (refuse 11 out)
 
 -- 10: no list of one value
 abbrev pub storedOne : DataType → OneValue → List ℕ → List ℕ → ValueProbe × List ℕ

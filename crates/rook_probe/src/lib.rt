@@ -126,7 +126,8 @@ fn form_length(ty: DataType, value: DataValue) -> usize
 // The stored form of a value that the type holds.
 fn place_value(ty: DataType, value: DataValue, area: &[u8], out: &mut [u8]) -> ValueProbe
     requires { ⌜ (precisionOf ty ≤ 38) × ((matches ty value ≡ true) × (accepted ty value (now area) ≡ true)) ⌝ }
-    ensures { λ r. ⌜ (r, now (out .exit)) ≡ placedForm (storedForm ty value (textOf (now (area .entry)) value)) (now (out .entry)) ⌝ }
+    ensures { λ r. ⌜ (r, now (out .exit))
+        ≡ placedForm (storedForm ty value (textOf (now (area .entry)) value)) (now (out .entry)) ⌝ }
 {
     let length = form_length(ty, value);
     if out.len() < length {
@@ -167,7 +168,8 @@ pub extern "C" fn rook_probe_store(
     area: &[u8],
     out: &mut [u8],
 ) -> ValueProbe
-    ensures { λ r. ⌜ (r, now (out .exit)) ≡ storedAs (onlyType (now (schema .entry))) (now (list .entry)) (now (area .entry)) (now (out .entry)) ⌝ }
+    ensures { λ r. ⌜ (r, now (out .exit))
+        ≡ storedAs (onlyType (now (schema .entry))) (now (list .entry)) (now (area .entry)) (now (out .entry)) ⌝ }
 {
     match one_type(schema) {
         OneType::Only(t) => store_list(t, list, area, out),
@@ -186,7 +188,8 @@ fn fits_slot(ty: DataType, size: usize) -> bool
 
 // What the bytes of a slot, or of a payload, read as.
 fn place_read(ty: DataType, bytes: &[u8], start: usize, out: &mut [u8]) -> ValueProbe
-    requires { ⌜ (precisionOf ty ≤ 38) × ((fitsSlot ty (length (now bytes)) ≡ true) × ((start ≤ 65535) × (length (now bytes) ≤ 65535))) ⌝ }
+    requires { ⌜ (precisionOf ty ≤ 38)
+        × ((fitsSlot ty (length (now bytes)) ≡ true) × ((start ≤ 65535) × (length (now bytes) ≤ 65535))) ⌝ }
     ensures { λ r. ⌜ (r, now (out .exit)) ≡ placedRead (readSlot ty start (now (bytes .entry))) (now (out .entry)) ⌝ }
 {
     if out.len() < 18 {
@@ -217,7 +220,8 @@ fn read_value(ty: DataType, bytes: &[u8], start: usize, out: &mut [u8]) -> Value
     refused(3)
 }
 
-// What bytes that stand at `start` of a row read as under a schema's one type: a value record, whose text area is the row.
+// What bytes that stand at `start` of a row read as under a schema's one type: a value record, whose text area is the
+// row.
 #[no_mangle]
 pub extern "C" fn rook_probe_slot(
     schema: &[u8],
@@ -225,7 +229,8 @@ pub extern "C" fn rook_probe_slot(
     start: usize,
     out: &mut [u8],
 ) -> ValueProbe
-    ensures { λ r. ⌜ (r, now (out .exit)) ≡ readAs (onlyType (now (schema .entry))) (now (bytes .entry)) start (now (out .entry)) ⌝ }
+    ensures { λ r. ⌜ (r, now (out .exit))
+        ≡ readAs (onlyType (now (schema .entry))) (now (bytes .entry)) start (now (out .entry)) ⌝ }
 {
     match one_type(schema) {
         OneType::Only(t) => read_value(t, bytes, start, out),

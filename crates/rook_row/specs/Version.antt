@@ -1,5 +1,5 @@
 -- The version of the C interface as a number. It is ours: no paper has one. A minor version is a series: within it no
--- call changes its form, in another one it may.
+-- call changes its form, in another one it may. FORMAT 7.7.
 use Prim.Native.Nat.{ℕ, _+_, _*_}
 
 abbrev pub versionNumber : ℕ → ℕ → ℕ → ℕ

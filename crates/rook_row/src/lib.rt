@@ -1,5 +1,6 @@
 // The exported calls: the C interface of the row codec. include/rook_row.h declares them.
-// An enum does not cross that border, so an answer is a struct of numbers: document 01's number and place, and what the call hands out.
+// An enum does not cross that border, so an answer is a struct of numbers: document 01's number and place, and what
+// the call hands out.
 use error::Answer;
 use error::Flag;
 use row_handle::RowHandle;
@@ -78,7 +79,8 @@ fn flag_answer(answer: Flag) -> FlagAnswer
 // A row of nulls at the front of `out`; `length` is its length.
 #[no_mangle]
 pub extern "C" fn rook_row_fresh(schema: &[u8], out: &mut [u8]) -> RowAnswer
-    ensures { λ r. ⌜ (r, now (out .exit)) ≡ rowOutcome 0 (freshCall offsetWidth rowLimit (now (schema .entry)) (now (out .entry))) ⌝ }
+    ensures { λ r. ⌜ (r, now (out .exit))
+        ≡ rowOutcome 0 (freshCall offsetWidth rowLimit (now (schema .entry)) (now (out .entry))) ⌝ }
 {
     row_answer(row_build::fresh(schema, out), 0)
 }
@@ -91,7 +93,10 @@ pub extern "C" fn rook_row_build(
     text: &[u8],
     out: &mut [u8],
 ) -> RowAnswer
-    ensures { λ r. ⌜ (r, now (out .exit)) ≡ rowOutcome 0 (buildCall offsetWidth rowLimit (now (schema .entry)) (now (values .entry)) (now (text .entry)) (now (out .entry))) ⌝ }
+    ensures { λ r. ⌜ (r, now (out .exit))
+        ≡ rowOutcome 0
+        (buildCall offsetWidth rowLimit (now (schema .entry)) (now (values .entry)) (now (text .entry))
+        (now (out .entry))) ⌝ }
 {
     row_answer(
         row_build::serialize_nullable_typed_row(schema, values, text, out),
@@ -99,7 +104,8 @@ pub extern "C" fn rook_row_build(
     )
 }
 
-// The wanted columns of a row as a value list at the front of `out`; `length` is its length. The list's text area is the row.
+// The wanted columns of a row as a value list at the front of `out`; `length` is its length. The list's text area is
+// the row.
 #[no_mangle]
 pub extern "C" fn rook_row_read(
     schema: &[u8],
@@ -107,12 +113,16 @@ pub extern "C" fn rook_row_read(
     wanted: &[u16],
     out: &mut [u8],
 ) -> RowAnswer
-    ensures { λ r. ⌜ (r, now (out .exit)) ≡ rowOutcome 0 (readCall offsetWidth rowLimit (now (schema .entry)) (now (row .entry)) (now (wanted .entry)) (now (out .entry))) ⌝ }
+    ensures { λ r. ⌜ (r, now (out .exit))
+        ≡ rowOutcome 0
+        (readCall offsetWidth rowLimit (now (schema .entry)) (now (row .entry)) (now (wanted .entry))
+        (now (out .entry))) ⌝ }
 {
     row_answer(row_decode::decode(schema, row, wanted, out), 0)
 }
 
-// Column `column` of the row in the first `row_length` bytes of `buf` set to the one value of the list; `length` is the row's length afterwards.
+// Column `column` of the row in the first `row_length` bytes of `buf` set to the one value of the list; `length` is
+// the row's length afterwards.
 #[no_mangle]
 pub extern "C" fn rook_row_set(
     schema: &[u8],
@@ -122,7 +132,10 @@ pub extern "C" fn rook_row_set(
     values: &[u8],
     text: &[u8],
 ) -> RowAnswer
-    ensures { λ r. ⌜ (r, now (buf .exit)) ≡ rowOutcome «row_length» (setCall offsetWidth rowLimit (now (schema .entry)) (now (buf .entry)) «row_length» column (now (values .entry)) (now (text .entry))) ⌝ }
+    ensures { λ r. ⌜ (r, now (buf .exit))
+        ≡ rowOutcome «row_length»
+        (setCall offsetWidth rowLimit (now (schema .entry)) (now (buf .entry)) «row_length» column
+        (now (values .entry)) (now (text .entry))) ⌝ }
 {
     row_answer(
         row_edit::set_value(schema, buf, row_length, column, values, text),
@@ -138,7 +151,9 @@ pub extern "C" fn rook_row_set_null(
     row_length: usize,
     column: usize,
 ) -> RowAnswer
-    ensures { λ r. ⌜ (r, now (buf .exit)) ≡ rowOutcome «row_length» (setNullCall offsetWidth rowLimit (now (schema .entry)) (now (buf .entry)) «row_length» column) ⌝ }
+    ensures { λ r. ⌜ (r, now (buf .exit))
+        ≡ rowOutcome «row_length»
+        (setNullCall offsetWidth rowLimit (now (schema .entry)) (now (buf .entry)) «row_length» column) ⌝ }
 {
     row_answer(
         row_edit::set_null(schema, buf, row_length, column),
@@ -160,7 +175,10 @@ fn handle_value(
     values: &[u8],
     text: &[u8],
 ) -> HandleAnswer
-    ensures { λ r. ⌜ (r .answer, (now (buf .exit), r .handle)) ≡ handleOutcome (handle .length) (handleSet offsetWidth rowLimit (now (schema .entry)) (now (buf .entry)) handle column (now (values .entry)) (now (text .entry))) ⌝ }
+    ensures { λ r. ⌜ (r .answer, (now (buf .exit), r .handle))
+        ≡ handleOutcome (handle .length)
+        (handleSet offsetWidth rowLimit (now (schema .entry)) (now (buf .entry)) handle column
+        (now (values .entry)) (now (text .entry))) ⌝ }
 {
     let edited = row_handle::with_value(schema, buf, handle, column, values, text);
     let answer = edited.answer;
@@ -172,7 +190,9 @@ fn handle_value(
 }
 
 fn handle_null(schema: &[u8], buf: &mut [u8], handle: RowHandle, column: usize) -> HandleAnswer
-    ensures { λ r. ⌜ (r .answer, (now (buf .exit), r .handle)) ≡ handleOutcome (handle .length) (handleSetNull offsetWidth rowLimit (now (schema .entry)) (now (buf .entry)) handle column) ⌝ }
+    ensures { λ r. ⌜ (r .answer, (now (buf .exit), r .handle))
+        ≡ handleOutcome (handle .length)
+        (handleSetNull offsetWidth rowLimit (now (schema .entry)) (now (buf .entry)) handle column) ⌝ }
 {
     let edited = row_handle::with_null(schema, buf, handle, column);
     let answer = edited.answer;
@@ -183,7 +203,8 @@ fn handle_null(schema: &[u8], buf: &mut [u8], handle: RowHandle, column: usize) 
     }
 }
 
-// As `rook_row_set`, on the row of a handle: its length is the handle's, which an accepted call changes, with the layout.
+// As `rook_row_set`, on the row of a handle: its length is the handle's, which an accepted call changes, with the
+// layout.
 #[no_mangle]
 pub extern "C" fn rook_row_handle_set(
     handle: &mut RowHandle,
@@ -193,7 +214,10 @@ pub extern "C" fn rook_row_handle_set(
     values: &[u8],
     text: &[u8],
 ) -> RowAnswer
-    ensures { λ r. ⌜ (r, (now (buf .exit), now (handle .exit))) ≡ handleOutcome (now (handle .entry) .length) (handleSet offsetWidth rowLimit (now (schema .entry)) (now (buf .entry)) (now (handle .entry)) column (now (values .entry)) (now (text .entry))) ⌝ }
+    ensures { λ r. ⌜ (r, (now (buf .exit), now (handle .exit)))
+        ≡ handleOutcome (now (handle .entry) .length)
+        (handleSet offsetWidth rowLimit (now (schema .entry)) (now (buf .entry)) (now (handle .entry))
+        column (now (values .entry)) (now (text .entry))) ⌝ }
 {
     let before = *handle;
     let edited = handle_value(schema, buf, before, column, values, text);
@@ -209,7 +233,10 @@ pub extern "C" fn rook_row_handle_set_null(
     buf: &mut [u8],
     column: usize,
 ) -> RowAnswer
-    ensures { λ r. ⌜ (r, (now (buf .exit), now (handle .exit))) ≡ handleOutcome (now (handle .entry) .length) (handleSetNull offsetWidth rowLimit (now (schema .entry)) (now (buf .entry)) (now (handle .entry)) column) ⌝ }
+    ensures { λ r. ⌜ (r, (now (buf .exit), now (handle .exit)))
+        ≡ handleOutcome (now (handle .entry) .length)
+        (handleSetNull offsetWidth rowLimit (now (schema .entry)) (now (buf .entry)) (now (handle .entry))
+        column) ⌝ }
 {
     let before = *handle;
     let edited = handle_null(schema, buf, before, column);
@@ -241,7 +268,8 @@ pub extern "C" fn rook_row_text(schema: &[u8], row: &[u8], column: usize) -> Tex
 // Whether two rows of one schema have the same content: 1 or 0 in `flag`.
 #[no_mangle]
 pub extern "C" fn rook_row_same_content(schema: &[u8], a: &[u8], b: &[u8]) -> FlagAnswer
-    ensures { λ r. ⌜ r ≡ flagAnswer (sameCall offsetWidth rowLimit (now (schema .entry)) (now (a .entry)) (now (b .entry))) ⌝ }
+    ensures { λ r. ⌜ r
+        ≡ flagAnswer (sameCall offsetWidth rowLimit (now (schema .entry)) (now (a .entry)) (now (b .entry))) ⌝ }
 {
     flag_answer(row_same::same_content(schema, a, b))
 }

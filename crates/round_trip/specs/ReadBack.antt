@@ -1,4 +1,4 @@
--- What a read of a built row gives: the values it was built of, with their texts as parts of the row.
+-- What a read of a built row gives: the values it was built of, with their texts as parts of the row. FORMAT 7.1.
 use Prim.Native.Nat.{ℕ, suc, _^_, _<_}
 use mathlib.Core.Bool.{Bool, true, cond}
 use mathlib.Core.List.{List, [], _∷_, map}

@@ -1,4 +1,5 @@
--- Which bytes of a row a column's reading depends on: two rows that agree on these give the same `columnValue`, whatever else they hold.
+-- Which bytes of a row a column's reading depends on: two rows that agree on these give the same `columnValue`,
+-- whatever else they hold. FORMAT 7.2.
 use Prim.Native.Nat.{ℕ, _+_, _*_, _-_, _/_, _≤_, _<_}
 use mathlib.Core.Bool.{Bool, true, false}
 use mathlib.Core.List.{List, map}
@@ -23,8 +24,9 @@ bitOfColumn i r = bitAt i (drop bitmapStart r)
 
 -- ---- two rows that agree on them
 
--- A Varchar of rank k, of v, whose offset is not 0: "A range ends at the next non-zero offset of a higher rank, else at the row's end". So the row's
--- length, the higher offsets up to the first that is not 0, and the range if it is a part of the row.
+-- A Varchar of rank k, of v, whose offset is not 0: "A range ends at the next non-zero offset of a higher rank, else
+-- at the row's end". So the row's length, the higher offsets up to the first that is not 0, and the range if it is a
+-- part of the row.
 pub record SameRange (w table v k : ℕ) (r r' : List ℕ) : Type 0 where
   pub size : length r ≡ length r'
   pub higher : (j : ℕ) → k < j → j < v → Zeros w table k j r → entryAt w table j r ≡ entryAt w table j r'

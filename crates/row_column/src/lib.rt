@@ -74,7 +74,8 @@ fn column_here(schema: &[u8], at: usize, before: RowLayout) -> Column
 
 // The schema was checked and has this column.
 pub fn column_at(schema: &[u8], column: usize) -> Column
-    requires { ⌜ (columnRecords 256 (now schema) 0 ≡ ok (typesIn (now schema))) × (column < length (typesIn (now schema))) ⌝ }
+    requires { ⌜ (columnRecords 256 (now schema) 0 ≡ ok (typesIn (now schema)))
+        × (column < length (typesIn (now schema))) ⌝ }
     ensures { λ r. ⌜ Found (now (schema .entry)) column r ⌝ }
 {
     let mut before = RowLayout::new();
@@ -95,7 +96,8 @@ pub enum ColumnRead {
 
 // The bytes from `start` up to `end`, of column i.
 fn read_bytes(ty: DataType, i: usize, row: &[u8], start: usize, end: usize) -> ColumnRead
-    requires { ⌜ (precisionOf ty ≤ 38) × ((start ≤ end) × ((end ≤ length (now row)) × (isVarlen ty ≡ false → end - start ≡ sizeOf ty))) ⌝ }
+    requires { ⌜ (precisionOf ty ≤ 38)
+        × ((start ≤ end) × ((end ≤ length (now row)) × (isVarlen ty ≡ false → end - start ≡ sizeOf ty))) ⌝ }
     ensures { λ r. ⌜ (r ≡ readBytes ty i (now (row .entry)) start end) × InRow (length (now (row .entry))) r ⌝ }
 {
     match value_decode::from_bytes(ty, &row[start..end], start) {
@@ -112,8 +114,11 @@ fn read_varlen(
     varlens: usize,
     rank: usize,
 ) -> ColumnRead
-    requires { ⌜ (precisionOf ty ≤ 38) × ((isVarlen ty ≡ true) × ((rank < varlens) × (table + varlens * offsetWidth ≤ length (now row)))) ⌝ }
-    ensures { λ r. ⌜ (r ≡ varlenValue ty i (now (row .entry)) (varlenRange offsetWidth table varlens rank (now (row .entry)))) × InRow (length (now (row .entry))) r ⌝ }
+    requires { ⌜ (precisionOf ty ≤ 38)
+        × ((isVarlen ty ≡ true) × ((rank < varlens) × (table + varlens * offsetWidth ≤ length (now row)))) ⌝ }
+    ensures { λ r. ⌜ (r
+        ≡ varlenValue ty i (now (row .entry)) (varlenRange offsetWidth table varlens rank (now (row .entry))))
+        × InRow (length (now (row .entry))) r ⌝ }
 {
     match row_layout::varlen_range(row, table, varlens, rank) {
         VarlenRange::Null => ColumnRead::Value(DataValue::Null),
@@ -131,7 +136,8 @@ pub fn read_column(
     row: &[u8],
 ) -> ColumnRead
     requires { ⌜ Reachable layout packed before ty (now row) ⌝ }
-    ensures { λ r. ⌜ (r ≡ walkedColumn layout packed before ty (now (row .entry))) × InRow (length (now (row .entry))) r ⌝ }
+    ensures { λ r. ⌜ (r ≡ walkedColumn layout packed before ty (now (row .entry)))
+        × InRow (length (now (row .entry))) r ⌝ }
 {
     let i = before.num_columns;
     if null_bitmap::column_bit_is_set(row, i) {

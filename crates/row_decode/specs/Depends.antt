@@ -1,4 +1,4 @@
--- Two rows that agree on what a read of the wanted columns depends on.
+-- Two rows that agree on what a read of the wanted columns depends on. FORMAT 7.1.
 use Prim.Native.Nat.{ℕ, _<_}
 use mathlib.Core.Bool.{Bool, true}
 use mathlib.Core.List.{List}

@@ -33,7 +33,8 @@ isMarked m i = eqb (getD m i 0) 1
 
 -- all records written at the front of a buffer; after a refusal it may hold anything
 abbrev pub Filled : Values → List ℕ → Answer → List ℕ → Type 0
-Filled (ok vs) buf r after = (r ≡ Answer.Done (length (listOf vs))) × ((after ≡ sets buf 0 (listOf vs)) × (length (listOf vs) ≤ length buf))
+Filled (ok vs) buf r after =
+    (r ≡ Answer.Done (length (listOf vs))) × ((after ≡ sets buf 0 (listOf vs)) × (length (listOf vs) ≤ length buf))
 Filled (refused e) buf r after = r ≡ Answer.Refused e
 
 -- and copied from there
@@ -42,10 +43,12 @@ Held (Answer.Done n) buf = n ≤ length buf
 Held (Answer.Refused e) buf = Unit {0}
 
 abbrev pub copiedOut : Answer → List ℕ → List ℕ → Outcome
-copiedOut (Answer.Done n) buf out = cond (ltb (length out) n) (Answer.Refused NoRoom, out) (Answer.Done n, sets out 0 (take n buf))
+copiedOut (Answer.Done n) buf out =
+    cond (ltb (length out) n) (Answer.Refused NoRoom, out) (Answer.Done n, sets out 0 (take n buf))
 copiedOut (Answer.Refused e) buf out = (Answer.Refused e, out)
 
--- what the walk over the columns may rely on: a schema that was accepted, a row with a good header, marks for all columns, and room for 18 bytes a column
+-- what the walk over the columns may rely on: a schema that was accepted, a row with a good header, marks for all
+-- columns, and room for 18 bytes a column
 pub record Decodable (s : List ℕ) (l : RowLayout) (p : Bool) (r marks buf : List ℕ) : Type 0 where
   pub framed : Framed s l p r
   pub flags : length marks ≡ 256

@@ -1,5 +1,5 @@
 -- 01, Read: "1, 2, 4, 3 (four bytes), 5, 6, 3 (minimum), then 7 and 8 by rising column, 14". "A read answers with
--- such a list whose text area is the row itself."
+-- such a list whose text area is the row itself." FORMAT 7.1.
 use Prim.Native.Nat.{ℕ, zero, suc}
 use mathlib.Core.Bool.{Bool, true, false, cond}
 use mathlib.Core.List.{List, [], _∷_}

@@ -1,5 +1,5 @@
-// row.rs, `RowDecoder::decode` after `only`: the values of the wanted columns of a row, as a value list in the lent output.
-// The records are written to a local buffer first, so that a refusal finds the output as it was.
+// row.rs, `RowDecoder::decode` after `only`: the values of the wanted columns of a row, as a value list in the lent
+// output. The records are written to a local buffer first, so that a refusal finds the output as it was.
 use datatype::SchemaCheck;
 use error::Answer;
 use error::Refusal;
@@ -67,7 +67,11 @@ fn decode_column(
     end: usize,
 ) -> Answer
     requires { ⌜ DecodeAt (now schema) at layout packed before (now row) (now buf) end × (length (now marks) ≡ 256) ⌝ }
-    ensures { λ r. ⌜ (r, now (buf .exit)) ≡ stepped (now (buf .entry)) end (wantedValue (isMarked (now (marks .entry)) (before .«num_columns»)) (walkedColumn layout packed before (typeAt (typesIn (now (schema .entry))) (before .«num_columns»)) (now (row .entry)))) ⌝ }
+    ensures { λ r. ⌜ (r, now (buf .exit))
+        ≡ stepped (now (buf .entry)) end
+        (wantedValue (isMarked (now (marks .entry)) (before .«num_columns»))
+        (walkedColumn layout packed before (typeAt (typesIn (now (schema .entry))) (before .«num_columns»))
+        (now (row .entry)))) ⌝ }
 {
     let i = before.num_columns;
     if marks[i] != 1 {
@@ -79,7 +83,8 @@ fn decode_column(
     column_decode::decode_present(schema, at, layout, packed, before, row, buf, end)
 }
 
-// The records of all columns, at the front of the buffer. The schema was checked, so that no record of it is refused here.
+// The records of all columns, at the front of the buffer. The schema was checked, so that no record of it is refused
+// here.
 fn decode_columns(
     schema: &[u8],
     layout: RowLayout,
@@ -89,7 +94,9 @@ fn decode_columns(
     buf: &mut [u8],
 ) -> Answer
     requires { ⌜ Decodable (now schema) layout packed (now row) (now marks) (now buf) ⌝ }
-    ensures { λ r. ⌜ Filled (walkedRead layout packed (isMarked (now (marks .entry))) (now (row .entry)) noColumns (typesIn (now (schema .entry)))) (now (buf .entry)) r (now (buf .exit)) ⌝ }
+    ensures { λ r. ⌜ Filled
+        (walkedRead layout packed (isMarked (now (marks .entry))) (now (row .entry)) noColumns
+        (typesIn (now (schema .entry)))) (now (buf .entry)) r (now (buf .exit)) ⌝ }
 {
     let mut before = RowLayout::new();
     let mut at = 0;
@@ -118,8 +125,12 @@ fn decode_short(
     marks: &[u8],
     out: &mut [u8],
 ) -> Answer
-    requires { ⌜ Framed (now schema) layout packed (now row) × ((length (now marks) ≡ 256) × (layout .«num_columns» ≤ 32)) ⌝ }
-    ensures { λ r. ⌜ (r, now (out .exit)) ≡ handOut (now (out .entry)) (walkedRead layout packed (isMarked (now (marks .entry))) (now (row .entry)) noColumns (typesIn (now (schema .entry)))) ⌝ }
+    requires { ⌜ Framed (now schema) layout packed (now row)
+        × ((length (now marks) ≡ 256) × (layout .«num_columns» ≤ 32)) ⌝ }
+    ensures { λ r. ⌜ (r, now (out .exit))
+        ≡ handOut (now (out .entry))
+        (walkedRead layout packed (isMarked (now (marks .entry))) (now (row .entry)) noColumns
+        (typesIn (now (schema .entry)))) ⌝ }
 {
     let mut buf = [0; 576];
     let answer = decode_columns(schema, layout, packed, row, marks, &mut buf);
@@ -134,8 +145,12 @@ fn decode_long(
     marks: &[u8],
     out: &mut [u8],
 ) -> Answer
-    requires { ⌜ Framed (now schema) layout packed (now row) × ((length (now marks) ≡ 256) × (layout .«num_columns» ≤ 256)) ⌝ }
-    ensures { λ r. ⌜ (r, now (out .exit)) ≡ handOut (now (out .entry)) (walkedRead layout packed (isMarked (now (marks .entry))) (now (row .entry)) noColumns (typesIn (now (schema .entry)))) ⌝ }
+    requires { ⌜ Framed (now schema) layout packed (now row)
+        × ((length (now marks) ≡ 256) × (layout .«num_columns» ≤ 256)) ⌝ }
+    ensures { λ r. ⌜ (r, now (out .exit))
+        ≡ handOut (now (out .entry))
+        (walkedRead layout packed (isMarked (now (marks .entry))) (now (row .entry)) noColumns
+        (typesIn (now (schema .entry)))) ⌝ }
 {
     let mut buf = [0; 4608];
     let answer = decode_columns(schema, layout, packed, row, marks, &mut buf);
@@ -152,7 +167,10 @@ fn decode_values(
     out: &mut [u8],
 ) -> Answer
     requires { ⌜ Framed (now schema) layout packed (now row) ⌝ }
-    ensures { λ r. ⌜ (r, now (out .exit)) ≡ handOut (now (out .entry)) (walkedRead layout packed (isWanted (now (wanted .entry))) (now (row .entry)) noColumns (typesIn (now (schema .entry)))) ⌝ }
+    ensures { λ r. ⌜ (r, now (out .exit))
+        ≡ handOut (now (out .entry))
+        (walkedRead layout packed (isWanted (now (wanted .entry))) (now (row .entry)) noColumns
+        (typesIn (now (schema .entry)))) ⌝ }
 {
     let mut marks = [0; RowLayout::COLUMN_LIMIT];
     mark_wanted(&mut marks, wanted);
@@ -170,7 +188,9 @@ fn decode_row(
     out: &mut [u8],
 ) -> Answer
     requires { ⌜ Accepted (now schema) layout ⌝ }
-    ensures { λ r. ⌜ (r, now (out .exit)) ≡ readRow offsetWidth rowLimit (typesIn (now (schema .entry))) (now (row .entry)) (now (wanted .entry)) (now (out .entry)) ⌝ }
+    ensures { λ r. ⌜ (r, now (out .exit))
+        ≡ readRow offsetWidth rowLimit (typesIn (now (schema .entry))) (now (row .entry)) (now (wanted .entry))
+        (now (out .entry)) ⌝ }
 {
     match row_column::check_frame(layout, row) {
         Frame::Refused(e) => Answer::Refused(e),
@@ -178,9 +198,12 @@ fn decode_row(
     }
 }
 
-// The wanted columns of a row, by their numbers in any order; unknown numbers are ignored, and the other columns read as null.
+// The wanted columns of a row, by their numbers in any order; unknown numbers are ignored, and the other columns read
+// as null.
 pub fn decode(schema: &[u8], row: &[u8], wanted: &[u16], out: &mut [u8]) -> Answer
-    ensures { λ r. ⌜ (r, now (out .exit)) ≡ readCall offsetWidth rowLimit (now (schema .entry)) (now (row .entry)) (now (wanted .entry)) (now (out .entry)) ⌝ }
+    ensures { λ r. ⌜ (r, now (out .exit))
+        ≡ readCall offsetWidth rowLimit (now (schema .entry)) (now (row .entry)) (now (wanted .entry))
+        (now (out .entry)) ⌝ }
 {
     match datatype::check_schema(schema) {
         SchemaCheck::Refused(e) => Answer::Refused(e),

@@ -1,5 +1,5 @@
--- 01, "What each call hands back": Set: "1, 2, 14 (row length), 15, 9, 10 (exactly one record), 11, 12, 13, 14. Set null: 1, 2, 14, 15, 9." The row is the
--- first n bytes of the lent buffer.
+-- 01, "What each call hands back": Set: "1, 2, 14 (row length), 15, 9, 10 (exactly one record), 11, 12, 13, 14. Set
+-- null: 1, 2, 14, 15, 9." The row is the first n bytes of the lent buffer. FORMAT 8.4, 8.5.
 use Prim.Native.Nat.{ℕ}
 use mathlib.Core.Bool.{Bool, cond}
 use mathlib.Core.List.{List, map}
@@ -34,7 +34,8 @@ abbrev pub onSound : {A : Type 0} → Soundness → A → (Bool → A) → A
 onSound (Row.Sound p) bad k = k p
 onSound Row.NotSound bad k = bad
 
--- 14: "stated row length beyond the buffer"; 15; 9: whether the row in the first n bytes is packed, or why its column i is not edited
+-- 14: "stated row length beyond the buffer"; 15; 9: whether the row in the first n bytes is packed, or why its column
+-- i is not edited
 abbrev pub opening : ℕ → ℕ → List DataType → List ℕ → ℕ → ℕ → Frame
 opening w limit ts buf n i =
     cond (ltb (length buf) n) (Refused NoRoom)
@@ -57,11 +58,13 @@ rowStored buf r = (Done (length r), sets buf 0 r)
 
 -- 10, 11, 12: the stored form of the one value
 abbrev pub given : ℕ → DataType → ℕ → List ℕ → List ℕ → Result (List ℕ)
-given limit t i list area = onResult (checked limit 1 (length area) list) refused (λ vs. storedIn i t (getD vs 0 Null) area)
+given limit t i list area =
+    onResult (checked limit 1 (length area) list) refused (λ vs. storedIn i t (getD vs 0 Null) area)
 
 -- 13 and 14 for the row that is longer
 abbrev pub written : ℕ → ℕ → List DataType → Bool → List ℕ → ℕ → ℕ → Result (List ℕ) → Outcome
-written w limit ts p buf n i form = onResult form (unchanged buf) (λ b. rowPlaced limit buf (edited w ts p buf n i (some b)))
+written w limit ts p buf n i form =
+    onResult form (unchanged buf) (λ b. rowPlaced limit buf (edited w ts p buf n i (some b)))
 
 abbrev pub setCall : ℕ → ℕ → List ℕ → List ℕ → ℕ → ℕ → List ℕ → List ℕ → Outcome
 setCall w limit schema buf n i list area =

@@ -1,4 +1,5 @@
-// row.rs, `set_value` and `set_null`, on the row in the first bytes of a lent buffer. All tests come before the first store.
+// row.rs, `set_value` and `set_null`, on the row in the first bytes of a lent buffer. All tests come before the first
+// store.
 use datatype::SchemaCheck;
 use error::Answer;
 use error::Refusal;
@@ -38,7 +39,9 @@ struct Range {
 }
 
 fn range_at(layout: RowLayout, before: RowLayout, row: &[u8]) -> Range
-    requires { ⌜ Bounded layout × ((before .«num_varlen_cols» < layout .«num_varlen_cols») × (fixedStart offsetWidth (layout .«num_columns») (layout .«num_varlen_cols») ≤ length (now row))) ⌝ }
+    requires { ⌜ Bounded layout
+        × ((before .«num_varlen_cols» < layout .«num_varlen_cols»)
+        × (fixedStart offsetWidth (layout .«num_columns») (layout .«num_varlen_cols») ≤ length (now row))) ⌝ }
     ensures { λ r. ⌜ RangeAt layout before (now (row .entry)) (r .start) (r .end) ⌝ }
 {
     let table = layout.varlen_table_offset();
@@ -63,8 +66,13 @@ fn set_fixed(
     value: DataValue,
     area: &[u8],
 ) -> Answer
-    requires { ⌜ Opened (now schema) layout packed (now buf) n column × (Found (now schema) column found × ((isVarlen (found .ty) ≡ false) × Suited (found .ty) value (now area))) ⌝ }
-    ensures { λ r. ⌜ (r, now (buf .exit)) ≡ rowPlaced rowLimit (now (buf .entry)) (edited offsetWidth (typesIn (now (schema .entry))) packed (now (buf .entry)) n column (some (formOf (found .ty) value (now (area .entry))))) ⌝ }
+    requires { ⌜ Opened (now schema) layout packed (now buf) n column
+        × (Found (now schema) column found
+        × ((isVarlen (found .ty) ≡ false) × Suited (found .ty) value (now area))) ⌝ }
+    ensures { λ r. ⌜ (r, now (buf .exit))
+        ≡ rowPlaced rowLimit (now (buf .entry))
+        (edited offsetWidth (typesIn (now (schema .entry))) packed (now (buf .entry)) n column
+        (some (formOf (found .ty) value (now (area .entry))))) ⌝ }
 {
     let ty = found.ty;
     let before = found.before;
@@ -83,8 +91,13 @@ fn set_varlen(
     value: DataValue,
     area: &[u8],
 ) -> Answer
-    requires { ⌜ Opened (now schema) layout packed (now buf) n column × (Found (now schema) column found × ((isVarlen (found .ty) ≡ true) × Suited (found .ty) value (now area))) ⌝ }
-    ensures { λ r. ⌜ (r, now (buf .exit)) ≡ rowPlaced rowLimit (now (buf .entry)) (edited offsetWidth (typesIn (now (schema .entry))) packed (now (buf .entry)) n column (some (formOf (found .ty) value (now (area .entry))))) ⌝ }
+    requires { ⌜ Opened (now schema) layout packed (now buf) n column
+        × (Found (now schema) column found
+        × ((isVarlen (found .ty) ≡ true) × Suited (found .ty) value (now area))) ⌝ }
+    ensures { λ r. ⌜ (r, now (buf .exit))
+        ≡ rowPlaced rowLimit (now (buf .entry))
+        (edited offsetWidth (typesIn (now (schema .entry))) packed (now (buf .entry)) n column
+        (some (formOf (found .ty) value (now (area .entry))))) ⌝ }
 {
     let ty = found.ty;
     let before = found.before;
@@ -125,8 +138,12 @@ fn set_suited(
     value: DataValue,
     area: &[u8],
 ) -> Answer
-    requires { ⌜ Opened (now schema) layout packed (now buf) n column × (Found (now schema) column found × Suited (found .ty) value (now area)) ⌝ }
-    ensures { λ r. ⌜ (r, now (buf .exit)) ≡ rowPlaced rowLimit (now (buf .entry)) (edited offsetWidth (typesIn (now (schema .entry))) packed (now (buf .entry)) n column (some (formOf (found .ty) value (now (area .entry))))) ⌝ }
+    requires { ⌜ Opened (now schema) layout packed (now buf) n column
+        × (Found (now schema) column found × Suited (found .ty) value (now area)) ⌝ }
+    ensures { λ r. ⌜ (r, now (buf .exit))
+        ≡ rowPlaced rowLimit (now (buf .entry))
+        (edited offsetWidth (typesIn (now (schema .entry))) packed (now (buf .entry)) n column
+        (some (formOf (found .ty) value (now (area .entry))))) ⌝ }
 {
     let ty = found.ty;
     if ty.is_variable_length() {
@@ -147,7 +164,9 @@ fn set_column(
     area: &[u8],
 ) -> Answer
     requires { ⌜ Opened (now schema) layout packed (now buf) n column ⌝ }
-    ensures { λ r. ⌜ (r, now (buf .exit)) ≡ written offsetWidth rowLimit (typesIn (now (schema .entry))) packed (now (buf .entry)) n column (storedIn column (typeAt (typesIn (now (schema .entry))) column) value (now (area .entry))) ⌝ }
+    ensures { λ r. ⌜ (r, now (buf .exit))
+        ≡ written offsetWidth rowLimit (typesIn (now (schema .entry))) packed (now (buf .entry)) n column
+        (storedIn column (typeAt (typesIn (now (schema .entry))) column) value (now (area .entry))) ⌝ }
 {
     let found = row_column::column_at(schema, column);
     let ty = found.ty;
@@ -171,8 +190,12 @@ fn set_record(
     values: &[u8],
     area: &[u8],
 ) -> Answer
-    requires { ⌜ Opened (now schema) layout packed (now buf) n column × (answer (checked rowLimit 1 (length (now area)) (now values)) ≡ Good) ⌝ }
-    ensures { λ r. ⌜ (r, now (buf .exit)) ≡ written offsetWidth rowLimit (typesIn (now (schema .entry))) packed (now (buf .entry)) n column (given rowLimit (typeAt (typesIn (now (schema .entry))) column) column (now (values .entry)) (now (area .entry))) ⌝ }
+    requires { ⌜ Opened (now schema) layout packed (now buf) n column
+        × (answer (checked rowLimit 1 (length (now area)) (now values)) ≡ Good) ⌝ }
+    ensures { λ r. ⌜ (r, now (buf .exit))
+        ≡ written offsetWidth rowLimit (typesIn (now (schema .entry))) packed (now (buf .entry)) n column
+        (given rowLimit (typeAt (typesIn (now (schema .entry))) column) column (now (values .entry))
+        (now (area .entry))) ⌝ }
 {
     match value_list::value_record_at(values, 0) {
         ValueRecord::Refused(e) => Answer::Refused(e),
@@ -191,7 +214,10 @@ fn set_list(
     area: &[u8],
 ) -> Answer
     requires { ⌜ Opened (now schema) layout packed (now buf) n column ⌝ }
-    ensures { λ r. ⌜ (r, now (buf .exit)) ≡ written offsetWidth rowLimit (typesIn (now (schema .entry))) packed (now (buf .entry)) n column (given rowLimit (typeAt (typesIn (now (schema .entry))) column) column (now (values .entry)) (now (area .entry))) ⌝ }
+    ensures { λ r. ⌜ (r, now (buf .exit))
+        ≡ written offsetWidth rowLimit (typesIn (now (schema .entry))) packed (now (buf .entry)) n column
+        (given rowLimit (typeAt (typesIn (now (schema .entry))) column) column (now (values .entry))
+        (now (area .entry))) ⌝ }
 {
     match value_list::check_values(values, 1, area.len()) {
         ListCheck::Refused(e) => Answer::Refused(e),
@@ -208,7 +234,9 @@ fn null_column(
     column: usize,
 ) -> Answer
     requires { ⌜ Opened (now schema) layout packed (now buf) n column ⌝ }
-    ensures { λ r. ⌜ (r, now (buf .exit)) ≡ rowStored (now (buf .entry)) (edited offsetWidth (typesIn (now (schema .entry))) packed (now (buf .entry)) n column none) ⌝ }
+    ensures { λ r. ⌜ (r, now (buf .exit))
+        ≡ rowStored (now (buf .entry))
+        (edited offsetWidth (typesIn (now (schema .entry))) packed (now (buf .entry)) n column none) ⌝ }
 {
     let found = row_column::column_at(schema, column);
     let ty = found.ty;
@@ -260,9 +288,11 @@ pub fn set_checked(
 ) -> Answer
     requires { ⌜ Accepted (now schema) layout ⌝ }
     ensures { λ r. ⌜ (r, now (buf .exit))
-        ≡ onFrame (opening offsetWidth rowLimit (typesIn (now (schema .entry))) (now (buf .entry)) n column) (unchanged (now (buf .entry)))
+        ≡ onFrame (opening offsetWidth rowLimit (typesIn (now (schema .entry))) (now (buf .entry)) n column)
+        (unchanged (now (buf .entry)))
         (λ p. written offsetWidth rowLimit (typesIn (now (schema .entry))) p (now (buf .entry)) n column
-        (given rowLimit (typeAt (typesIn (now (schema .entry))) column) column (now (values .entry)) (now (area .entry)))) ⌝ }
+        (given rowLimit (typeAt (typesIn (now (schema .entry))) column) column (now (values .entry))
+        (now (area .entry)))) ⌝ }
 {
     match open_row(schema, layout, buf, n, column) {
         Frame::Refused(e) => Answer::Refused(e),
@@ -279,8 +309,10 @@ pub fn null_checked(
 ) -> Answer
     requires { ⌜ Accepted (now schema) layout ⌝ }
     ensures { λ r. ⌜ (r, now (buf .exit))
-        ≡ onFrame (opening offsetWidth rowLimit (typesIn (now (schema .entry))) (now (buf .entry)) n column) (unchanged (now (buf .entry)))
-        (λ p. rowStored (now (buf .entry)) (edited offsetWidth (typesIn (now (schema .entry))) p (now (buf .entry)) n column none)) ⌝ }
+        ≡ onFrame (opening offsetWidth rowLimit (typesIn (now (schema .entry))) (now (buf .entry)) n column)
+        (unchanged (now (buf .entry)))
+        (λ p. rowStored (now (buf .entry))
+        (edited offsetWidth (typesIn (now (schema .entry))) p (now (buf .entry)) n column none)) ⌝ }
 {
     match open_row(schema, layout, buf, n, column) {
         Frame::Refused(e) => Answer::Refused(e),
@@ -288,7 +320,8 @@ pub fn null_checked(
     }
 }
 
-// Column `column` of the row in the first `row_length` bytes set to the one value of the list. The answer has the row's new length.
+// Column `column` of the row in the first `row_length` bytes set to the one value of the list. The answer has the
+// row's new length.
 pub fn set_value(
     schema: &[u8],
     buf: &mut [u8],
@@ -297,7 +330,9 @@ pub fn set_value(
     values: &[u8],
     text: &[u8],
 ) -> Answer
-    ensures { λ r. ⌜ (r, now (buf .exit)) ≡ setCall offsetWidth rowLimit (now (schema .entry)) (now (buf .entry)) «row_length» column (now (values .entry)) (now (text .entry)) ⌝ }
+    ensures { λ r. ⌜ (r, now (buf .exit))
+        ≡ setCall offsetWidth rowLimit (now (schema .entry)) (now (buf .entry)) «row_length» column
+        (now (values .entry)) (now (text .entry)) ⌝ }
 {
     match datatype::check_schema(schema) {
         SchemaCheck::Refused(e) => Answer::Refused(e),
@@ -309,7 +344,8 @@ pub fn set_value(
 
 // The column set to null. The slot of a fixed column stays as it is.
 pub fn set_null(schema: &[u8], buf: &mut [u8], row_length: usize, column: usize) -> Answer
-    ensures { λ r. ⌜ (r, now (buf .exit)) ≡ setNullCall offsetWidth rowLimit (now (schema .entry)) (now (buf .entry)) «row_length» column ⌝ }
+    ensures { λ r. ⌜ (r, now (buf .exit))
+        ≡ setNullCall offsetWidth rowLimit (now (schema .entry)) (now (buf .entry)) «row_length» column ⌝ }
 {
     match datatype::check_schema(schema) {
         SchemaCheck::Refused(e) => Answer::Refused(e),

@@ -1,5 +1,6 @@
--- 01, "Histories of edits" and "Editing": a column of a row set to a cell. It goes by the bytes that stand in the row, so it is defined for any row,
--- packed or padded, whatever its spare bits, its padding and the slots of its null columns hold.
+-- 01, "Histories of edits" and "Editing": a column of a row set to a cell. It goes by the bytes that stand in the
+-- row, so it is defined for any row, packed or padded, whatever its spare bits, its padding and the slots of its null
+-- columns hold. FORMAT 8.4, 8.5, 8.6.
 use Prim.Native.Nat.{ℕ, zero, suc, _+_, _*_, _-_}
 use mathlib.Core.Bool.{Bool}
 use mathlib.Core.List.{List, _∷_, _++_, map}
@@ -15,13 +16,14 @@ use Rattle.row_format.specs.Row.{nullBit}
 
 -- ---- a Varchar
 
--- An offset behind a range that ended at e and ends at f now. 0 says null, so it stays: 01's wrong turn is "Moving every later offset after an edit, zeros
--- included".
+-- An offset behind a range that ended at e and ends at f now. 0 says null, so it stays: 01's wrong turn is "Moving
+-- every later offset after an edit, zeros included".
 abbrev pub movedBy : ℕ → ℕ → ℕ → ℕ
 movedBy e f zero = 0
 movedBy e f (suc o) = suc o + f - e
 
--- the offsets, where the range of rank k went from a to e and now holds the cell c: its own is a, or 0 for a null, and those of higher rank move
+-- the offsets, where the range of rank k went from a to e and now holds the cell c: its own is a, or 0 for a null,
+-- and those of higher rank move
 abbrev pub movedOffsets : ℕ → Cell → ℕ → ℕ → List ℕ → List ℕ
 movedOffsets k c a e os = take k os ++ (offset c a ∷ map (movedBy e (a + length (bytes c))) (drop (suc k) os))
 

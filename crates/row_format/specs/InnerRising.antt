@@ -23,7 +23,8 @@ abbrev pub heldCells : List ℕ → List ℕ → List Cell
 heldCells [] r = []
 heldCells (o ∷ os) r = heldAt o (firstOffset os (length r)) r ∷ heldCells os r
 
--- the range of rank k, in a row r with a table of v offsets at byte t whose payloads start at least: it lies between the payloads of lower and of higher rank
+-- the range of rank k, in a row r with a table of v offsets at byte t whose payloads start at least: it lies between
+-- the payloads of lower and of higher rank
 pub record Between (w t v k least : ℕ) (r : List ℕ) : Type 0 where
   pub past : least ≤ rangeStart w t v k r
   pub rises : rangeStart w t v k r ≤ rangeEnd w t v k r

@@ -1,4 +1,4 @@
--- 01, "Layout": where the parts of a row stand.
+-- 01, "Layout": where the parts of a row stand. FORMAT 3.1, 3.2, 3.3, 3.6.
 use Prim.Native.Nat.{ℕ, _+_, _*_, _-_, _/_}
 use mathlib.Core.Bool.{Bool, true, false}
 use mathlib.Core.List.{List, [], _∷_}
@@ -20,8 +20,8 @@ rankAfter Varlen k = k + 1
 abbrev pub roundUp : ℕ → ℕ → ℕ
 roundUp a at = (at + (a - 1)) / a * a
 
--- "Packed places fixed columns end to end. Padded [..] rounds each start up to its alignment, counted from the first fixed byte": where a column of
--- alignment a starts, packed or not, if the one before it ended at `at`
+-- "Packed places fixed columns end to end. Padded [..] rounds each start up to its alignment, counted from the first
+-- fixed byte": where a column of alignment a starts, packed or not, if the one before it ended at `at`
 abbrev pub startAt : Bool → ℕ → ℕ → ℕ
 startAt true a at = at
 startAt false a at = roundUp a at
@@ -56,8 +56,9 @@ offsetWidth = 2
 abbrev pub rowLimit : ℕ
 rowLimit = 65535
 
--- "Column count (2 bytes); Varchar count [..] (2); null bitmap, one bit a column [..]; offset table [..]; fixed columns; payloads": where the bitmap,
--- the table and the fixed columns start, for n columns of which v are Varchars, with offsets of w bytes
+-- "Column count (2 bytes); Varchar count [..] (2); null bitmap, one bit a column [..]; offset table [..]; fixed
+-- columns; payloads": where the bitmap, the table and the fixed columns start, for n columns of which v are Varchars,
+-- with offsets of w bytes
 abbrev pub bitmapStart : ℕ
 bitmapStart = 4
 

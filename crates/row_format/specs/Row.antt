@@ -1,4 +1,4 @@
--- 01, "Layout": a packed row of given cells.
+-- 01, "Layout": a packed row of given cells. FORMAT 3.1, 3.8.
 use Prim.Native.Nat.{ℕ, zero, suc, _+_, _*_}
 use mathlib.Core.List.{List, [], _∷_, _++_}
 use mathlib.Core.Option.{none, some}

@@ -1,4 +1,5 @@
 -- 01, "Layout": the cells of Varchars, their offsets and payloads, and the range of a Varchar.
+-- FORMAT 3.1, 3.2, 3.4, 3.5.
 use Prim.Native.Nat.{ℕ, zero, suc, _+_, _*_}
 use mathlib.Core.List.{List, [], _∷_, _++_}
 use mathlib.Core.Option.{Option, none, some}
@@ -18,7 +19,8 @@ abbrev pub payloads : List Cell → List ℕ
 payloads [] = []
 payloads (c ∷ cs) = bytes c ++ payloads cs
 
--- "Null Varchars have offset 0; an empty one has its own offset": the offsets of payloads of which the first stands at `at`
+-- "Null Varchars have offset 0; an empty one has its own offset": the offsets of payloads of which the first stands
+-- at `at`
 abbrev pub offset : Cell → ℕ → ℕ
 offset none at = 0
 offset (some b) at = at
@@ -27,15 +29,17 @@ abbrev pub offsets : ℕ → List Cell → List ℕ
 offsets at [] = []
 offsets at (c ∷ cs) = offset c at ∷ offsets (at + length (bytes c)) cs
 
--- A row whose header and bitmap are `front` and whose fixed columns are `region`: front, table, region, payloads. Any front and any region, so that what
--- is said of it holds of packed and padded rows, whatever their spare bits and the slots of null columns hold.
+-- A row whose header and bitmap are `front` and whose fixed columns are `region`: front, table, region, payloads. Any
+-- front and any region, so that what is said of it holds of packed and padded rows, whatever their spare bits and the
+-- slots of null columns hold.
 abbrev pub base : ℕ → List ℕ → List ℕ → List Cell → ℕ
 base w front region cs = length front + length cs * w + length region
 
 unfoldable pub lay : ℕ → List ℕ → List ℕ → List Cell → List ℕ
 lay w front region cs = front ++ (toTable w (offsets (base w front region cs) cs) ++ (region ++ payloads cs))
 
--- "A range ends at the next non-zero offset of a higher rank, else at the row's end": the first of xs that is not 0, else e
+-- "A range ends at the next non-zero offset of a higher rank, else at the row's end": the first of xs that is not 0,
+-- else e
 abbrev pub orElse : ℕ → ℕ → ℕ
 orElse zero e = e
 orElse (suc x) e = suc x

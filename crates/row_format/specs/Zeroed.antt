@@ -1,5 +1,5 @@
 -- Demand 3: a row "with the slots of null fixed columns set to zero". Which columns are null, the row's own bits say.
--- Packed rows.
+-- Packed rows. FORMAT 9.3.
 use Prim.Native.Nat.{ℕ, zero, suc, _+_, _≤_, _<_}
 use mathlib.Core.Bool.{true}
 use mathlib.Core.List.{List, [], _∷_, _++_}

@@ -1,5 +1,5 @@
 -- 01, "What must change shape": "a small row handle of length and layout is lent and changed by the set calls". What
--- such a call answers, what it leaves in the buffer, and what in the handle.
+-- such a call answers, what it leaves in the buffer, and what in the handle. FORMAT 8.7.
 use Prim.Native.Nat.{ℕ}
 use mathlib.Core.Bool.{Bool}
 use mathlib.Core.List.{List}

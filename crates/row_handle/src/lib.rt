@@ -1,6 +1,6 @@
-// row.rs, `&mut self` of `Row`: a handle of a row's length and layout. Here it goes in and comes back by value, with all the
-// branches; the two functions over a lent handle (rook_row) call these. The row is the buffer's first `length` bytes. The layout
-// that comes in is never read.
+// row.rs, `&mut self` of `Row`: a handle of a row's length and layout. Here it goes in and comes back by value, with
+// all the branches; the two functions over a lent handle (rook_row) call these. The row is the buffer's first
+// `length` bytes. The layout that comes in is never read.
 use datatype::SchemaCheck;
 use error::Answer;
 use row_layout::RowLayout;
@@ -86,7 +86,9 @@ pub fn with_value(
     values: &[u8],
     text: &[u8],
 ) -> Edited
-    ensures { λ r. ⌜ (r .answer, (now (buf .exit), r .handle)) ≡ handleSet offsetWidth rowLimit (now (schema .entry)) (now (buf .entry)) handle column (now (values .entry)) (now (text .entry)) ⌝ }
+    ensures { λ r. ⌜ (r .answer, (now (buf .exit), r .handle))
+        ≡ handleSet offsetWidth rowLimit (now (schema .entry)) (now (buf .entry)) handle column
+        (now (values .entry)) (now (text .entry)) ⌝ }
 {
     match datatype::check_schema(schema) {
         SchemaCheck::Refused(e) => Edited {
@@ -104,7 +106,8 @@ pub fn with_value(
 
 // The column set to null.
 pub fn with_null(schema: &[u8], buf: &mut [u8], handle: RowHandle, column: usize) -> Edited
-    ensures { λ r. ⌜ (r .answer, (now (buf .exit), r .handle)) ≡ handleSetNull offsetWidth rowLimit (now (schema .entry)) (now (buf .entry)) handle column ⌝ }
+    ensures { λ r. ⌜ (r .answer, (now (buf .exit), r .handle))
+        ≡ handleSetNull offsetWidth rowLimit (now (schema .entry)) (now (buf .entry)) handle column ⌝ }
 {
     match datatype::check_schema(schema) {
         SchemaCheck::Refused(e) => Edited {

@@ -1,4 +1,4 @@
--- `RowLayout` against the layout's definitions on a list of shapes.
+-- `RowLayout` against the layout's definitions on a list of shapes. FORMAT 3.3, 3.6.
 use Prim.Native.Nat.{ℕ}
 use mathlib.Core.Bool.{Bool, true, false}
 use mathlib.Core.List.{List}
@@ -9,7 +9,14 @@ use Rattle.row_layout.specs.declared.RowLayout.{RowLayout}
 
 -- the layout of a schema with columns of these shapes
 abbrev pub layoutOf : List Shape → RowLayout
-layoutOf ss = record { «num_columns» = length ss; «num_varlen_cols» = varlens ss; «packed_size» = fixedSize true ss; «padded_size» = fixedSize false ss }
+layoutOf ss =
+    record {
+      «num_columns» = length ss;
+      «num_varlen_cols» = varlens ss;
+      «packed_size» = fixedSize true ss;
+      «padded_size» =
+          fixedSize false ss;
+    }
 
 -- the bytes of the fixed columns, packed or padded
 abbrev pub sizeIn : RowLayout → Bool → ℕ

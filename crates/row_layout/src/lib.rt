@@ -25,7 +25,8 @@ pub fn round_up(at: usize, a: usize) -> usize
     }
 }
 
-// The geometry of the rows of a schema: how many columns, how many Varchars, and how many bytes the fixed columns take, packed and padded.
+// The geometry of the rows of a schema: how many columns, how many Varchars, and how many bytes the fixed columns
+// take, packed and padded.
 pub struct RowLayout {
     pub num_columns: usize,
     pub num_varlen_cols: usize,
@@ -148,7 +149,8 @@ pub fn range_end(row: &[u8], table: usize, varlens: usize, rank: usize) -> usize
     end
 }
 
-// The range of a Varchar: none for offset 0, and no part of the row for one that starts behind its end or ends behind the row's.
+// The range of a Varchar: none for offset 0, and no part of the row for one that starts behind its end or ends behind
+// the row's.
 pub enum VarlenRange {
     Null,
     Bytes(usize, usize),
@@ -157,7 +159,8 @@ pub enum VarlenRange {
 
 pub fn varlen_range(row: &[u8], table: usize, varlens: usize, rank: usize) -> VarlenRange
     requires { ⌜ (rank < varlens) × (table + varlens * offsetWidth ≤ length (now row)) ⌝ }
-    ensures { λ r. ⌜ (r ≡ varlenRange offsetWidth table varlens rank (now (row .entry))) × Inside (now (row .entry)) r ⌝ }
+    ensures { λ r. ⌜ (r ≡ varlenRange offsetWidth table varlens rank (now (row .entry)))
+        × Inside (now (row .entry)) r ⌝ }
 {
     let start = offset_at(row, table, rank);
     if start == 0 {

@@ -30,7 +30,8 @@ bitPut v i r = take bitmapStart r ++ putBitAt v i (drop bitmapStart r)
 abbrev pub columnSet : RowLayout → Bool → RowLayout → DataType → Span → Cell → List ℕ → List ℕ
 columnSet l p b t s c r =
     cond (isVarlen t)
-    (rangeEdit (offsetTable offsetWidth (tableStart (l .«num_columns»)) (l .«num_varlen_cols»)) (b .«num_varlen_cols») c s r)
+    (rangeEdit (offsetTable offsetWidth (tableStart (l .«num_columns»)) (l .«num_varlen_cols»)) (b .«num_varlen_cols»)
+    c s r)
     (slotEdit (walkedPlace l p b t) (sizeOf t) c r)
 
 -- and its bit
@@ -72,10 +73,12 @@ pub record RangeReady (t v k : ℕ) (x : Change) (buf : List ℕ) : Type 0 where
   pub behind : t + v * offsetWidth ≤ x .range .from
   pub short : lengthAfter x ≤ rowLimit
   pub higher : (j : ℕ) → k < j → j < v → (entryAt offsetWidth t j (take (x .row-length) buf) ≡ 0 → ⊥)
-      → (x .range .upTo ≤ entryAt offsetWidth t j (take (x .row-length) buf)) × (entryAt offsetWidth t j (take (x .row-length) buf) ≤ x .row-length)
+      → (x .range .upTo ≤ entryAt offsetWidth t j (take (x .row-length) buf))
+      × (entryAt offsetWidth t j (take (x .row-length) buf) ≤ x .row-length)
 
 -- a column of a row in the buffer, to be set to `size` bytes
 pub record Editable (l : RowLayout) (p : Bool) (b : RowLayout) (t : DataType) (x : Change) (buf : List ℕ) : Type 0 where
   pub reach : Reachable l p b t (take (x .row-length) buf)
   pub inside : x .row-length ≤ length buf
-  pub range : isVarlen t ≡ true → RangeReady (tableStart (l .«num_columns»)) (l .«num_varlen_cols») (b .«num_varlen_cols») x buf
+  pub range : isVarlen t ≡ true
+      → RangeReady (tableStart (l .«num_columns»)) (l .«num_varlen_cols») (b .«num_varlen_cols») x buf

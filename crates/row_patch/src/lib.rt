@@ -23,15 +23,19 @@ ghost use Rattle.row_patch.specs.InnerStores.{formOf, bitPut, columnSet,
 
 fn put_offset(row: &mut [u8], table: usize, rank: usize, offset: usize)
     requires { ⌜ (table + (rank + 1) * offsetWidth ≤ length (now row)) × (offset < 65536) ⌝ }
-    ensures { λ _. ⌜ now (row .exit) ≡ sets (now (row .entry)) (table + rank * offsetWidth) (toLe offsetWidth offset) ⌝ }
+    ensures { λ _. ⌜ now (row .exit)
+        ≡ sets (now (row .entry)) (table + rank * offsetWidth) (toLe offsetWidth offset) ⌝ }
 {
     endian::write_u16(row, table + rank * 2, offset as u16);
 }
 
 // An offset of 0 says null and stays.
 fn move_offset(row: &mut [u8], table: usize, rank: usize, end: usize, new_end: usize)
-    requires { ⌜ (table + (rank + 1) * offsetWidth ≤ length (now row)) × CanMove end «new_end» (entryAt offsetWidth table rank (now row)) ⌝ }
-    ensures { λ _. ⌜ now (row .exit) ≡ sets (now (row .entry)) (table + rank * offsetWidth) (toLe offsetWidth (movedBy end «new_end» (entryAt offsetWidth table rank (now (row .entry))))) ⌝ }
+    requires { ⌜ (table + (rank + 1) * offsetWidth ≤ length (now row))
+        × CanMove end «new_end» (entryAt offsetWidth table rank (now row)) ⌝ }
+    ensures { λ _. ⌜ now (row .exit)
+        ≡ sets (now (row .entry)) (table + rank * offsetWidth)
+        (toLe offsetWidth (movedBy end «new_end» (entryAt offsetWidth table rank (now (row .entry))))) ⌝ }
 {
     let o = row_layout::offset_at(row, table, rank);
     if o != 0 {
@@ -49,7 +53,8 @@ fn move_offsets(
     new_end: usize,
 )
     requires { ⌜ HigherMove offsetWidth table varlens rank end «new_end» (now row) ⌝ }
-    ensures { λ _. ⌜ now (row .exit) ≡ movedFrom offsetWidth table varlens (rank + 1) end «new_end» (now (row .entry)) ⌝ }
+    ensures { λ _. ⌜ now (row .exit)
+        ≡ movedFrom offsetWidth table varlens (rank + 1) end «new_end» (now (row .entry)) ⌝ }
 {
     let mut k = rank + 1;
     while k < varlens {
@@ -69,7 +74,8 @@ fn edit_table(
     new_end: usize,
 )
     requires { ⌜ HigherMove offsetWidth table varlens rank end «new_end» (now row) × (own < 65536) ⌝ }
-    ensures { λ _. ⌜ now (row .exit) ≡ tableEdit (offsetTable offsetWidth table varlens) rank own end «new_end» (now (row .entry)) ⌝ }
+    ensures { λ _. ⌜ now (row .exit)
+        ≡ tableEdit (offsetTable offsetWidth table varlens) rank own end «new_end» (now (row .entry)) ⌝ }
 {
     move_offsets(row, table, varlens, rank, end, new_end);
     put_offset(row, table, rank, own);
@@ -80,7 +86,8 @@ fn edit_table(
 // The tail of the row, which starts at `end`, starts `size` bytes behind `start` afterwards.
 fn move_tail(buf: &mut [u8], n: usize, start: usize, end: usize, size: usize)
     requires { ⌜ Replaceable (change n start end size) (now buf) ⌝ }
-    ensures { λ _. ⌜ now (buf .exit) ≡ sets (now (buf .entry)) (start + size) (take (n - end) (drop end (now (buf .entry)))) ⌝ }
+    ensures { λ _. ⌜ now (buf .exit)
+        ≡ sets (now (buf .entry)) (start + size) (take (n - end) (drop end (now (buf .entry)))) ⌝ }
 {
     endian::move_within(&mut buf[start..], end - start, size, n - end);
 }
@@ -96,8 +103,11 @@ fn replace(
     value: DataValue,
     area: &[u8],
 )
-    requires { ⌜ Replaceable (change n start end size) (now buf) × (Suited ty value (now area) × (length (formOf ty value (now area)) ≡ size)) ⌝ }
-    ensures { λ _. ⌜ now (buf .exit) ≡ held (now (buf .entry)) (splice start end (formOf ty value (now (area .entry))) (take n (now (buf .entry)))) ⌝ }
+    requires { ⌜ Replaceable (change n start end size) (now buf)
+        × (Suited ty value (now area) × (length (formOf ty value (now area)) ≡ size)) ⌝ }
+    ensures { λ _. ⌜ now (buf .exit)
+        ≡ held (now (buf .entry))
+        (splice start end (formOf ty value (now (area .entry))) (take n (now (buf .entry)))) ⌝ }
 {
     move_tail(buf, n, start, end, size);
     value_encode::to_bytes_for_type(&mut buf[start..], 0, ty, value, area);
@@ -125,8 +135,11 @@ fn store_varlen(
     value: DataValue,
     area: &[u8],
 ) -> usize
-    requires { ⌜ RangeReady table varlens rank (change n start end (rangeOf value .length)) (now buf) × (Suited ty value (now area) × (isVarlen ty ≡ true)) ⌝ }
-    ensures { λ r. ⌜ Holds (now (buf .entry)) (rangeEdit (offsetTable offsetWidth table varlens) rank (some (formOf ty value (now (area .entry)))) (span start end) (take n (now (buf .entry)))) (now (buf .exit)) r ⌝ }
+    requires { ⌜ RangeReady table varlens rank (change n start end (rangeOf value .length)) (now buf)
+        × (Suited ty value (now area) × (isVarlen ty ≡ true)) ⌝ }
+    ensures { λ r. ⌜ Holds (now (buf .entry))
+        (rangeEdit (offsetTable offsetWidth table varlens) rank (some (formOf ty value (now (area .entry))))
+        (span start end) (take n (now (buf .entry)))) (now (buf .exit)) r ⌝ }
 {
     let range = value.range();
     let size = range.length;
@@ -155,7 +168,9 @@ fn null_varlen(
     end: usize,
 ) -> usize
     requires { ⌜ RangeReady table varlens rank (change n start end 0) (now buf) ⌝ }
-    ensures { λ r. ⌜ Holds (now (buf .entry)) (rangeEdit (offsetTable offsetWidth table varlens) rank none (span start end) (take n (now (buf .entry)))) (now (buf .exit)) r ⌝ }
+    ensures { λ r. ⌜ Holds (now (buf .entry))
+        (rangeEdit (offsetTable offsetWidth table varlens) rank none (span start end) (take n (now (buf .entry))))
+        (now (buf .exit)) r ⌝ }
 {
     remove(buf, n, start, end);
     let m = start + (n - end);
@@ -165,8 +180,11 @@ fn null_varlen(
 
 // A fixed column's slot, at `at`, gets the value's stored form.
 fn store_fixed(buf: &mut [u8], n: usize, at: usize, ty: DataType, value: DataValue, area: &[u8])
-    requires { ⌜ Suited ty value (now area) × ((isVarlen ty ≡ false) × ((at + sizeOf ty ≤ n) × (n ≤ length (now buf)))) ⌝ }
-    ensures { λ _. ⌜ Holds (now (buf .entry)) (slotEdit at (sizeOf ty) (some (formOf ty value (now (area .entry)))) (take n (now (buf .entry)))) (now (buf .exit)) n ⌝ }
+    requires { ⌜ Suited ty value (now area)
+        × ((isVarlen ty ≡ false) × ((at + sizeOf ty ≤ n) × (n ≤ length (now buf)))) ⌝ }
+    ensures { λ _. ⌜ Holds (now (buf .entry))
+        (slotEdit at (sizeOf ty) (some (formOf ty value (now (area .entry)))) (take n (now (buf .entry))))
+        (now (buf .exit)) n ⌝ }
 {
     value_encode::to_bytes_for_type(buf, at, ty, value, area);
 }
@@ -186,7 +204,8 @@ fn put_bit(row: &mut [u8], columns: usize, column: usize, null: bool)
 
 // ---- a column and its bit
 
-// The column of type ty that comes after those of `before` gets the value. Start and end are those of a Varchar's range.
+// The column of type ty that comes after those of `before` gets the value. Start and end are those of a Varchar's
+// range.
 fn store_column(
     buf: &mut [u8],
     n: usize,
@@ -199,8 +218,11 @@ fn store_column(
     value: DataValue,
     area: &[u8],
 ) -> usize
-    requires { ⌜ Editable layout packed before ty (change n start end (rangeOf value .length)) (now buf) × Suited ty value (now area) ⌝ }
-    ensures { λ r. ⌜ Holds (now (buf .entry)) (columnSet layout packed before ty (span start end) (some (formOf ty value (now (area .entry)))) (take n (now (buf .entry)))) (now (buf .exit)) r ⌝ }
+    requires { ⌜ Editable layout packed before ty (change n start end (rangeOf value .length)) (now buf)
+        × Suited ty value (now area) ⌝ }
+    ensures { λ r. ⌜ Holds (now (buf .entry))
+        (columnSet layout packed before ty (span start end) (some (formOf ty value (now (area .entry))))
+        (take n (now (buf .entry)))) (now (buf .exit)) r ⌝ }
 {
     if ty.is_variable_length() {
         let table = layout.varlen_table_offset();
@@ -225,7 +247,9 @@ fn store_null(
     end: usize,
 ) -> usize
     requires { ⌜ Editable layout packed before ty (change n start end 0) (now buf) ⌝ }
-    ensures { λ r. ⌜ Holds (now (buf .entry)) (columnSet layout packed before ty (span start end) none (take n (now (buf .entry)))) (now (buf .exit)) r ⌝ }
+    ensures { λ r. ⌜ Holds (now (buf .entry))
+        (columnSet layout packed before ty (span start end) none (take n (now (buf .entry)))) (now (buf .exit))
+        r ⌝ }
 {
     if ty.is_variable_length() {
         let table = layout.varlen_table_offset();
@@ -249,8 +273,11 @@ pub fn write_value(
     value: DataValue,
     area: &[u8],
 ) -> usize
-    requires { ⌜ Editable layout packed before ty (change n start end (rangeOf value .length)) (now buf) × Suited ty value (now area) ⌝ }
-    ensures { λ r. ⌜ Holds (now (buf .entry)) (rowSet layout packed before ty (span start end) (some (formOf ty value (now (area .entry)))) (take n (now (buf .entry)))) (now (buf .exit)) r ⌝ }
+    requires { ⌜ Editable layout packed before ty (change n start end (rangeOf value .length)) (now buf)
+        × Suited ty value (now area) ⌝ }
+    ensures { λ r. ⌜ Holds (now (buf .entry))
+        (rowSet layout packed before ty (span start end) (some (formOf ty value (now (area .entry))))
+        (take n (now (buf .entry)))) (now (buf .exit)) r ⌝ }
 {
     let m = store_column(buf, n, layout, packed, before, ty, start, end, value, area);
     put_bit(&mut buf[..m], layout.num_columns, before.num_columns, false);
@@ -268,7 +295,8 @@ pub fn write_null(
     end: usize,
 ) -> usize
     requires { ⌜ Editable layout packed before ty (change n start end 0) (now buf) ⌝ }
-    ensures { λ r. ⌜ Holds (now (buf .entry)) (rowSet layout packed before ty (span start end) none (take n (now (buf .entry)))) (now (buf .exit)) r ⌝ }
+    ensures { λ r. ⌜ Holds (now (buf .entry))
+        (rowSet layout packed before ty (span start end) none (take n (now (buf .entry)))) (now (buf .exit)) r ⌝ }
 {
     let m = store_null(buf, n, layout, packed, before, ty, start, end);
     put_bit(&mut buf[..m], layout.num_columns, before.num_columns, true);

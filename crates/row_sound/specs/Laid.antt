@@ -1,5 +1,5 @@
 -- A row that is laid out of parts: a header, a bitmap, the bytes of the fixed columns, and the cells of the
--- Varchars. What a column of it holds, reads as, and whether it is sound.
+-- Varchars. What a column of it holds, reads as, and whether it is sound. FORMAT 3.1, 3.3.
 use Prim.Native.Nat.{ℕ, _+_, _^_, _<_}
 use mathlib.Core.Bool.{Bool, true, false, cond}
 use mathlib.Core.List.{List, _++_, map}

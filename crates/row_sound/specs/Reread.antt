@@ -1,4 +1,5 @@
--- 01, "Editing" and "Histories of edits": a column that was set reads as its new value, every other as before; texts move, so they are compared by their bytes.
+-- 01, "Editing" and "Histories of edits": a column that was set reads as its new value, every other as before; texts
+-- move, so they are compared by their bytes. FORMAT 8.4, 8.5.
 use Prim.Native.Nat.{ℕ, zero, suc, _+_, _<_}
 use mathlib.Core.Bool.{Bool, cond}
 use mathlib.Core.List.{List, [], map}
@@ -32,7 +33,8 @@ content r (Refused e) = (Refused e, [])
 abbrev pub columnContent : ℕ → Bool → List DataType → ℕ → List ℕ → Content
 columnContent w p ts j r = content r (columnValue w p ts j r)
 
--- ---- what is put into a column: null, or a value whose text is x. It is stored, so a Char has its blanks and a Bit no spare bits.
+-- ---- what is put into a column: null, or a value whose text is x. It is stored, so a Char has its blanks and a Bit
+-- no spare bits.
 
 abbrev pub nullContent : Content
 nullContent = (Value Null, [])
@@ -59,7 +61,8 @@ payloadBytes w p ts r (suc n) = payloadBytes w p ts r n + length (payloadOf w p 
 abbrev pub lengthIn : ℕ → Bool → List DataType → List ℕ → ℕ
 lengthIn w p ts r = minimum w p (map shapeOf ts) + payloadBytes w p ts r (length ts)
 
--- ---- a row r, and what an edit of its column i leaves: the new content in that column, what was there before in every other
+-- ---- a row r, and what an edit of its column i leaves: the new content in that column, what was there before in
+-- every other
 
 pub record Reread (w : ℕ) (p : Bool) (ts : List DataType) (i : ℕ) (given : Content) (r after : List ℕ) : Type 0 where
   pub own : columnContent w p ts i after ≡ given

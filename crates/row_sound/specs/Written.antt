@@ -1,4 +1,5 @@
 -- What an accepted value puts into a column: null, or the stored form of a value that matches the type and suits it.
+-- FORMAT 8.4, 8.5.
 use Prim.Native.Nat.{ℕ}
 use mathlib.Core.Bool.{true}
 use mathlib.Core.List.{List}
@@ -15,4 +16,5 @@ use Rattle.stored_form.specs.Write.{accepted, storedForm}
 -- the numbers of a value that comes from a list fit their kind (`Sized`)
 pub data Writes (t : DataType) : Cell → Type 0 where
   null : Writes t none
-  form : (v : DataValue) (area : List ℕ) → matches t v ≡ true → accepted t v area ≡ true → Sized v → Writes t (some (storedForm t v (textOf area v)))
+  form : (v : DataValue) (area : List ℕ) → matches t v ≡ true → accepted t v area ≡ true → Sized v
+      → Writes t (some (storedForm t v (textOf area v)))

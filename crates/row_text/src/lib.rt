@@ -49,8 +49,10 @@ fn text_in_row(
     column: usize,
     found: row_column::Column,
 ) -> ColumnText
-    requires { ⌜ Accepted (now schema) layout × ((column < length (typesIn (now schema))) × Found (now schema) column found) ⌝ }
-    ensures { λ r. ⌜ (r ≡ textInRow offsetWidth rowLimit (typesIn (now (schema .entry))) (now (row .entry)) column) × PartIn (length (now (row .entry))) r ⌝ }
+    requires { ⌜ Accepted (now schema) layout
+        × ((column < length (typesIn (now schema))) × Found (now schema) column found) ⌝ }
+    ensures { λ r. ⌜ (r ≡ textInRow offsetWidth rowLimit (typesIn (now (schema .entry))) (now (row .entry)) column)
+        × PartIn (length (now (row .entry))) r ⌝ }
 {
     match row_column::check_frame(layout, row) {
         Frame::Refused(e) => ColumnText::Refused(e),
@@ -64,7 +66,8 @@ fn text_in_row(
 
 fn text_of_column(schema: &[u8], layout: RowLayout, row: &[u8], column: usize) -> ColumnText
     requires { ⌜ Accepted (now schema) layout ⌝ }
-    ensures { λ r. ⌜ (r ≡ textOfColumn offsetWidth rowLimit (typesIn (now (schema .entry))) (now (row .entry)) column) × PartIn (length (now (row .entry))) r ⌝ }
+    ensures { λ r. ⌜ (r ≡ textOfColumn offsetWidth rowLimit (typesIn (now (schema .entry))) (now (row .entry)) column)
+        × PartIn (length (now (row .entry))) r ⌝ }
 {
     if layout.num_columns <= column {
         return ColumnText::Refused(Refusal::NoSuchColumn);
@@ -79,7 +82,8 @@ fn text_of_column(schema: &[u8], layout: RowLayout, row: &[u8], column: usize) -
 
 // Where the text of a column stands in the row, or why there is none.
 pub fn column_text(schema: &[u8], row: &[u8], column: usize) -> ColumnText
-    ensures { λ r. ⌜ (r ≡ textCall offsetWidth rowLimit (now (schema .entry)) (now (row .entry)) column) × PartIn (length (now (row .entry))) r ⌝ }
+    ensures { λ r. ⌜ (r ≡ textCall offsetWidth rowLimit (now (schema .entry)) (now (row .entry)) column)
+        × PartIn (length (now (row .entry))) r ⌝ }
 {
     match datatype::check_schema(schema) {
         SchemaCheck::Refused(e) => ColumnText::Refused(e),
@@ -89,7 +93,9 @@ pub fn column_text(schema: &[u8], row: &[u8], column: usize) -> ColumnText
 
 // The text of a column: empty for a null or a refusal, which `column_text` tells apart.
 pub fn text<'s, 'r>(schema: &'s [u8], row: &'r [u8], column: usize) -> &'r [u8]
-    ensures { λ r. ⌜ now r ≡ textPart (now (row .entry)) (textCall offsetWidth rowLimit (now (schema .entry)) (now (row .entry)) column) ⌝ }
+    ensures { λ r. ⌜ now r
+        ≡ textPart (now (row .entry))
+        (textCall offsetWidth rowLimit (now (schema .entry)) (now (row .entry)) column) ⌝ }
 {
     match column_text(schema, row, column) {
         ColumnText::Refused(_) => &row[0..0],

@@ -1,5 +1,5 @@
-// A column's bytes written as a value record, by kinds and without a value in between. `from_bytes` and then `write_value_record` do the same,
-// but pass the value through memory.
+// A column's bytes written as a value record, by kinds and without a value in between. `from_bytes` and then
+// `write_value_record` do the same, but pass the value through memory.
 use datatype::schema_kinds;
 use error::Answer;
 use error::Refusal;
@@ -17,7 +17,8 @@ ghost use Rattle.slot_record.specs.InnerRecord.{recorded};
 
 fn bool_record(bytes: &[u8], out: &mut [u8], at: usize) -> Answer
     requires { ⌜ (length (now bytes) ≡ 1) × (at + 18 ≤ length (now out)) ⌝ }
-    ensures { λ r. ⌜ (r, now (out .exit)) ≡ recorded (now (out .entry)) at 0 (readSlot BoolType 0 (now (bytes .entry))) ⌝ }
+    ensures { λ r. ⌜ (r, now (out .exit))
+        ≡ recorded (now (out .entry)) at 0 (readSlot BoolType 0 (now (bytes .entry))) ⌝ }
 {
     if bytes[0] == 0 {
         return Answer::Done(record_encode::write_8(out, at, value_kinds::BOOL, 0));
@@ -27,7 +28,8 @@ fn bool_record(bytes: &[u8], out: &mut [u8], at: usize) -> Answer
 
 fn date_record(i: usize, bytes: &[u8], out: &mut [u8], at: usize) -> Answer
     requires { ⌜ (length (now bytes) ≡ 4) × (at + 18 ≤ length (now out)) ⌝ }
-    ensures { λ r. ⌜ (r, now (out .exit)) ≡ recorded (now (out .entry)) at i (readSlot DateType 0 (now (bytes .entry))) ⌝ }
+    ensures { λ r. ⌜ (r, now (out .exit))
+        ≡ recorded (now (out .entry)) at i (readSlot DateType 0 (now (bytes .entry))) ⌝ }
 {
     let days = endian::read_i32(bytes, 0);
     if temporal::is_date(days) {
@@ -43,7 +45,8 @@ fn date_record(i: usize, bytes: &[u8], out: &mut [u8], at: usize) -> Answer
 
 fn time_record(i: usize, bytes: &[u8], out: &mut [u8], at: usize) -> Answer
     requires { ⌜ (length (now bytes) ≡ 8) × (at + 18 ≤ length (now out)) ⌝ }
-    ensures { λ r. ⌜ (r, now (out .exit)) ≡ recorded (now (out .entry)) at i (readSlot TimeType 0 (now (bytes .entry))) ⌝ }
+    ensures { λ r. ⌜ (r, now (out .exit))
+        ≡ recorded (now (out .entry)) at i (readSlot TimeType 0 (now (bytes .entry))) ⌝ }
 {
     match temporal::time_of(endian::read_i64(bytes, 0)) {
         TimeOfDay::Micros(micros) => Answer::Done(record_encode::write_64(
@@ -58,7 +61,8 @@ fn time_record(i: usize, bytes: &[u8], out: &mut [u8], at: usize) -> Answer
 
 fn timestamp_record(i: usize, bytes: &[u8], out: &mut [u8], at: usize) -> Answer
     requires { ⌜ (length (now bytes) ≡ 8) × (at + 18 ≤ length (now out)) ⌝ }
-    ensures { λ r. ⌜ (r, now (out .exit)) ≡ recorded (now (out .entry)) at i (readSlot TimestampType 0 (now (bytes .entry))) ⌝ }
+    ensures { λ r. ⌜ (r, now (out .exit))
+        ≡ recorded (now (out .entry)) at i (readSlot TimestampType 0 (now (bytes .entry))) ⌝ }
 {
     let micros = endian::read_i64(bytes, 0);
     if temporal::is_timestamp(micros) {
@@ -74,8 +78,11 @@ fn timestamp_record(i: usize, bytes: &[u8], out: &mut [u8], at: usize) -> Answer
 
 // A column of a kind without a body, wherever its bytes stand. The numbers have one kind as types and as values.
 pub fn plain_record(kind: u8, i: usize, bytes: &[u8], out: &mut [u8], at: usize) -> Answer
-    requires { ⌜ (plainSize (columnKind kind) ≡ 0 → ⊥) × ((length (now bytes) ≡ plainSize (columnKind kind)) × (at + 18 ≤ length (now out))) ⌝ }
-    ensures { λ r. ⌜ ((start : ℕ) → (r, now (out .exit)) ≡ recorded (now (out .entry)) at i (readSlot (plainType (columnKind kind)) start (now (bytes .entry)))) ⌝ }
+    requires { ⌜ (plainSize (columnKind kind) ≡ 0 → ⊥)
+        × ((length (now bytes) ≡ plainSize (columnKind kind)) × (at + 18 ≤ length (now out))) ⌝ }
+    ensures { λ r. ⌜ ((start : ℕ) → (r, now (out .exit))
+        ≡ recorded (now (out .entry)) at i
+        (readSlot (plainType (columnKind kind)) start (now (bytes .entry)))) ⌝ }
 {
     match kind {
         schema_kinds::SMALL_INT => Answer::Done(record_encode::write_16(
@@ -124,8 +131,11 @@ pub fn char_record(
     out: &mut [u8],
     at: usize,
 ) -> Answer
-    requires { ⌜ (start ≤ end) × ((end ≤ length (now row)) × ((length (now row) ≤ 65535) × (at + 18 ≤ length (now out)))) ⌝ }
-    ensures { λ r. ⌜ (r, now (out .exit)) ≡ recorded (now (out .entry)) at i (readSlot (CharType 0) start (take (end - start) (drop start (now (row .entry))))) ⌝ }
+    requires { ⌜ (start ≤ end)
+        × ((end ≤ length (now row)) × ((length (now row) ≤ 65535) × (at + 18 ≤ length (now out)))) ⌝ }
+    ensures { λ r. ⌜ (r, now (out .exit))
+        ≡ recorded (now (out .entry)) at i
+        (readSlot (CharType 0) start (take (end - start) (drop start (now (row .entry))))) ⌝ }
 {
     if text::is_valid(&row[start..end]) {
         let length = end - start;
@@ -149,8 +159,11 @@ pub fn varchar_record(
     out: &mut [u8],
     at: usize,
 ) -> Answer
-    requires { ⌜ (start ≤ end) × ((end ≤ length (now row)) × ((length (now row) ≤ 65535) × (at + 18 ≤ length (now out)))) ⌝ }
-    ensures { λ r. ⌜ (r, now (out .exit)) ≡ recorded (now (out .entry)) at i (readSlot (VarcharType n) start (take (end - start) (drop start (now (row .entry))))) ⌝ }
+    requires { ⌜ (start ≤ end)
+        × ((end ≤ length (now row)) × ((length (now row) ≤ 65535) × (at + 18 ≤ length (now out)))) ⌝ }
+    ensures { λ r. ⌜ (r, now (out .exit))
+        ≡ recorded (now (out .entry)) at i
+        (readSlot (VarcharType n) start (take (end - start) (drop start (now (row .entry))))) ⌝ }
 {
     let length = end - start;
     if n < length {

@@ -1,4 +1,5 @@
--- 01, "Stored forms": "Reading follows `from_bytes`". What a column's bytes, which stand at `start` of a row, read as: the text area of the value is the row.
+-- 01, "Stored forms": "Reading follows `from_bytes`". What a column's bytes, which stand at `start` of a row, read
+-- as: the text area of the value is the row. FORMAT 5.2.
 use Prim.Native.Nat.{ℕ}
 use mathlib.Core.Bool.{Bool, cond}
 use mathlib.Core.List.{List}
@@ -30,9 +31,11 @@ use Rattle.stored_form.specs.Number.{numericOf}
 abbrev pub valueIf : Bool → DataValue → SlotRead
 valueIf t v = cond t (Value v) NoValue
 
--- "Precision 32 and 33 fill 17 bytes: where the digits or the sign fail, the slot is read as 16 bytes of two's complement and a scale byte"
+-- "Precision 32 and 33 fill 17 bytes: where the digits or the sign fail, the slot is read as 16 bytes of two's
+-- complement and a scale byte"
 abbrev pub twosComplement : List ℕ → NumericValue
-twosComplement bs = record { high = toZ w64 (fromLe (take 8 (drop 8 bs))); low = fromLe (take 8 bs); scale = getD bs 16 0 }
+twosComplement bs =
+    record { high = toZ w64 (fromLe (take 8 (drop 8 bs))); low = fromLe (take 8 bs); scale = getD bs 16 0 }
 
 abbrev pub decoded : ℕ → List ℕ → Decoded → SlotRead
 decoded s bs (Bcd.Value negative high low) = Value (D.Numeric (numericOf negative (halves high low) s))

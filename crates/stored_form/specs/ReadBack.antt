@@ -1,4 +1,5 @@
--- What a stored value reads back as: itself; a text is the slot's range, a Char with its blanks, a Bit with its spare bits cleared.
+-- What a stored value reads back as: itself; a text is the slot's range, a Char with its blanks, a Bit with its spare
+-- bits cleared. FORMAT 5.2.
 use Prim.Native.Nat.{ℕ}
 use mathlib.Core.Bool.{Bool, _||_}
 use mathlib.Core.List.{List}

@@ -1,4 +1,5 @@
 -- 01, "Stored forms": which values a type holds, and the bytes of each. x is the value's text, or its packed bits.
+-- FORMAT 5.1.
 use Prim.Native.Nat.{ℕ, _-_, _^_}
 use mathlib.Core.Bool.{Bool, true, false, cond}
 use mathlib.Core.List.{List, [], _∷_, _++_}
@@ -47,7 +48,8 @@ suits t (D.Timestamp z) x = isTimestamp z
 abbrev pub accepted : DataType → DataValue → List ℕ → Bool
 accepted t v area = cond (inArea (length area) (rangeOf v)) (suits t v (textOf area v)) false
 
--- "Integers and floats: their bits." "Bool and Time: the value's body." "Char: blanks up to n. Varchar: the text's bytes." "Bit: .. spare bits .. zero when written"
+-- "Integers and floats: their bits." "Bool and Time: the value's body." "Char: blanks up to n. Varchar: the text's
+-- bytes." "Bit: .. spare bits .. zero when written"
 abbrev pub storedForm : DataType → DataValue → List ℕ → List ℕ
 storedForm t D.Null x = []
 storedForm t (D.SmallInt z) x = toLe 2 (ofZ w16 z)

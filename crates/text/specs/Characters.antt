@@ -1,5 +1,5 @@
 -- RFC 3629, section 4: "UTF8-octets = *( UTF8-char )" as characters end to end. That their number is `codePoints` is
--- proved in proofs/Characters.antt.
+-- proved in proofs/Characters.antt. FORMAT 5.3.
 use Prim.Native.Nat.{ℕ, suc}
 use mathlib.Core.Path.{_≡_}
 use mathlib.Core.Bool.{Bool, true, false, _&&_, _||_}

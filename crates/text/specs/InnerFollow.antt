@@ -1,4 +1,5 @@
--- The test that the functions of the crate make of each byte. That text is the bytes that pass it is proved in proofs/Bytes.antt.
+-- The test that the functions of the crate make of each byte. That text is the bytes that pass it is proved in
+-- proofs/Bytes.antt.
 use Prim.Native.Nat.{ℕ, _+_, _≤_}
 use mathlib.Core.Bool.{Bool, cond, not, _&&_, _||_}
 use mathlib.Core.List.{List, _∷_}

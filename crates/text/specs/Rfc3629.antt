@@ -1,4 +1,4 @@
--- RFC 3629, section 4: which bytes are text, and how many code points the text has. A byte is a number.
+-- RFC 3629, section 4: which bytes are text, and how many code points the text has. A byte is a number. FORMAT 5.3.
 use Prim.Native.Nat.{ℕ, suc}
 use mathlib.Core.Bool.{Bool, true, false, cond, _&&_}
 use mathlib.Core.List.{List, [], _∷_, _++_}
@@ -61,15 +61,16 @@ abbrev pub orNext : Option ℕ → Option ℕ → Option ℕ
 orNext none y = y
 orNext (some n) y = some n
 
--- A character that begins with the byte b, in the first of the forms that gives a number: b lies in the form's first range,
--- and `go` counts the characters that begin after b, where a byte in each of the form's other ranges is to come first.
+-- A character that begins with the byte b, in the first of the forms that gives a number: b lies in the form's first
+-- range, and `go` counts the characters that begin after b, where a byte in each of the form's other ranges is to
+-- come first.
 abbrev pub begin : List Form → ℕ → (List Range → Option ℕ) → Option ℕ
 begin [] b go = none
 begin ([] ∷ forms) b go = begin forms b go
 begin ((r ∷ rest) ∷ forms) b go = orNext (cond (within r b) (more (go rest)) none) (begin forms b go)
 
--- UTF8-octets = *( UTF8-char ): the number of characters that begin in s, where a byte in each of the given ranges is to
--- come first, the rest of a character that began before s
+-- UTF8-octets = *( UTF8-char ): the number of characters that begin in s, where a byte in each of the given ranges is
+-- to come first, the rest of a character that began before s
 unfoldable pub octets : List ℕ → List Range → Option ℕ
 octets [] [] = some 0
 octets [] (r ∷ rest) = none

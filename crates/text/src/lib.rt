@@ -1,9 +1,10 @@
 // Whether bytes are UTF-8 text, as RFC 3629 defines it.
 //
-// The test is whether each byte may follow the three before it, with zero bytes before the first byte and after the last.
-// It looks at these four bytes alone. So a block of bytes is tested without a branch, which the compiler turns into vector
-// instructions, and a block may overlap another, so that no bytes are left over for a loop of their own. Blocks have 16
-// bytes, as a vector has, or 112, which with the 16 bytes before them are 128. ASCII is looked for first.
+// The test is whether each byte may follow the three before it, with zero bytes before the first byte and after the
+// last. It looks at these four bytes alone. So a block of bytes is tested without a branch, which the compiler turns
+// into vector instructions, and a block may overlap another, so that no bytes are left over for a loop of their own.
+// Blocks have 16 bytes, as a vector has, or 112, which with the 16 bytes before them are 128. ASCII is looked for
+// first.
 ghost use mathlib.Core.Path.{_≡_};
 ghost use mathlib.Core.Bool.{true, cond};
 ghost use mathlib.Core.Logic.{_↔_};
@@ -50,8 +51,8 @@ fn short_valid(s: &[u8]) -> bool
     all_follow(&copy, 0, 16)
 }
 
-// The answer for a text whose first `checked` bytes pass the test. The last block ends where the text does; a text of fewer
-// than 19 bytes has no such block with three bytes before it.
+// The answer for a text whose first `checked` bytes pass the test. The last block ends where the text does; a text of
+// fewer than 19 bytes has no such block with three bytes before it.
 fn rest_valid(s: &[u8], checked: usize) -> bool
     requires { ⌜ Checked (now s) checked ⌝ }
     ensures { λ r. ⌜ r ≡ isText (now (s .entry)) ⌝ }
@@ -70,7 +71,8 @@ fn rest_valid(s: &[u8], checked: usize) -> bool
     all_follow(s, n - 19, 16) & may_end(s)
 }
 
-// A number of first bytes that pass the test: blocks of 112 up to one that fails, and all bytes where the last 128 are ASCII.
+// A number of first bytes that pass the test: blocks of 112 up to one that fails, and all bytes where the last 128
+// are ASCII.
 fn wide_blocks(s: &[u8]) -> usize
     requires { ⌜ (128 ≤ length (now s)) × Checked (now s) 16 ⌝ }
     ensures { λ r. ⌜ Checked (now (s .entry)) r ⌝ }
@@ -198,8 +200,8 @@ fn may_end(s: &[u8]) -> bool
     may_follow(s[n - 3], s[n - 2], s[n - 1], 0)
 }
 
-// Whether d may follow a, b and c: a tail where a character goes on, else the first byte of a character. After 0xE0 come
-// 0xA0 to 0xBF, after 0xED 0x80 to 0x9F, after 0xF0 0x90 to 0xBF, after 0xF4 0x80 to 0x8F.
+// Whether d may follow a, b and c: a tail where a character goes on, else the first byte of a character. After 0xE0
+// come 0xA0 to 0xBF, after 0xED 0x80 to 0x9F, after 0xF0 0x90 to 0xBF, after 0xF4 0x80 to 0x8F.
 fn may_follow(a: u8, b: u8, c: u8, d: u8) -> bool
     ensures { λ r. ⌜ r ≡ follows a b c d ⌝ }
 {

@@ -1,4 +1,4 @@
--- 01, "Schema and value bytes": "Value kinds", and `data_value_matches_type`.
+-- 01, "Schema and value bytes": "Value kinds", and `data_value_matches_type`. FORMAT 4.1, 4.4.
 use Prim.Native.Nat.{ℕ}
 use mathlib.Core.Bool.{Bool}
 use lib.Dec.{eqb}

@@ -1,4 +1,5 @@
-// value.rs, `from_bytes`: what a column's bytes read as. They stand at `start` of a row, which is the value's text area.
+// value.rs, `from_bytes`: what a column's bytes read as. They stand at `start` of a row, which is the value's text
+// area.
 use datatype::DataType;
 use numeric::Decoded;
 use stored_form::SlotRead;
@@ -67,7 +68,8 @@ fn numeric_from(negative: bool, high: u64, low: u64, scale: u8) -> NumericValue
 
 // 17 bytes that are no digits: 16 of two's complement, and a scale.
 fn from_twos_complement(bytes: &[u8]) -> SlotRead
-    ensures { λ r. ⌜ r ≡ valueIf (eqb (length (now (bytes .entry))) 17) (NumericNumber (twosComplement (now (bytes .entry)))) ⌝ }
+    ensures { λ r. ⌜ r
+        ≡ valueIf (eqb (length (now (bytes .entry))) 17) (NumericNumber (twosComplement (now (bytes .entry)))) ⌝ }
 {
     if bytes.len() == 17 {
         let low = endian::read_u64(bytes, 0);
@@ -111,7 +113,9 @@ fn read_char(bytes: &[u8], start: usize) -> SlotRead
 }
 
 fn read_varchar(bytes: &[u8], start: usize, n: usize) -> SlotRead
-    ensures { λ r. ⌜ r ≡ cond (ltb n (length (now (bytes .entry)))) NoValue (valueIf (isText (now (bytes .entry))) (VarcharValue (whole start (now (bytes .entry))))) ⌝ }
+    ensures { λ r. ⌜ r
+        ≡ cond (ltb n (length (now (bytes .entry)))) NoValue
+        (valueIf (isText (now (bytes .entry))) (VarcharValue (whole start (now (bytes .entry))))) ⌝ }
 {
     let length = bytes.len();
     if n < length {
@@ -125,7 +129,9 @@ fn read_varchar(bytes: &[u8], start: usize, n: usize) -> SlotRead
 
 fn read_date(bytes: &[u8]) -> SlotRead
     requires { ⌜ length (now bytes) ≡ 4 ⌝ }
-    ensures { λ r. ⌜ r ≡ valueIf (isDate (toZ w32 (fromLe (now (bytes .entry))))) (DateValue (toZ w32 (fromLe (now (bytes .entry))))) ⌝ }
+    ensures { λ r. ⌜ r
+        ≡ valueIf (isDate (toZ w32 (fromLe (now (bytes .entry)))))
+        (DateValue (toZ w32 (fromLe (now (bytes .entry))))) ⌝ }
 {
     let days = endian::read_i32(bytes, 0);
     if temporal::is_date(days) {
@@ -146,7 +152,9 @@ fn read_time(bytes: &[u8]) -> SlotRead
 
 fn read_timestamp(bytes: &[u8]) -> SlotRead
     requires { ⌜ length (now bytes) ≡ 8 ⌝ }
-    ensures { λ r. ⌜ r ≡ valueIf (isTimestamp (toZ w64 (fromLe (now (bytes .entry))))) (TimestampValue (toZ w64 (fromLe (now (bytes .entry))))) ⌝ }
+    ensures { λ r. ⌜ r
+        ≡ valueIf (isTimestamp (toZ w64 (fromLe (now (bytes .entry)))))
+        (TimestampValue (toZ w64 (fromLe (now (bytes .entry))))) ⌝ }
 {
     let micros = endian::read_i64(bytes, 0);
     if temporal::is_timestamp(micros) {

@@ -129,7 +129,8 @@ fn write_byte(out: &mut [u8], at: usize, b: u8)
 // The packed form of a number of at most p digits.
 pub fn write_number(out: &mut [u8], at: usize, high: i64, low: u64, p: usize)
     requires { ⌜ (p ≤ 38) × ((sizeOfNumber high low < 10 ^ p) × (at + (p + 2) / 2 ≤ length (now out))) ⌝ }
-    ensures { λ _. ⌜ now (out .exit) ≡ sets (now (out .entry)) at (encodeBcd p (isNegative high) (sizeOfNumber high low)) ⌝ }
+    ensures { λ _. ⌜ now (out .exit)
+        ≡ sets (now (out .entry)) at (encodeBcd p (isNegative high) (sizeOfNumber high low)) ⌝ }
 {
     let m = magnitude(high, low);
     let negative = high < 0;
@@ -139,7 +140,8 @@ pub fn write_number(out: &mut [u8], at: usize, high: i64, low: u64, p: usize)
 // The text, then blanks up to n bytes.
 pub fn write_char(out: &mut [u8], at: usize, text: &[u8], n: usize)
     requires { ⌜ (length (now text) ≤ n) × (at + n ≤ length (now out)) ⌝ }
-    ensures { λ _. ⌜ now (out .exit) ≡ sets (now (out .entry)) at (now (text .entry) ++ replicate (n - length (now (text .entry))) 0x20) ⌝ }
+    ensures { λ _. ⌜ now (out .exit)
+        ≡ sets (now (out .entry)) at (now (text .entry) ++ replicate (n - length (now (text .entry))) 0x20) ⌝ }
 {
     let size = text.len();
     endian::copy(out, at, text);
@@ -157,7 +159,9 @@ pub fn write_bits(out: &mut [u8], at: usize, bits: &[u8], n: usize)
 
 // The stored form of a value whose text is at hand.
 fn write_value(out: &mut [u8], at: usize, ty: DataType, value: DataValue, text: &[u8])
-    requires { ⌜ (precisionOf ty ≤ 38) × ((suitsType ty value (now text) ≡ true) × (at + length (storedForm ty value (now text)) ≤ length (now out))) ⌝ }
+    requires { ⌜ (precisionOf ty ≤ 38)
+        × ((suitsType ty value (now text) ≡ true)
+        × (at + length (storedForm ty value (now text)) ≤ length (now out))) ⌝ }
     ensures { λ _. ⌜ now (out .exit) ≡ sets (now (out .entry)) at (storedForm ty value (now (text .entry))) ⌝ }
 {
     let n = ty.declared_length() as usize;
@@ -182,8 +186,11 @@ fn write_value(out: &mut [u8], at: usize, ty: DataType, value: DataValue, text: 
 
 // The stored form of a value that the type holds, written at `at`.
 pub fn to_bytes_for_type(out: &mut [u8], at: usize, ty: DataType, value: DataValue, area: &[u8])
-    requires { ⌜ (precisionOf ty ≤ 38) × ((accepted ty value (now area) ≡ true) × (at + length (storedForm ty value (textOf (now area) value)) ≤ length (now out))) ⌝ }
-    ensures { λ _. ⌜ now (out .exit) ≡ sets (now (out .entry)) at (storedForm ty value (textOf (now (area .entry)) value)) ⌝ }
+    requires { ⌜ (precisionOf ty ≤ 38)
+        × ((accepted ty value (now area) ≡ true)
+        × (at + length (storedForm ty value (textOf (now area) value)) ≤ length (now out))) ⌝ }
+    ensures { λ _. ⌜ now (out .exit)
+        ≡ sets (now (out .entry)) at (storedForm ty value (textOf (now (area .entry)) value)) ⌝ }
 {
     let range = value.range();
     let start = range.start;

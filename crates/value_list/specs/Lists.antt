@@ -1,4 +1,4 @@
--- 01, "What each call hands back", 10: the values of a list's bytes, or the refusal.
+-- 01, "What each call hands back", 10: the values of a list's bytes, or the refusal. FORMAT 4.3.
 use Prim.Native.Nat.{ℕ, zero, suc}
 use mathlib.Core.Bool.{cond}
 use mathlib.Core.List.{List, [], _∷_, _++_}
@@ -27,7 +27,8 @@ records (suc n) s at = cond (ltb at (length s)) (onRecord (recordAt s at) (recor
 unfoldable pub valuesOf : List ℕ → Values
 valuesOf s = records (length s) s 0
 
--- "then wrong record count (place: list length); then text area above 65,535 (place 0)", for n columns and text areas of at most `limit`
+-- "then wrong record count (place: list length); then text area above 65,535 (place 0)", for n columns and text areas
+-- of at most `limit`
 abbrev pub judged : ℕ → ℕ → ℕ → ℕ → Values → Values
 judged limit n area len (ok vs) =
     cond (eqb (length vs) n) (cond (ltb limit area) (refused (BadValueList 0)) (ok vs)) (refused (BadValueList len))

@@ -1,4 +1,5 @@
--- 01, "Schema and value bytes": "A record is one byte of kind, then a body whose length the kind fixes; numbers are little-endian."
+-- 01, "Schema and value bytes": "A record is one byte of kind, then a body whose length the kind fixes; numbers are
+-- little-endian." FORMAT 4.1.
 use Prim.Native.Nat.{ℕ, _+_, _<_}
 use mathlib.Core.Bool.{cond}
 use mathlib.Core.List.{List, [], _∷_, _++_}
@@ -16,7 +17,8 @@ use Rattle.value.specs.Kinds.{kindOf}
 use Rattle.value_list.specs.declared.ValueRecord.{ValueRecord}
 use Rattle.value_list.specs.declared.ValueRecord.the-variants.{Value, Refused}
 
--- "1 SmallInt 2; 2 Int 4; 3 BigInt 8; 4 Real 4; 5 DoublePrecision 8; 6 Numeric 17 [..]; 7 Bool 1 [..]; 8 Char, 9 Varchar and 12 Bit 4 [..]; 10 Date 4; 11 Time 8; 13 Timestamp 8"; "0 null 0"
+-- "1 SmallInt 2; 2 Int 4; 3 BigInt 8; 4 Real 4; 5 DoublePrecision 8; 6 Numeric 17 [..]; 7 Bool 1 [..]; 8 Char, 9
+-- Varchar and 12 Bit 4 [..]; 10 Date 4; 11 Time 8; 13 Timestamp 8"; "0 null 0"
 abbrev pub bodyLength : ℕ → ℕ
 bodyLength k =
     cond (eqb k 1) 2

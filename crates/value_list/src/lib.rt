@@ -48,8 +48,8 @@ pub fn body_length(kind: u8) -> usize
     }
 }
 
-// The bytes of the record at a place; 0 where its kind is unknown or it is cut off. The usual sizes have branches of their own: a
-// branch is foreseen, so that a walk need not wait for each record's kind.
+// The bytes of the record at a place; 0 where its kind is unknown or it is cut off. The usual sizes have branches of
+// their own: a branch is foreseen, so that a walk need not wait for each record's kind.
 fn record_size(list: &[u8], at: usize) -> usize
     requires { ⌜ at < length (now list) ⌝ }
     ensures { λ r. ⌜ r ≡ sizeAt (now (list .entry)) at ⌝ }

@@ -23,8 +23,9 @@ same-length c = search needs
 
 returns : tie.Need-returns
 returns c =
-    let a = c .before .before .before .before .args in
-    rw (c .high-bits .ensures) (cleared (now (a .s)) (a .at) (a .n) (all-below (now (a .s)) (c .before .before .before .slice-known .given)) (c .before .before .before .before .pre) (c .before .before .if1 .taken))
+    let entry = c .before .before .before .before in
+    let a = entry .args in
+    rw (c .high-bits .ensures) (cleared (now (a .s)) (a .at) (a .n) (all-below (now (a .s)) (c .before .before .before .slice-known .given)) (entry .pre) (c .before .before .if1 .taken))
 
 returns-2 : tie.Need-returns-2
 returns-2 c =

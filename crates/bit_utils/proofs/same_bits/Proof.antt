@@ -20,8 +20,9 @@ same-bytes-requires c κs = search needs
 
 returns : tie.Need-returns
 returns c =
-    let a = c .before .before .before .before .before .before .before .args in
-    sym (c .before .if1 .taken) ∙ c .before .before .same-bytes .ensures ∙ same-whole (a .n) (now (a .a)) (now (a .b)) (all-below (now (a .a)) (c .before .before .before .before .before .before .shared-slice-known .given)) (all-below (now (a .b)) (c .before .before .before .before .before .shared-slice-known2 .given)) (c .before .before .before .before .before .before .before .pre .0) (c .before .before .before .before .before .before .before .pre .1) (c .if2 .taken)
+    let entry = c .before .before .before .before .before .before .before in
+    let a = entry .args in
+    sym (c .before .if1 .taken) ∙ c .before .before .same-bytes .ensures ∙ same-whole (a .n) (now (a .a)) (now (a .b)) (all-below (now (a .a)) (c .before .before .before .before .before .before .shared-slice-known .given)) (all-below (now (a .b)) (c .before .before .before .before .before .shared-slice-known2 .given)) (entry .pre .0) (entry .pre .1) (c .if2 .taken)
 
 shared-slice-read-high-bits : tie.Need-shared-slice-read-high-bits
 shared-slice-read-high-bits c = search needs
@@ -37,13 +38,15 @@ high-bits-requires-2 c κs = search needs
 
 returns-2 : tie.Need-returns-2
 returns-2 c =
-    let a = c .before .before .before .before .before .before .before .before .before .before .before .args in
-    rw (c .before .before .high-bits .ensures, c .high-bits2 .ensures) (same-part (a .n) (now (a .a)) (now (a .b)) (all-below (now (a .a)) (c .before .before .before .before .before .before .before .before .before .before .shared-slice-known .given)) (all-below (now (a .b)) (c .before .before .before .before .before .before .before .before .before .shared-slice-known2 .given)) (c .before .before .before .before .before .before .before .before .before .before .before .pre .0) (c .before .before .before .before .before .before .before .before .before .before .before .pre .1) (c .before .before .before .before .if2 .left) (sym (c .before .before .before .before .before .before .same-bytes .ensures) ∙ c .before .before .before .before .before .if1 .taken))
+    let entry = c .before .before .before .before .before .before .before .before .before .before .before in
+    let a = entry .args in
+    rw (c .before .before .high-bits .ensures, c .high-bits2 .ensures) (same-part (a .n) (now (a .a)) (now (a .b)) (all-below (now (a .a)) (c .before .before .before .before .before .before .before .before .before .before .shared-slice-known .given)) (all-below (now (a .b)) (c .before .before .before .before .before .before .before .before .before .shared-slice-known2 .given)) (entry .pre .0) (entry .pre .1) (c .before .before .before .before .if2 .left) (sym (c .before .before .before .before .before .before .same-bytes .ensures) ∙ c .before .before .before .before .before .if1 .taken))
 
 returns-3 : tie.Need-returns-3
 returns-3 c =
-    let a = c .before .before .before .before .before .before .args in
-    same-none (a .n) (now (a .a)) (now (a .b)) (all-below (now (a .a)) (c .before .before .before .before .before .shared-slice-known .given)) (all-below (now (a .b)) (c .before .before .before .before .shared-slice-known2 .given)) (c .before .before .before .before .before .before .pre .0) (c .before .before .before .before .before .before .pre .1) (sym (c .before .same-bytes .ensures) ∙ c .if1 .left)
+    let entry = c .before .before .before .before .before .before in
+    let a = entry .args in
+    same-none (a .n) (now (a .a)) (now (a .b)) (all-below (now (a .a)) (c .before .before .before .before .before .shared-slice-known .given)) (all-below (now (a .b)) (c .before .before .before .before .shared-slice-known2 .given)) (entry .pre .0) (entry .pre .1) (sym (c .before .same-bytes .ensures) ∙ c .if1 .left)
 
 pub same-bits-spec : {M : Type 1} → statement M
 same-bits-spec =

@@ -22,35 +22,43 @@ add-read-u16 : tie.Need-add-read-u16
 add-read-u16 c = search needs
 
 read-u16-requires : tie.Need-read-u16-requires
-read-u16-requires c κs = omega (arith, sized-record (now (c .before .before .before .before .before .args .schema)) (c .before .before .before .before .before .args .at) (c .before .before .before .before .before .pre .0 .good) Char (rw (c .match .keys1)) .0)
+read-u16-requires c κs =
+    let entry = c .before .before .before .before .before in
+    omega (arith, sized-record (now (entry .args .schema)) (entry .args .at) (entry .pre .0 .good) Char (rw (c .match .keys1)) .0)
 
 cast-n : tie.Need-cast-n
 cast-n c = search needs
 
 decode-char-requires : tie.Need-decode-char-requires
 decode-char-requires c κs =
-    let a = c .before .before .before .before .before .before .before .args in
-    (subst (λ (t : DataType). Reachable (a .layout) (a .packed) (a .before) t (now (a .row))) (sym (c .before .before .before .before .before .before .before .pre .0 .typed) ∙ sized-record (now (c .before .before .before .before .before .before .before .args .schema)) (c .before .before .before .before .before .before .before .args .at) (c .before .before .before .before .before .before .before .pre .0 .good) Char (rw (c .before .before .match .keys1)) .1 ∙ ap Char (sym (c .before .read-u16 .ensures))) (c .before .before .before .before .before .before .before .pre .0 .reach), (c .before .before .before .before .before .before .before .pre .0 .short, c .before .before .before .before .before .before .before .pre .0 .room))
+    let entry = c .before .before .before .before .before .before .before in
+    let a = entry .args in
+    (subst (λ (t : DataType). Reachable (a .layout) (a .packed) (a .before) t (now (a .row))) (sym (entry .pre .0 .typed) ∙ sized-record (now (entry .args .schema)) (entry .args .at) (entry .pre .0 .good) Char (rw (c .before .before .match .keys1)) .1 ∙ ap Char (sym (c .before .read-u16 .ensures))) (entry .pre .0 .reach), (entry .pre .0 .short, entry .pre .0 .room))
 
 add-read-u16-2 : tie.Need-add-read-u16-2
 add-read-u16-2 c = search needs
 
 read-u16-requires-2 : tie.Need-read-u16-requires-2
-read-u16-requires-2 c κs = omega (arith, sized-record (now (c .before .before .before .before .before .args .schema)) (c .before .before .before .before .before .args .at) (c .before .before .before .before .before .pre .0 .good) Character (rw (c .match .keys2)) .0)
+read-u16-requires-2 c κs =
+    let entry = c .before .before .before .before .before in
+    omega (arith, sized-record (now (entry .args .schema)) (entry .args .at) (entry .pre .0 .good) Character (rw (c .match .keys2)) .0)
 
 cast-n-2 : tie.Need-cast-n-2
 cast-n-2 c = search needs
 
 decode-char-requires-2 : tie.Need-decode-char-requires-2
 decode-char-requires-2 c κs =
-    let a = c .before .before .before .before .before .before .before .args in
-    (as-char (subst (λ (t : DataType). Reachable (a .layout) (a .packed) (a .before) t (now (a .row))) (sym (c .before .before .before .before .before .before .before .pre .0 .typed) ∙ sized-record (now (c .before .before .before .before .before .before .before .args .schema)) (c .before .before .before .before .before .before .before .args .at) (c .before .before .before .before .before .before .before .pre .0 .good) Character (rw (c .before .before .match .keys2)) .1 ∙ ap Character (sym (c .before .read-u162 .ensures))) (c .before .before .before .before .before .before .before .pre .0 .reach)), (c .before .before .before .before .before .before .before .pre .0 .short, c .before .before .before .before .before .before .before .pre .0 .room))
+    let entry = c .before .before .before .before .before .before .before in
+    let a = entry .args in
+    (as-char (subst (λ (t : DataType). Reachable (a .layout) (a .packed) (a .before) t (now (a .row))) (sym (entry .pre .0 .typed) ∙ sized-record (now (entry .args .schema)) (entry .args .at) (entry .pre .0 .good) Character (rw (c .before .before .match .keys2)) .1 ∙ ap Character (sym (c .before .read-u162 .ensures))) (entry .pre .0 .reach)), (entry .pre .0 .short, entry .pre .0 .room))
 
 add-read-u16-3 : tie.Need-add-read-u16-3
 add-read-u16-3 c = search needs
 
 read-u16-requires-3 : tie.Need-read-u16-requires-3
-read-u16-requires-3 c κs = omega (arith, sized-record (now (c .before .before .before .before .before .args .schema)) (c .before .before .before .before .before .args .at) (c .before .before .before .before .before .pre .0 .good) Varchar (rw (c .match .keys3)) .0)
+read-u16-requires-3 c κs =
+    let entry = c .before .before .before .before .before in
+    omega (arith, sized-record (now (entry .args .schema)) (entry .args .at) (entry .pre .0 .good) Varchar (rw (c .match .keys3)) .0)
 
 cast-n-3 : tie.Need-cast-n-3
 cast-n-3 c = search needs
@@ -60,9 +68,10 @@ varlen-table-offset-requires c κs = search needs
 
 decode-varchar-requires : tie.Need-decode-varchar-requires
 decode-varchar-requires c κs =
-    let a = c .before .before .before .before .before .before .before .before .args in
-    let q = subst (λ (t : DataType). Reachable (a .layout) (a .packed) (a .before) t (now (a .row))) (sym (c .before .before .before .before .before .before .before .before .pre .0 .typed) ∙ sized-record (now (c .before .before .before .before .before .before .before .before .args .schema)) (c .before .before .before .before .before .before .before .before .args .at) (c .before .before .before .before .before .before .before .before .pre .0 .good) Varchar (rw (c .before .before .before .match .keys3)) .1 ∙ ap Varchar (sym (c .before .before .read-u163 .ensures))) (c .before .before .before .before .before .before .before .before .pre .0 .reach) in
-    ((q .rank refl, rw (c .before .varlen-table-offset .ensures) (q .table)), (c .before .before .before .before .before .before .before .before .pre .0 .short, c .before .before .before .before .before .before .before .before .pre .0 .room))
+    let entry = c .before .before .before .before .before .before .before .before in
+    let a = entry .args in
+    let q = subst (λ (t : DataType). Reachable (a .layout) (a .packed) (a .before) t (now (a .row))) (sym (entry .pre .0 .typed) ∙ sized-record (now (entry .args .schema)) (entry .args .at) (entry .pre .0 .good) Varchar (rw (c .before .before .before .match .keys3)) .1 ∙ ap Varchar (sym (c .before .before .read-u163 .ensures))) (entry .pre .0 .reach) in
+    ((q .rank refl, rw (c .before .varlen-table-offset .ensures) (q .table)), (entry .pre .0 .short, entry .pre .0 .room))
 
 decode-value-requires : tie.Need-decode-value-requires
 decode-value-requires c κs = c .before .before .before .before .before .before .pre .0
@@ -71,19 +80,25 @@ same-length : tie.Need-same-length
 same-length c = search needs
 
 returns : tie.Need-returns
-returns c = rw (sym (c .before .before .before .before .before .before .before .before .before .before .pre .0 .typed) ∙ sized-record (now (c .before .before .before .before .before .before .before .before .before .before .args .schema)) (c .before .before .before .before .before .before .before .before .before .before .args .at) (c .before .before .before .before .before .before .before .before .before .before .pre .0 .good) Char (rw (c .before .before .before .before .before .match .keys1)) .1 ∙ ap Char (sym (c .before .before .before .before .read-u16 .ensures)), c .before .before .before .before .before .before .before .before .before .before .pre .1) (c .before .before .decode-char .ensures)
+returns c =
+    let entry = c .before .before .before .before .before .before .before .before .before .before in
+    rw (sym (entry .pre .0 .typed) ∙ sized-record (now (entry .args .schema)) (entry .args .at) (entry .pre .0 .good) Char (rw (c .before .before .before .before .before .match .keys1)) .1 ∙ ap Char (sym (c .before .before .before .before .read-u16 .ensures)), entry .pre .1) (c .before .before .decode-char .ensures)
 
 same-length-2 : tie.Need-same-length-2
 same-length-2 c = search needs
 
 returns-2 : tie.Need-returns-2
-returns-2 c = rw (sym (c .before .before .before .before .before .before .before .before .before .before .pre .0 .typed) ∙ sized-record (now (c .before .before .before .before .before .before .before .before .before .before .args .schema)) (c .before .before .before .before .before .before .before .before .before .before .args .at) (c .before .before .before .before .before .before .before .before .before .before .pre .0 .good) Character (rw (c .before .before .before .before .before .match .keys2)) .1 ∙ ap Character (sym (c .before .before .before .before .read-u162 .ensures)), c .before .before .before .before .before .before .before .before .before .before .pre .1) (c .before .before .decode-char2 .ensures)
+returns-2 c =
+    let entry = c .before .before .before .before .before .before .before .before .before .before in
+    rw (sym (entry .pre .0 .typed) ∙ sized-record (now (entry .args .schema)) (entry .args .at) (entry .pre .0 .good) Character (rw (c .before .before .before .before .before .match .keys2)) .1 ∙ ap Character (sym (c .before .before .before .before .read-u162 .ensures)), entry .pre .1) (c .before .before .decode-char2 .ensures)
 
 same-length-3 : tie.Need-same-length-3
 same-length-3 c = search needs
 
 returns-3 : tie.Need-returns-3
-returns-3 c = rw (sym (c .before .before .before .before .before .before .before .before .before .before .before .pre .0 .typed) ∙ sized-record (now (c .before .before .before .before .before .before .before .before .before .before .before .args .schema)) (c .before .before .before .before .before .before .before .before .before .before .before .args .at) (c .before .before .before .before .before .before .before .before .before .before .before .pre .0 .good) Varchar (rw (c .before .before .before .before .before .before .match .keys3)) .1 ∙ ap Varchar (sym (c .before .before .before .before .before .read-u163 .ensures)), c .before .before .before .before .before .before .before .before .before .before .before .pre .1, ← c .before .before .before .before .varlen-table-offset .ensures) (c .before .before .decode-varchar .ensures)
+returns-3 c =
+    let entry = c .before .before .before .before .before .before .before .before .before .before .before in
+    rw (sym (entry .pre .0 .typed) ∙ sized-record (now (entry .args .schema)) (entry .args .at) (entry .pre .0 .good) Varchar (rw (c .before .before .before .before .before .before .match .keys3)) .1 ∙ ap Varchar (sym (c .before .before .before .before .before .read-u163 .ensures)), entry .pre .1, ← c .before .before .before .before .varlen-table-offset .ensures) (c .before .before .decode-varchar .ensures)
 
 same-length-4 : tie.Need-same-length-4
 same-length-4 c = search needs

@@ -31,8 +31,9 @@ add-char-record c =
 
 char-record-requires : tie.Need-char-record-requires
 char-record-requires c κs =
-    let h = rw (← c .before .slot-start .ensures, ← c .before .before .fixed-data-start .ensures) at (c .before .before .before .before .before .pre .0 .slot refl) in
-    (omega arith, (h, c .before .before .before .before .before .pre .1))
+    let entry = c .before .before .before .before .before in
+    let h = rw (← c .before .slot-start .ensures, ← c .before .before .fixed-data-start .ensures) at (entry .pre .0 .slot refl) in
+    (omega arith, (h, entry .pre .1))
 
 same-length : tie.Need-same-length
 same-length c = search needs

@@ -30,12 +30,14 @@ slot-start-requires c κs = search needs
 
 add-start : tie.Need-add-start
 add-start c =
-    let h = plain-inside (now (c .before .before .before .before .before .before .before .before .args .schema)) (c .before .before .before .before .before .before .before .before .args .at) (c .before .before .before .before .before .before .before .before .args .layout) (c .before .before .before .before .before .before .before .before .args .packed) (c .before .before .before .before .before .before .before .before .args .before) (now (c .before .before .before .before .before .before .before .before .args .row)) (c .before .before .before .before .before .before .before .before .pre .0 .typed) (c .before .before .if1 .taken) (c .before .before .before .plain-size .ensures .0) (ap₂ _+_ (c .before .fixed-data-start .ensures) (c .slot-start .ensures)) (c .before .before .before .before .before .before .before .before .pre .0 .reach) in
+    let entry = c .before .before .before .before .before .before .before .before in
+    let h = plain-inside (now (entry .args .schema)) (entry .args .at) (entry .args .layout) (entry .args .packed) (entry .args .before) (now (entry .args .row)) (entry .pre .0 .typed) (c .before .before .if1 .taken) (c .before .before .before .plain-size .ensures .0) (ap₂ _+_ (c .before .fixed-data-start .ensures) (c .slot-start .ensures)) (entry .pre .0 .reach) in
     search needs
 
 add-stop : tie.Need-add-stop
 add-stop c =
-    let h = plain-inside (now (c .before .before .before .before .before .before .before .before .args .schema)) (c .before .before .before .before .before .before .before .before .args .at) (c .before .before .before .before .before .before .before .before .args .layout) (c .before .before .before .before .before .before .before .before .args .packed) (c .before .before .before .before .before .before .before .before .args .before) (now (c .before .before .before .before .before .before .before .before .args .row)) (c .before .before .before .before .before .before .before .before .pre .0 .typed) (c .before .before .if1 .taken) (c .before .before .before .plain-size .ensures .0) (ap₂ _+_ (c .before .fixed-data-start .ensures) (c .slot-start .ensures)) (c .before .before .before .before .before .before .before .before .pre .0 .reach) in
+    let entry = c .before .before .before .before .before .before .before .before in
+    let h = plain-inside (now (entry .args .schema)) (entry .args .at) (entry .args .layout) (entry .args .packed) (entry .args .before) (now (entry .args .row)) (entry .pre .0 .typed) (c .before .before .if1 .taken) (c .before .before .before .plain-size .ensures .0) (ap₂ _+_ (c .before .fixed-data-start .ensures) (c .slot-start .ensures)) (entry .pre .0 .reach) in
     search needs
 
 sub-plain-record : tie.Need-sub-plain-record
@@ -46,20 +48,24 @@ part-plain-record-start c = search needs
 
 part-plain-record-end : tie.Need-part-plain-record-end
 part-plain-record-end c =
-    let h = plain-inside (now (c .before .before .before .before .before .before .before .before .args .schema)) (c .before .before .before .before .before .before .before .before .args .at) (c .before .before .before .before .before .before .before .before .args .layout) (c .before .before .before .before .before .before .before .before .args .packed) (c .before .before .before .before .before .before .before .before .args .before) (now (c .before .before .before .before .before .before .before .before .args .row)) (c .before .before .before .before .before .before .before .before .pre .0 .typed) (c .before .before .if1 .taken) (c .before .before .before .plain-size .ensures .0) (ap₂ _+_ (c .before .fixed-data-start .ensures) (c .slot-start .ensures)) (c .before .before .before .before .before .before .before .before .pre .0 .reach) in
+    let entry = c .before .before .before .before .before .before .before .before in
+    let h = plain-inside (now (entry .args .schema)) (entry .args .at) (entry .args .layout) (entry .args .packed) (entry .args .before) (now (entry .args .row)) (entry .pre .0 .typed) (c .before .before .if1 .taken) (c .before .before .before .plain-size .ensures .0) (ap₂ _+_ (c .before .fixed-data-start .ensures) (c .slot-start .ensures)) (entry .pre .0 .reach) in
     search needs
 
 plain-record-requires : tie.Need-plain-record-requires
-plain-record-requires c κs = (is-some (now (c .before .before .before .before .before .before .before .before .before .before .args .schema)) (c .before .before .before .before .before .before .before .before .before .before .args .at) (c .before .before .before .before .before .before .before .before .before .before .args .layout) (c .before .before .before .before .before .before .before .before .before .before .args .packed) (c .before .before .before .before .before .before .before .before .before .before .args .before) (now (c .before .before .before .before .before .before .before .before .before .before .args .row)) (c .before .before .before .before .before .before .before .before .before .before .pre .0 .typed) (c .before .before .before .before .if1 .taken) (c .before .before .before .before .before .plain-size .ensures .0) (ap₂ _+_ (c .before .before .before .fixed-data-start .ensures) (c .before .before .slot-start .ensures)), (plain-length (now (c .before .before .before .before .before .before .before .before .before .before .args .schema)) (c .before .before .before .before .before .before .before .before .before .before .args .at) (c .before .before .before .before .before .before .before .before .before .before .args .layout) (c .before .before .before .before .before .before .before .before .before .before .args .packed) (c .before .before .before .before .before .before .before .before .before .before .args .before) (now (c .before .before .before .before .before .before .before .before .before .before .args .row)) (c .before .before .before .before .before .before .before .before .before .before .pre .0 .typed) (c .before .before .before .before .if1 .taken) (c .before .before .before .before .before .plain-size .ensures .0) (ap₂ _+_ (c .before .before .before .fixed-data-start .ensures) (c .before .before .slot-start .ensures)) (c .before .before .before .before .before .before .before .before .before .before .pre .0 .reach), c .before .before .before .before .before .before .before .before .before .before .pre .0 .room))
+plain-record-requires c κs =
+    let entry = c .before .before .before .before .before .before .before .before .before .before in
+    (is-some (now (entry .args .schema)) (entry .args .at) (entry .args .layout) (entry .args .packed) (entry .args .before) (now (entry .args .row)) (entry .pre .0 .typed) (c .before .before .before .before .if1 .taken) (c .before .before .before .before .before .plain-size .ensures .0) (ap₂ _+_ (c .before .before .before .fixed-data-start .ensures) (c .before .before .slot-start .ensures)), (plain-length (now (entry .args .schema)) (entry .args .at) (entry .args .layout) (entry .args .packed) (entry .args .before) (now (entry .args .row)) (entry .pre .0 .typed) (c .before .before .before .before .if1 .taken) (c .before .before .before .before .before .plain-size .ensures .0) (ap₂ _+_ (c .before .before .before .fixed-data-start .ensures) (c .before .before .slot-start .ensures)) (entry .pre .0 .reach), entry .pre .0 .room))
 
 same-length : tie.Need-same-length
 same-length c = search needs
 
 returns : tie.Need-returns
 returns c =
-    let a = c .before .before .before .before .before .before .before .before .before .before .before .before .before .args in
+    let entry = c .before .before .before .before .before .before .before .before .before .before .before .before .before in
+    let a = entry .args in
     let start = c .before .before .before .before .before .before .fixed-data-start .result + c .before .before .before .before .before .slot-start .result in
-    c .before .before .plain-record .ensures start ∙ slot-stepped (now (a .buf)) (a .end) (a .before .«num_columns») (readSlot (plainType (columnKind (getD (now (a .schema)) (a .at) 0))) start (take (start + c .before .before .before .before .before .before .before .before .plain-size .result - start) (drop start (now (a .row))))) ∙ ap (stepped (now (a .buf)) (a .end)) (plain-column (now (c .before .before .before .before .before .before .before .before .before .before .before .before .before .args .schema)) (c .before .before .before .before .before .before .before .before .before .before .before .before .before .args .at) (c .before .before .before .before .before .before .before .before .before .before .before .before .before .args .layout) (c .before .before .before .before .before .before .before .before .before .before .before .before .before .args .packed) (c .before .before .before .before .before .before .before .before .before .before .before .before .before .args .before) (now (c .before .before .before .before .before .before .before .before .before .before .before .before .before .args .row)) (c .before .before .before .before .before .before .before .before .before .before .before .before .before .pre .0 .typed) (c .before .before .before .before .before .before .before .if1 .taken) (c .before .before .before .before .before .before .before .before .plain-size .ensures .0) (ap₂ _+_ (c .before .before .before .before .before .before .fixed-data-start .ensures) (c .before .before .before .before .before .slot-start .ensures)) (c .before .before .before .before .before .before .before .before .before .before .before .before .before .pre .1))
+    c .before .before .plain-record .ensures start ∙ slot-stepped (now (a .buf)) (a .end) (a .before .«num_columns») (readSlot (plainType (columnKind (getD (now (a .schema)) (a .at) 0))) start (take (start + c .before .before .before .before .before .before .before .before .plain-size .result - start) (drop start (now (a .row))))) ∙ ap (stepped (now (a .buf)) (a .end)) (plain-column (now (entry .args .schema)) (entry .args .at) (entry .args .layout) (entry .args .packed) (entry .args .before) (now (entry .args .row)) (entry .pre .0 .typed) (c .before .before .before .before .before .before .before .if1 .taken) (c .before .before .before .before .before .before .before .before .plain-size .ensures .0) (ap₂ _+_ (c .before .before .before .before .before .before .fixed-data-start .ensures) (c .before .before .before .before .before .slot-start .ensures)) (entry .pre .1))
 
 decode-body-requires : tie.Need-decode-body-requires
 decode-body-requires c κs = search needs

@@ -24,11 +24,14 @@ enum-known-ty c = search needs
 
 read-column-requires : tie.Need-read-column-requires
 read-column-requires c κs =
-    let a = c .before .before .before .before .before .before .before .args in
-    subst (λ (t : DataType). Reachable (a .layout) (a .packed) (a .before) t (now (a .row))) (sym (type-read (c .before .before .before .record-at .ensures) (c .before .ty .given .1) (c .before .before .before .before .before .before .before .pre .typed))) (c .before .before .before .before .before .before .before .pre .reach)
+    let entry = c .before .before .before .before .before .before .before in
+    let a = entry .args in
+    subst (λ (t : DataType). Reachable (a .layout) (a .packed) (a .before) t (now (a .row))) (sym (type-read (c .before .before .before .record-at .ensures) (c .before .ty .given .1) (entry .pre .typed))) (entry .pre .reach)
 
 write-column-requires : tie.Need-write-column-requires
-write-column-requires c κs = (c .before .before .before .before .before .before .before .before .before .pre .room, wider (c .before .read-column .result) (length (now (c .before .before .before .before .before .before .before .before .before .args .row))) 65535 (c .before .before .before .before .before .before .before .before .before .pre .short) (c .before .read-column .ensures .1))
+write-column-requires c κs =
+    let entry = c .before .before .before .before .before .before .before .before .before in
+    (entry .pre .room, wider (c .before .read-column .result) (length (now (entry .args .row))) 65535 (entry .pre .short) (c .before .read-column .ensures .1))
 
 returns : tie.Need-returns
 returns c = absurd (c .before .before .before .before .before .before .before .pre .good _ (sym (c .before .before .before .record-at .ensures) ∙ c .before .e .given .1))
@@ -38,8 +41,9 @@ same-length c = search needs
 
 returns-2 : tie.Need-returns-2
 returns-2 c =
-    let a = c .before .before .before .before .before .before .before .before .before .before .before .before .args in
-    c .before .before .write-column .ensures ∙ ap (stepped (now (a .buf)) (a .end)) (c .before .before .before .before .read-column .ensures .0 ∙ ap (λ (t : DataType). walkedColumn (a .layout) (a .packed) (a .before) t (now (a .row))) (type-read (c .before .before .before .before .before .before .before .before .record-at .ensures) (c .before .before .before .before .before .before .ty .given .1) (c .before .before .before .before .before .before .before .before .before .before .before .before .pre .typed)))
+    let entry = c .before .before .before .before .before .before .before .before .before .before .before .before in
+    let a = entry .args in
+    c .before .before .write-column .ensures ∙ ap (stepped (now (a .buf)) (a .end)) (c .before .before .before .before .read-column .ensures .0 ∙ ap (λ (t : DataType). walkedColumn (a .layout) (a .packed) (a .before) t (now (a .row))) (type-read (c .before .before .before .before .before .before .before .before .record-at .ensures) (c .before .before .before .before .before .before .ty .given .1) (entry .pre .typed)))
 
 pub decode-value-spec : {M : Type 1} → statement M
 decode-value-spec =

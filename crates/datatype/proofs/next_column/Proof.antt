@@ -33,8 +33,9 @@ add-first c = search needs
 
 shared-slice-read-first : tie.Need-shared-slice-read-first
 shared-slice-read-first c =
-    let a = c .before .before .before .before .before .args in
-    let h = pass-here (now (a .schema)) (a .at) (a .before) (c .before .before .before .before .before .pre .0 .good) (sym (c .before .before .plain-size .ensures .0) ∙ c .before .if1 .left) in
+    let entry = c .before .before .before .before .before in
+    let a = entry .args in
+    let h = pass-here (now (a .schema)) (a .at) (a .before) (entry .pre .0 .good) (sym (c .before .before .plain-size .ensures .0) ∙ c .before .if1 .left) in
     search needs
 
 add-read-u16 : tie.Need-add-read-u16
@@ -42,8 +43,9 @@ add-read-u16 c = search needs
 
 read-u16-requires : tie.Need-read-u16-requires
 read-u16-requires c κs =
-    let a = c .before .before .before .before .before .args in
-    let h = pass-here (now (a .schema)) (a .at) (a .before) (c .before .before .before .before .before .pre .0 .good) (sym (c .before .before .plain-size .ensures .0) ∙ c .before .if1 .left) in
+    let entry = c .before .before .before .before .before in
+    let a = entry .args in
+    let h = pass-here (now (a .schema)) (a .at) (a .before) (entry .pre .0 .good) (sym (c .before .before .plain-size .ensures .0) ∙ c .before .if1 .left) in
     omega (arith, h)
 
 add-t14 : tie.Need-add-t14
@@ -60,8 +62,9 @@ with-column-requires-2 c κs = search needs
 
 returns-2 : tie.Need-returns-2
 returns-2 c =
-    let a = c .before .before .before .before .before .before .before .before .args in
-    (rw (body-passed (now (a .schema)) (a .at) (a .before) (c .before .before .before .before .before .before .before .before .pre .0 .good) (sym (c .before .before .before .before .before .plain-size .ensures .0) ∙ c .before .before .before .before .if1 .left), c .with-column2 .ensures .0, c .before .body-shape .ensures .0, c .before .before .read-u16 .ensures), c .with-column2 .ensures .1)
+    let entry = c .before .before .before .before .before .before .before .before in
+    let a = entry .args in
+    (rw (body-passed (now (a .schema)) (a .at) (a .before) (entry .pre .0 .good) (sym (c .before .before .before .before .before .plain-size .ensures .0) ∙ c .before .before .before .before .if1 .left), c .with-column2 .ensures .0, c .before .body-shape .ensures .0, c .before .before .read-u16 .ensures), c .with-column2 .ensures .1)
 
 pub next-column-spec : {M : Type 1} → statement M
 next-column-spec =

@@ -49,8 +49,9 @@ loop-less c = search needs
 
 loop-again : tie.Need-loop-again Inv-loop μ-loop
 loop-again c =
-    let a = c .before .before .before .before .args in
-    let pre = c .before .before .before .before .pre in
+    let entry = c .before .before .before .before in
+    let a = entry .args in
+    let pre = entry .pre in
     let l = c .before .loop in
     let x = halves (a .high) (a .low) in
     let e = digits-at (a .p) x (pre .1 .0) (pre .0) (a .negative) (l .j) (c .loop-test .taken) in
@@ -79,8 +80,9 @@ same-length c = search needs
 
 returns : tie.Need-returns Inv-loop μ-loop
 returns c =
-    let a = c .before .before .before .before .before .args in
-    let pre = c .before .before .before .before .before .pre in
+    let entry = c .before .before .before .before .before in
+    let a = entry .args in
+    let pre = entry .pre in
     let l = c .before .before .loop in
     let x = halves (a .high) (a .low) in
     let all = encodeBcd (a .p) (a .negative) x in

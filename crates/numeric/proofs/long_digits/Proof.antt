@@ -29,11 +29,14 @@ cast-s : tie.Need-cast-s Inv-loop μ-loop
 cast-s c = search needs
 
 slice-write-s : tie.Need-slice-write-s Inv-loop μ-loop
-slice-write-s c = let e : length (c .before .before .before .args .s .now) ≡ 20 = ap length (c .before .before .before .pre) in search needs
+slice-write-s c =
+    let entry = c .before .before .before in
+    let e : length (entry .args .s .now) ≡ 20 = ap length (entry .pre) in search needs
 
 put-eight-requires : tie.Need-put-eight-requires Inv-loop μ-loop
 put-eight-requires c κs =
-    let e : length (c .before .before .before .before .before .args .s .now) ≡ 20 = ap length (c .before .before .before .before .before .pre) in
+    let entry = c .before .before .before .before .before in
+    let e : length (entry .args .s .now) ≡ 20 = ap length (entry .pre) in
     let r = c .before .before .before .divided-by .ensures .1 in
     (omega (arith, r), rw length-set (omega arith))
 
@@ -76,7 +79,9 @@ returns c =
     c .before .before .put-pairs .ensures ∙ rw e (l .inv .stored)
 
 same-length : tie.Need-same-length Inv-loop μ-loop
-same-length c = ap length (returns c) ∙ length-thirty-nine (halves (c .before .before .before .before .before .before .before .before .before .before .before .before .before .before .args .high) (c .before .before .before .before .before .before .before .before .before .before .before .before .before .before .args .low)) ∙ sym (ap length (c .before .before .before .before .before .before .before .before .before .before .before .before .before .before .pre))
+same-length c =
+    let entry = c .before .before .before .before .before .before .before .before .before .before .before .before .before .before in
+    ap length (returns c) ∙ length-thirty-nine (halves (entry .args .high) (entry .args .low)) ∙ sym (ap length (entry .pre))
 
 pub long-digits-spec : {M : Type 1} → statement M
 long-digits-spec =

@@ -34,7 +34,9 @@ loop-again : tie.Need-loop-again Inv-loop μ-loop
 loop-again c = rw (c .two-digits .ensures) (fill-two (c .before .before .loop .inv) (fill-room (c .before .before .loop .inv) (c .before .loop-test .taken)))
 
 same-length : tie.Need-same-length Inv-loop μ-loop
-same-length c = fill-length (c .before .loop .inv) ∙ length-sets (now (c .before .before .before .args .s)) 0 (hundreds (c .before .before .before .args .end) (c .before .before .before .args .n))
+same-length c =
+    let entry = c .before .before .before in
+    fill-length (c .before .loop .inv) ∙ length-sets (now (entry .args .s)) 0 (hundreds (entry .args .end) (entry .args .n))
 
 returns : tie.Need-returns Inv-loop μ-loop
 returns c = fill-end (c .before .loop .inv) (c .loop-test .left)

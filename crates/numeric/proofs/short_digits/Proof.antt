@@ -17,7 +17,9 @@ slice-write-s : tie.Need-slice-write-s
 slice-write-s c = let e : length (c .before .args .s .now) ≡ 20 = ap length (c .before .pre) in omega arith
 
 put-pairs-requires : tie.Need-put-pairs-requires
-put-pairs-requires c κs = rw (c .before .before .pre) (fill-start (c .before .before .args .low) (half-room (c .before .before .args .low) (c .before .before .fits .low .fits)) .fresh)
+put-pairs-requires c κs =
+    let entry = c .before .before in
+    rw (entry .pre) (fill-start (entry .args .low) (half-room (entry .args .low) (c .before .before .fits .low .fits)) .fresh)
 
 same-length : tie.Need-same-length
 same-length c = search needs

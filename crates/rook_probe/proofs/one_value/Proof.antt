@@ -14,7 +14,9 @@ enum-told : tie.Need-enum-told
 enum-told c = search needs
 
 value-record-at-requires : tie.Need-value-record-at-requires
-value-record-at-requires c κs = sole-there rowLimit (c .before .before .before .before .args .area) (now (c .before .before .before .before .args .list)) (sym (c .enum-told .given .1) ∙ c .before .before .check-values .ensures)
+value-record-at-requires c κs =
+    let entry = c .before .before .before .before in
+    sole-there rowLimit (entry .args .area) (now (entry .args .list)) (sym (c .enum-told .given .1) ∙ c .before .before .check-values .ensures)
 
 enum-known-v : tie.Need-enum-known-v
 enum-known-v c = search needs

@@ -16,15 +16,18 @@ returns : tie.Need-returns
 returns c = rw (c .refused .ensures) (search by-tests depth 4)
 
 from-bytes-requires : tie.Need-from-bytes-requires
-from-bytes-requires c κs = (c .before .before .before .pre .0, slot-size (c .before .before .before .args .ty) _ (c .before .before .before .pre .1 .0))
+from-bytes-requires c κs =
+    let entry = c .before .before .before in
+    (entry .pre .0, slot-size (entry .args .ty) _ (entry .pre .1 .0))
 
 enum-known-v : tie.Need-enum-known-v
 enum-known-v c = search needs
 
 write-value-record-requires : tie.Need-write-value-record-requires
 write-value-record-requires c κs =
-    let a = c .before .before .before .before .before .before .before .before .args in
-    let p = c .before .before .before .before .before .before .before .before .pre .1 .1 in
+    let entry = c .before .before .before .before .before .before .before .before in
+    let a = entry .args in
+    let p = entry .pre .1 .1 in
     let m = record-short (c .before .before .v .given .0 .0) in
     (omega (arith, c .before .before .before .before .before .if1 .left), read-narrow (a .start) (now (a .bytes)) (p .0) (p .1) (a .ty) (sym (c .before .before .before .before .from-bytes .ensures) ∙ c .before .before .v .given .1))
 

@@ -50,8 +50,9 @@ add-read-bytes c =
 
 read-bytes-requires : tie.Need-read-bytes-requires
 read-bytes-requires c κs =
-    let h = rw (← c .before .before .alignment .ensures .0, ← c .before .slot-start .ensures, ← c .before .before .before .fixed-data-start .ensures, ← c .fixed-size .ensures .0) at (c .before .before .before .before .before .before .before .before .before .pre .slot (sym (c .before .before .before .before .before .is-variable-length .ensures) ∙ c .before .before .before .before .if2 .left)) in
-    (c .before .before .before .before .before .before .before .before .before .pre .digits, (omega arith, (h, λ f. rw (← c .fixed-size .ensures .0) (omega arith))))
+    let entry = c .before .before .before .before .before .before .before .before .before in
+    let h = rw (← c .before .before .alignment .ensures .0, ← c .before .slot-start .ensures, ← c .before .before .before .fixed-data-start .ensures, ← c .fixed-size .ensures .0) at (entry .pre .slot (sym (c .before .before .before .before .before .is-variable-length .ensures) ∙ c .before .before .before .before .if2 .left)) in
+    (entry .pre .digits, (omega arith, (h, λ f. rw (← c .fixed-size .ensures .0) (omega arith))))
 
 returns-3 : tie.Need-returns-3
 returns-3 c =

@@ -22,7 +22,9 @@ loop-holds : tie.Need-loop-holds Inv-loop μ-loop
 loop-holds c = rw (c .new .ensures) (decode-start (c .before .before .before .before .before .pre))
 
 decode-column-requires : tie.Need-decode-column-requires Inv-loop μ-loop
-decode-column-requires c κs = (decode-at (c .before .before .before .before .before .before .before .before .pre) (c .before .before .loop .inv) (c .before .loop-test .taken), c .before .before .before .before .before .before .before .before .pre .flags)
+decode-column-requires c κs =
+    let entry = c .before .before .before .before .before .before .before .before in
+    (decode-at (entry .pre) (c .before .before .loop .inv) (c .before .loop-test .taken), entry .pre .flags)
 
 enum-known-e : tie.Need-enum-known-e Inv-loop μ-loop
 enum-known-e c = search needs

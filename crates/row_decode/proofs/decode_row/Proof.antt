@@ -25,9 +25,10 @@ decode-values-requires c κs = framed (c .before .before .before .before .before
 
 returns : tie.Need-returns
 returns c =
-    let a = c .before .before .before .before .before .before .before .before .args in
+    let entry = c .before .before .before .before .before .before .before .before in
+    let a = entry .args in
     frame-refused rowLimit (typesIn (now (a .schema))) (now (a .row))
-    (c .before .before .before .before .before .before .before .before .pre .layout) (unchanged (now (a .out))) _
+    (entry .pre .layout) (unchanged (now (a .out))) _
     (sym (c .before .before .before .check-frame .ensures) ∙ c .before .e .given .1)
 
 same-length : tie.Need-same-length
@@ -35,9 +36,10 @@ same-length c = search needs
 
 returns-2 : tie.Need-returns-2
 returns-2 c =
-    let a = c .before .before .before .before .before .before .before .before .before .before .before .before .args in
+    let entry = c .before .before .before .before .before .before .before .before .before .before .before .before in
+    let a = entry .args in
     let ts = typesIn (now (a .schema)) in
-    let known = c .before .before .before .before .before .before .before .before .before .before .before .before .pre .layout in
+    let known = entry .pre .layout in
     c .before .before .decode-values .ensures
     ∙ ap (handOut (now (a .out))) (read-walked _ ts (isWanted (now (a .wanted))) (now (a .row)) known)
     ∙ frame-good rowLimit ts (now (a .row)) known (unchanged (now (a .out)))

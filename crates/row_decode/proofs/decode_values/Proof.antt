@@ -26,9 +26,10 @@ same-length c = search needs
 
 returns : tie.Need-returns
 returns c =
-    let a = c .before .before .before .before .before .before .before .before .before .before .before .before .before .before .args in
+    let entry = c .before .before .before .before .before .before .before .before .before .before .before .before .before .before in
+    let a = entry .args in
     let w = now (a .wanted) in
-    c .before .before .decode-short .ensures ∙ ap (handOut (now (a .out))) (same-flags (a .layout) (a .packed) (now (a .row)) _ (isWanted w) 256 (λ i h. rw (c .before .before .before .before .before .before .before .before .mark-wanted .ensures) (marks-tell 256 w i h)) noColumns (typesIn (now (a .schema))) (few-columns (c .before .before .before .before .before .before .before .before .before .before .before .before .before .before .pre .accepted)))
+    c .before .before .decode-short .ensures ∙ ap (handOut (now (a .out))) (same-flags (a .layout) (a .packed) (now (a .row)) _ (isWanted w) 256 (λ i h. rw (c .before .before .before .before .before .before .before .before .mark-wanted .ensures) (marks-tell 256 w i h)) noColumns (typesIn (now (a .schema))) (few-columns (entry .pre .accepted)))
 
 slice-aggregate-decode-long : tie.Need-slice-aggregate-decode-long
 slice-aggregate-decode-long c = search needs
@@ -41,9 +42,10 @@ same-length-2 c = search needs
 
 returns-2 : tie.Need-returns-2
 returns-2 c =
-    let a = c .before .before .before .before .before .before .before .before .before .before .before .before .before .before .args in
+    let entry = c .before .before .before .before .before .before .before .before .before .before .before .before .before .before in
+    let a = entry .args in
     let w = now (a .wanted) in
-    c .before .before .decode-long .ensures ∙ ap (handOut (now (a .out))) (same-flags (a .layout) (a .packed) (now (a .row)) _ (isWanted w) 256 (λ i h. rw (c .before .before .before .before .before .before .before .before .mark-wanted .ensures) (marks-tell 256 w i h)) noColumns (typesIn (now (a .schema))) (few-columns (c .before .before .before .before .before .before .before .before .before .before .before .before .before .before .pre .accepted)))
+    c .before .before .decode-long .ensures ∙ ap (handOut (now (a .out))) (same-flags (a .layout) (a .packed) (now (a .row)) _ (isWanted w) 256 (λ i h. rw (c .before .before .before .before .before .before .before .before .mark-wanted .ensures) (marks-tell 256 w i h)) noColumns (typesIn (now (a .schema))) (few-columns (entry .pre .accepted)))
 
 pub decode-values-spec : {M : Type 1} → statement M
 decode-values-spec =

@@ -16,10 +16,14 @@ returns : tie.Need-returns
 returns c = rw (c .before .before .answer2 .given .1, lt-ltb _ _ (c .if1 .taken))
 
 slice-aggregate-copy : tie.Need-slice-aggregate-copy
-slice-aggregate-copy c = let h = rw (c .before .before .before .before .answer2 .given .1) at (c .before .before .before .before .before .before .before .before .pre) in sym (length-take-le _ (now (c .before .before .before .before .before .before .before .before .args .buf)) h)
+slice-aggregate-copy c =
+    let entry = c .before .before .before .before .before .before .before .before in
+    let h = rw (c .before .before .before .before .answer2 .given .1) at (entry .pre) in sym (length-take-le _ (now (entry .args .buf)) h)
 
 copy-requires : tie.Need-copy-requires
-copy-requires c κs = let h = rw (c .before .before .before .before .answer2 .given .1) at (c .before .before .before .before .before .before .before .before .pre) in rw (length-take-le _ (now (c .before .before .before .before .before .before .before .before .args .buf)) h) (search needs)
+copy-requires c κs =
+    let entry = c .before .before .before .before .before .before .before .before in
+    let h = rw (c .before .before .before .before .answer2 .given .1) at (entry .pre) in rw (length-take-le _ (now (entry .args .buf)) h) (search needs)
 
 returns-2 : tie.Need-returns-2
 returns-2 c = rw (c .before .answer .given .1)

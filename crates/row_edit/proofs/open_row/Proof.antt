@@ -29,8 +29,9 @@ enum-known-packed c = search needs
 
 returns-2 : tie.Need-returns-2
 returns-2 c =
-    let a = c .before .before .before .before .before .before .before .before .before .before .args in
-    open-none offsetWidth rowLimit (typesIn (now (a .schema))) (now (a .buf)) (a .n) (a .column) (c .before .before .before .before .before .before .before .if1 .left) (sym (c .before .before .before .before .before .check-sound .ensures) ∙ c .before .before .before .packed .given .1) (omega (arith, columns-all (c .before .before .before .before .before .before .before .before .before .before .pre), c .if2 .taken))
+    let entry = c .before .before .before .before .before .before .before .before .before .before in
+    let a = entry .args in
+    open-none offsetWidth rowLimit (typesIn (now (a .schema))) (now (a .buf)) (a .n) (a .column) (c .before .before .before .before .before .before .before .if1 .left) (sym (c .before .before .before .before .before .check-sound .ensures) ∙ c .before .before .before .packed .given .1) (omega (arith, columns-all (entry .pre), c .if2 .taken))
 
 returns-3 : tie.Need-returns-3
 returns-3 c =
@@ -39,8 +40,9 @@ returns-3 c =
 
 returns-4 : tie.Need-returns-4
 returns-4 c =
-    let a = c .before .before .before .before .before .before .before .before .before .before .args in
-    open-good offsetWidth rowLimit (typesIn (now (a .schema))) (now (a .buf)) (a .n) (a .column) (c .before .before .before .before .before .before .before .if1 .left) (sym (c .before .before .before .before .before .check-sound .ensures) ∙ c .before .before .before .packed .given .1) (omega (arith, columns-all (c .before .before .before .before .before .before .before .before .before .before .pre), c .if2 .left))
+    let entry = c .before .before .before .before .before .before .before .before .before .before in
+    let a = entry .args in
+    open-good offsetWidth rowLimit (typesIn (now (a .schema))) (now (a .buf)) (a .n) (a .column) (c .before .before .before .before .before .before .before .if1 .left) (sym (c .before .before .before .before .before .check-sound .ensures) ∙ c .before .before .before .packed .given .1) (omega (arith, columns-all (entry .pre), c .if2 .left))
 
 pub open-row-spec : {M : Type 1} → statement M
 open-row-spec =

@@ -11,7 +11,9 @@ use Rattle.row_edit.specs.Edit.{written}
 use Rattle.row_edit.proofs.Opening.{kind-bad, suit-bad, suit-good}
 
 column-at-requires : tie.Need-column-at-requires
-column-at-requires c κs = (c .before .before .before .pre .accepted .schema, c .before .before .before .pre .column)
+column-at-requires c κs =
+    let entry = c .before .before .before in
+    (entry .pre .accepted .schema, entry .pre .column)
 
 data-value-matches-type-requires : tie.Need-data-value-matches-type-requires
 data-value-matches-type-requires c κs = search needs

@@ -11,7 +11,9 @@ use Rattle.row_edit.specs.Edit.{written}
 use Rattle.row_edit.proofs.Opening.{given-one}
 
 value-record-at-requires : tie.Need-value-record-at-requires
-value-record-at-requires c κs = sole-there rowLimit (length (now (c .before .before .before .before .args .area))) (now (c .before .before .before .before .args .values)) (sym (c .before .before .before .before .pre .1))
+value-record-at-requires c κs =
+    let entry = c .before .before .before .before in
+    sole-there rowLimit (length (now (entry .args .area))) (now (entry .args .values)) (sym (entry .pre .1))
 
 enum-known-e : tie.Need-enum-known-e
 enum-known-e c = search needs
@@ -23,16 +25,19 @@ set-column-requires : tie.Need-set-column-requires
 set-column-requires c κs = c .before .before .before .before .before .before .before .before .before .pre .0
 
 returns : tie.Need-returns
-returns c = absurd (sole-good rowLimit (length (now (c .before .before .before .before .before .before .before .before .args .area))) (now (c .before .before .before .before .before .before .before .before .args .values)) (sym (c .before .before .before .before .before .before .before .before .pre .1)) _ (sym (c .before .before .before .value-record-at .ensures) ∙ c .before .e .given .1))
+returns c =
+    let entry = c .before .before .before .before .before .before .before .before in
+    absurd (sole-good rowLimit (length (now (entry .args .area))) (now (entry .args .values)) (sym (entry .pre .1)) _ (sym (c .before .before .before .value-record-at .ensures) ∙ c .before .e .given .1))
 
 same-length : tie.Need-same-length
 same-length c = search needs
 
 returns-2 : tie.Need-returns-2
 returns-2 c =
-    let a = c .before .before .before .before .before .before .before .before .before .before .before .before .args in
+    let entry = c .before .before .before .before .before .before .before .before .before .before .before .before in
+    let a = entry .args in
     let ts = typesIn (now (a .schema)) in
-    c .before .before .set-column .ensures ∙ ap (written offsetWidth rowLimit ts (a .packed) (now (a .buf)) (a .n) (a .column)) (sym (given-one rowLimit (typeAt ts (a .column)) (a .column) (now (a .values)) (now (a .area)) (sole-value rowLimit (length (now (a .area))) (now (a .values)) (sym (c .before .before .before .before .before .before .before .before .before .before .before .before .pre .1)) _ _ (sym (c .before .before .before .before .before .before .before .value-record-at .ensures) ∙ c .before .before .before .before .before .v .given .1))))
+    c .before .before .set-column .ensures ∙ ap (written offsetWidth rowLimit ts (a .packed) (now (a .buf)) (a .n) (a .column)) (sym (given-one rowLimit (typeAt ts (a .column)) (a .column) (now (a .values)) (now (a .area)) (sole-value rowLimit (length (now (a .area))) (now (a .values)) (sym (entry .pre .1)) _ _ (sym (c .before .before .before .before .before .before .before .value-record-at .ensures) ∙ c .before .before .before .before .before .v .given .1))))
 
 pub set-record-spec : {M : Type 1} → statement M
 set-record-spec =

@@ -6,7 +6,9 @@ is-variable-length-requires : tie.Need-is-variable-length-requires
 is-variable-length-requires c κs = search needs
 
 set-varlen-requires : tie.Need-set-varlen-requires
-set-varlen-requires c κs = (c .before .before .before .before .before .before .pre .0, (c .before .before .before .before .before .before .pre .1 .0, (rw (c .before .before .is-variable-length .ensures) at (c .before .if1 .taken), c .before .before .before .before .before .before .pre .1 .1)))
+set-varlen-requires c κs =
+    let entry = c .before .before .before .before .before .before in
+    (entry .pre .0, (entry .pre .1 .0, (rw (c .before .before .is-variable-length .ensures) at (c .before .if1 .taken), entry .pre .1 .1)))
 
 same-length : tie.Need-same-length
 same-length c = search needs
@@ -15,7 +17,9 @@ returns : tie.Need-returns
 returns c = c .before .before .set-varlen .ensures
 
 set-fixed-requires : tie.Need-set-fixed-requires
-set-fixed-requires c κs = (c .before .before .before .before .before .before .pre .0, (c .before .before .before .before .before .before .pre .1 .0, (rw (c .before .before .is-variable-length .ensures) at (c .before .if1 .left), c .before .before .before .before .before .before .pre .1 .1)))
+set-fixed-requires c κs =
+    let entry = c .before .before .before .before .before .before in
+    (entry .pre .0, (entry .pre .1 .0, (rw (c .before .before .is-variable-length .ensures) at (c .before .if1 .left), entry .pre .1 .1)))
 
 same-length-2 : tie.Need-same-length-2
 same-length-2 c = search needs

@@ -16,44 +16,61 @@ slice-aggregate-range-at c = sym (length-take-le _ _ (c .before .before .before 
 
 range-at-requires : tie.Need-range-at-requires
 range-at-requires c κs =
-    let r = reaches (c .before .before .before .before .before .pre .0) (c .before .before .before .before .before .pre .1 .0) in
-    (r .whole, (r .rank (c .before .before .before .before .before .pre .1 .1 .0), r .table))
+    let entry = c .before .before .before .before .before in
+    let r = reaches (entry .pre .0) (entry .pre .1 .0) in
+    (r .whole, (r .rank (entry .pre .1 .1 .0), r .table))
 
 sub-kept : tie.Need-sub-kept
-sub-kept c = range-within (c .before .before .before .before .before .before .pre .0) (c .before .before .before .before .before .before .pre .1 .0) (c .before .before .before .before .before .before .pre .1 .1 .0) (c .range-at .ensures)
+sub-kept c =
+    let entry = c .before .before .before .before .before .before in
+    range-within (entry .pre .0) (entry .pre .1 .0) (entry .pre .1 .1 .0) (c .range-at .ensures)
 
 add-kept : tie.Need-add-kept
-add-kept c = omega (arith, kept-limit (c .before .before .before .before .before .before .pre .0) (c .before .before .before .before .before .before .pre .1 .0) (c .before .before .before .before .before .before .pre .1 .1 .0) (c .range-at .ensures))
+add-kept c =
+    let entry = c .before .before .before .before .before .before in
+    omega (arith, kept-limit (entry .pre .0) (entry .pre .1 .0) (entry .pre .1 .1 .0) (c .range-at .ensures))
 
 range-requires : tie.Need-range-requires
 range-requires c κs = search needs
 
 sub-if1 : tie.Need-sub-if1
-sub-if1 c = kept-limit (c .before .before .before .before .before .before .before .pre .0) (c .before .before .before .before .before .before .before .pre .1 .0) (c .before .before .before .before .before .before .before .pre .1 .1 .0) (c .before .range-at .ensures)
+sub-if1 c =
+    let entry = c .before .before .before .before .before .before .before in
+    kept-limit (entry .pre .0) (entry .pre .1 .0) (entry .pre .1 .1 .0) (c .before .range-at .ensures)
 
 same-length : tie.Need-same-length
 same-length c = search needs
 
 returns : tie.Need-returns
-returns c = varlen-long (c .before .before .before .before .before .before .before .before .before .pre .0) (c .before .before .before .before .before .before .before .before .before .pre .1 .0) (c .before .before .before .before .before .before .before .before .before .pre .1 .1 .0) (c .before .before .before .range-at .ensures) (c .before .before .before .before .before .before .before .before .before .pre .1 .1 .1) (rw (c .before .before .range .ensures) at (c .if1 .taken))
+returns c =
+    let entry = c .before .before .before .before .before .before .before .before .before in
+    varlen-long (entry .pre .0) (entry .pre .1 .0) (entry .pre .1 .1 .0) (c .before .before .before .range-at .ensures) (entry .pre .1 .1 .1) (rw (c .before .before .range .ensures) at (c .if1 .taken))
 
 add-if2 : tie.Need-add-if2
-add-if2 c = omega (arith, kept-limit (c .before .before .before .before .before .before .before .before .before .before .pre .0) (c .before .before .before .before .before .before .before .before .before .before .pre .1 .0) (c .before .before .before .before .before .before .before .before .before .before .pre .1 .1 .0) (c .before .before .before .before .range-at .ensures), c .before .if1 .left)
+add-if2 c =
+    let entry = c .before .before .before .before .before .before .before .before .before .before in
+    omega (arith, kept-limit (entry .pre .0) (entry .pre .1 .0) (entry .pre .1 .1 .0) (c .before .before .before .before .range-at .ensures), c .before .if1 .left)
 
 same-length-2 : tie.Need-same-length-2
 same-length-2 c = search needs
 
 returns-2 : tie.Need-returns-2
-returns-2 c = varlen-room (c .before .before .before .before .before .before .before .before .before .before .before .pre .0) (c .before .before .before .before .before .before .before .before .before .before .before .pre .1 .0) (c .before .before .before .before .before .before .before .before .before .before .before .pre .1 .1 .0) (c .before .before .before .before .before .range-at .ensures) (c .before .before .before .before .before .before .before .before .before .before .before .pre .1 .1 .1) (rw (c .before .before .before .before .range .ensures) at (c .before .before .if1 .left)) (rw (c .before .before .before .before .range .ensures) at (c .if2 .taken))
+returns-2 c =
+    let entry = c .before .before .before .before .before .before .before .before .before .before .before in
+    varlen-room (entry .pre .0) (entry .pre .1 .0) (entry .pre .1 .1 .0) (c .before .before .before .before .before .range-at .ensures) (entry .pre .1 .1 .1) (rw (c .before .before .before .before .range .ensures) at (c .before .before .if1 .left)) (rw (c .before .before .before .before .range .ensures) at (c .if2 .taken))
 
 write-value-requires : tie.Need-write-value-requires
-write-value-requires c κs = (varlen-ready (c .before .before .before .before .before .before .before .before .before .before .before .before .pre .0) (c .before .before .before .before .before .before .before .before .before .before .before .before .pre .1 .0) (c .before .before .before .before .before .before .before .before .before .before .before .before .pre .1 .1 .0) (c .before .before .before .before .before .before .range-at .ensures) (rangeOf (c .before .before .before .before .before .before .before .before .before .before .before .before .args .value) .length) (rw (c .before .before .before .before .before .range .ensures) at (c .before .before .before .if1 .left)) (rw (c .before .before .before .before .before .range .ensures) at (c .before .if2 .left)), c .before .before .before .before .before .before .before .before .before .before .before .before .pre .1 .1 .1)
+write-value-requires c κs =
+    let entry = c .before .before .before .before .before .before .before .before .before .before .before .before in
+    (varlen-ready (entry .pre .0) (entry .pre .1 .0) (entry .pre .1 .1 .0) (c .before .before .before .before .before .before .range-at .ensures) (rangeOf (entry .args .value) .length) (rw (c .before .before .before .before .before .range .ensures) at (c .before .before .before .if1 .left)) (rw (c .before .before .before .before .before .range .ensures) at (c .before .if2 .left)), entry .pre .1 .1 .1)
 
 same-length-3 : tie.Need-same-length-3
 same-length-3 c = search needs
 
 returns-3 : tie.Need-returns-3
-returns-3 c = varlen-done (c .before .before .before .before .before .before .before .before .before .before .before .before .before .before .before .pre .0) (c .before .before .before .before .before .before .before .before .before .before .before .before .before .before .before .pre .1 .0) (c .before .before .before .before .before .before .before .before .before .before .before .before .before .before .before .pre .1 .1 .0) (c .before .before .before .before .before .before .before .before .before .range-at .ensures) (c .before .before .before .before .before .before .before .before .before .before .before .before .before .before .before .pre .1 .1 .1) (c .before .before .write-value .ensures) (rw (c .before .before .before .before .before .before .before .before .range .ensures) at (c .before .before .before .before .before .before .if1 .left)) (rw (c .before .before .before .before .before .before .before .before .range .ensures) at (c .before .before .before .before .if2 .left))
+returns-3 c =
+    let entry = c .before .before .before .before .before .before .before .before .before .before .before .before .before .before .before in
+    varlen-done (entry .pre .0) (entry .pre .1 .0) (entry .pre .1 .1 .0) (c .before .before .before .before .before .before .before .before .before .range-at .ensures) (entry .pre .1 .1 .1) (c .before .before .write-value .ensures) (rw (c .before .before .before .before .before .before .before .before .range .ensures) at (c .before .before .before .before .before .before .if1 .left)) (rw (c .before .before .before .before .before .before .before .before .range .ensures) at (c .before .before .before .before .if2 .left))
 
 pub set-varlen-spec : {M : Type 1} → statement M
 set-varlen-spec =

@@ -15,8 +15,9 @@ same-length c = search needs
 
 returns : tie.Need-returns
 returns c =
-    let a = c .before .before .before .before .before .before .before .before .before .args in
-    let h = c .before .before .before .before .before .before .before .before .before .pre .0 in
+    let entry = c .before .before .before .before .before .before .before .before .before in
+    let a = entry .args in
+    let h = entry .pre .0 in
     table-edited 2 (a .table) (a .varlens) (a .rank) (a .own) (a .end) (a .new-end) (now (a .row)) (c .before .before .before .before .before .before .before .before .slice-known .given) (h .ranked) (h .inside) _ _ (c .before .before .before .before .before .before .move-offsets .ensures) (c .before .before .put-offset .ensures)
 
 pub edit-table-spec : {M : Type 1} → statement M

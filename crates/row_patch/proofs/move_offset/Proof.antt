@@ -38,9 +38,10 @@ same-length-2 c = search needs
 
 returns-2 : tie.Need-returns-2
 returns-2 c =
-    let a = c .before .before .before .before .args in
+    let entry = c .before .before .before .before in
+    let a = entry .args in
     let o = c .before .offset-at in
-    offset-kept 2 (a .table) (a .rank) (a .end) (a .new-end) (o .result) (now (a .row)) (o .ensures .0) (c .before .before .before .slice-known .given) (c .before .before .before .before .pre .0) (c .if1 .left)
+    offset-kept 2 (a .table) (a .rank) (a .end) (a .new-end) (o .result) (now (a .row)) (o .ensures .0) (c .before .before .before .slice-known .given) (entry .pre .0) (c .if1 .left)
 
 pub move-offset-spec : {M : Type 1} → statement M
 move-offset-spec =

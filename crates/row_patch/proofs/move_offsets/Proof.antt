@@ -17,7 +17,9 @@ loop-holds : tie.Need-loop-holds Inv-loop μ-loop
 loop-holds c = moving-start (c .before .pre)
 
 move-offset-requires : tie.Need-move-offset-requires Inv-loop μ-loop
-move-offset-requires c κs = (moving-inside (c .before .before .before .before .pre) (c .before .before .loop .inv) (c .before .loop-test .taken), moving-may (c .before .before .before .before .pre) (c .before .before .loop .inv) (c .before .loop-test .taken))
+move-offset-requires c κs =
+    let entry = c .before .before .before .before in
+    (moving-inside (entry .pre) (c .before .before .loop .inv) (c .before .loop-test .taken), moving-may (entry .pre) (c .before .before .loop .inv) (c .before .loop-test .taken))
 
 add-k-2 : tie.Need-add-k-2 Inv-loop μ-loop
 add-k-2 c = search needs

@@ -22,21 +22,24 @@ slice-relend-prefix-edit-table c = search needs
 
 slice-aggregate-edit-table : tie.Need-slice-aggregate-edit-table
 slice-aggregate-edit-table c =
-    let a = c .before .before .before .before .before .before .args in
-    lent-length (c .before .before .before .before .before .before .pre) none refl (a .start + (a .n - a .end)) (a .start) (rw add-zero) (rw add-zero) _ (c .before .before .before .remove .ensures)
+    let entry = c .before .before .before .before .before .before in
+    let a = entry .args in
+    lent-length (entry .pre) none refl (a .start + (a .n - a .end)) (a .start) (rw add-zero) (rw add-zero) _ (c .before .before .before .remove .ensures)
 
 edit-table-requires : tie.Need-edit-table-requires
 edit-table-requires c κs =
-    let a = c .before .before .before .before .before .before .args in
-    (table-ready (c .before .before .before .before .before .before .pre) none refl (a .start + (a .n - a .end)) (a .start) (rw add-zero) (rw add-zero) _ (c .before .before .before .remove .ensures), omega arith)
+    let entry = c .before .before .before .before .before .before in
+    let a = entry .args in
+    (table-ready (entry .pre) none refl (a .start + (a .n - a .end)) (a .start) (rw add-zero) (rw add-zero) _ (c .before .before .before .remove .ensures), omega arith)
 
 same-length : tie.Need-same-length
 same-length c = search needs
 
 returns : tie.Need-returns
 returns c =
-    let a = c .before .before .before .before .before .before .before .before .before .args in
-    table-done (c .before .before .before .before .before .before .before .before .before .pre) none refl (a .start + (a .n - a .end)) (a .start) (rw add-zero) (rw add-zero) _ (c .before .before .before .before .before .before .remove .ensures) _ (c .before .before .edit-table .ensures)
+    let entry = c .before .before .before .before .before .before .before .before .before in
+    let a = entry .args in
+    table-done (entry .pre) none refl (a .start + (a .n - a .end)) (a .start) (rw add-zero) (rw add-zero) _ (c .before .before .before .before .before .before .remove .ensures) _ (c .before .before .edit-table .ensures)
 
 pub null-varlen-spec : {M : Type 1} → statement M
 null-varlen-spec =

@@ -19,8 +19,9 @@ part-to-bytes-for-type-end c = search needs
 
 to-bytes-for-type-requires : tie.Need-to-bytes-for-type-requires
 to-bytes-for-type-requires c κs =
-    let a = c .before .before .before .before .before .before .before .args in
-    let p = c .before .before .before .before .before .before .before .pre in
+    let entry = c .before .before .before .before .before .before .before in
+    let a = entry .args in
+    let p = entry .pre in
     (p .1 .0 .digits, (p .1 .0 .holds, form-fits (p .0) (formOf (a .ty) (a .value) (now (a .area))) (p .1 .1) _ (c .before .before .before .move-tail .ensures)))
 
 same-length : tie.Need-same-length
@@ -28,8 +29,9 @@ same-length c = search needs
 
 returns : tie.Need-returns
 returns c =
-    let a = c .before .before .before .before .before .before .before .before .before .before .args in
-    let p = c .before .before .before .before .before .before .before .before .before .before .pre in
+    let entry = c .before .before .before .before .before .before .before .before .before .before in
+    let a = entry .args in
+    let p = entry .pre in
     form-stored (p .0) (formOf (a .ty) (a .value) (now (a .area))) (p .1 .1) _ (c .before .before .before .before .before .before .move-tail .ensures) _ (c .before .before .to-bytes-for-type .ensures)
 
 pub replace-spec : {M : Type 1} → statement M

@@ -34,16 +34,18 @@ slot-start-requires c κs = search needs
 
 add-at : tie.Need-add-at
 add-at c =
-    let p = c .before .before .before .before .before .before .before .pre .0 in
-    let h = rw (← c .before .alignment .ensures .0, ← c .slot-start .ensures, ← c .before .before .fixed-data-start .ensures, length-take-le (c .before .before .before .before .before .before .before .args .n) (now (c .before .before .before .before .before .before .before .args .buf)) (p .inside)) at (p .reach .slot (sym (c .before .before .before .before .is-variable-length .ensures) ∙ c .before .before .before .if1 .left)) in
+    let entry = c .before .before .before .before .before .before .before in
+    let p = entry .pre .0 in
+    let h = rw (← c .before .alignment .ensures .0, ← c .slot-start .ensures, ← c .before .before .fixed-data-start .ensures, length-take-le (entry .args .n) (now (entry .args .buf)) (p .inside)) at (p .reach .slot (sym (c .before .before .before .before .is-variable-length .ensures) ∙ c .before .before .before .if1 .left)) in
     search needs
 
 store-fixed-requires : tie.Need-store-fixed-requires
 store-fixed-requires c κs =
-    let p = c .before .before .before .before .before .before .before .before .pre in
+    let entry = c .before .before .before .before .before .before .before .before in
+    let p = entry .pre in
     let f = sym (c .before .before .before .before .before .is-variable-length .ensures) ∙ c .before .before .before .before .if1 .left in
     let h = rw (← c .before .before .alignment .ensures .0, ← c .before .slot-start .ensures, ← c .before .before .before .fixed-data-start .ensures) at (p .0 .reach .slot f) in
-    (p .1, (f, (rw (length-take-le (c .before .before .before .before .before .before .before .before .args .n) (now (c .before .before .before .before .before .before .before .before .args .buf)) (p .0 .inside)) at h, p .0 .inside)))
+    (p .1, (f, (rw (length-take-le (entry .args .n) (now (entry .args .buf)) (p .0 .inside)) at h, p .0 .inside)))
 
 same-length-2 : tie.Need-same-length-2
 same-length-2 c = search needs

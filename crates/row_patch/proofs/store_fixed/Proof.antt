@@ -16,8 +16,9 @@ same-length c = search needs
 
 returns : tie.Need-returns
 returns c =
-    let a = c .before .before .before .before .before .before .args in
-    let p = c .before .before .before .before .before .before .pre in
+    let entry = c .before .before .before .before .before .before in
+    let a = entry .args in
+    let p = entry .pre in
     slot-stored (now (a .buf)) (formOf (a .ty) (a .value) (now (a .area))) _ (a .n) (a .at) _ (length-slot (p .0) (p .1 .0)) (p .1 .1 .0) (p .1 .1 .1) (c .before .before .to-bytes-for-type .ensures)
 
 pub store-fixed-spec : {M : Type 1} → statement M

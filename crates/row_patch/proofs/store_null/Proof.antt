@@ -21,7 +21,9 @@ returns : tie.Need-returns
 returns c = rw (← c .before .before .before .before .before .before .is-variable-length .ensures, c .before .before .before .before .before .if1 .taken, ← c .before .before .before .before .varlen-table-offset .ensures) (c .before .before .null-varlen .ensures)
 
 returns-2 : tie.Need-returns-2
-returns-2 c = rw (← c .before .is-variable-length .ensures, c .if1 .left) (held-same (now (c .before .before .before .args .buf)) (c .before .before .before .args .n) (c .before .before .before .pre .inside))
+returns-2 c =
+    let entry = c .before .before .before in
+    rw (← c .before .is-variable-length .ensures, c .if1 .left) (held-same (now (entry .args .buf)) (entry .args .n) (entry .pre .inside))
 
 pub store-null-spec : {M : Type 1} → statement M
 store-null-spec =

@@ -41,8 +41,9 @@ slice-relend-prefix-edit-table c =
 
 slice-aggregate-edit-table : tie.Need-slice-aggregate-edit-table
 slice-aggregate-edit-table c =
-    let a = c .before .before .before .before .before .before .before .before .args in
-    let p = c .before .before .before .before .before .before .before .before .pre in
+    let entry = c .before .before .before .before .before .before .before .before in
+    let a = entry .args in
+    let p = entry .pre in
     let e = c .before .before .before .before .before .range .ensures in
     let g = rw (← e) at (p .0) in
     let size = c .before .before .before .before .before .range .result .length in
@@ -55,8 +56,9 @@ add-edit-table c =
 
 edit-table-requires : tie.Need-edit-table-requires
 edit-table-requires c κs =
-    let a = c .before .before .before .before .before .before .before .before .args in
-    let p = c .before .before .before .before .before .before .before .before .pre in
+    let entry = c .before .before .before .before .before .before .before .before in
+    let a = entry .args in
+    let p = entry .pre in
     let e = c .before .before .before .before .before .range .ensures in
     let g = rw (← e) at (p .0) in
     let size = c .before .before .before .before .before .range .result .length in
@@ -67,8 +69,9 @@ same-length c = search needs
 
 returns : tie.Need-returns
 returns c =
-    let a = c .before .before .before .before .before .before .before .before .before .before .before .args in
-    let p = c .before .before .before .before .before .before .before .before .before .before .before .pre in
+    let entry = c .before .before .before .before .before .before .before .before .before .before .before in
+    let a = entry .args in
+    let p = entry .pre in
     let e = c .before .before .before .before .before .before .before .before .range .ensures in
     let g = rw (← e) at (p .0) in
     let size = c .before .before .before .before .before .before .before .before .range .result .length in

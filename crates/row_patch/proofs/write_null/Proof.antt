@@ -8,20 +8,27 @@ store-null-requires c κs = search needs
 
 slice-relend-prefix-put-bit : tie.Need-slice-relend-prefix-put-bit
 slice-relend-prefix-put-bit c =
-    let k = bit-room (c .before .before .before .before .before .pre) (sized-null (c .before .before .before .before .before .args .ty)) _ _ (c .before .before .store-null .ensures) in
+    let entry = c .before .before .before .before .before in
+    let k = bit-room (entry .pre) (sized-null (entry .args .ty)) _ _ (c .before .before .store-null .ensures) in
     search needs
 
 slice-aggregate-put-bit : tie.Need-slice-aggregate-put-bit
-slice-aggregate-put-bit c = bit-part (c .before .before .before .before .before .before .pre) (sized-null (c .before .before .before .before .before .before .args .ty)) _ _ (c .before .before .before .store-null .ensures)
+slice-aggregate-put-bit c =
+    let entry = c .before .before .before .before .before .before in
+    bit-part (entry .pre) (sized-null (entry .args .ty)) _ _ (c .before .before .before .store-null .ensures)
 
 put-bit-requires : tie.Need-put-bit-requires
-put-bit-requires c κs = bit-ready (c .before .before .before .before .before .before .pre) (sized-null (c .before .before .before .before .before .before .args .ty)) _ _ (c .before .before .before .store-null .ensures)
+put-bit-requires c κs =
+    let entry = c .before .before .before .before .before .before in
+    bit-ready (entry .pre) (sized-null (entry .args .ty)) _ _ (c .before .before .before .store-null .ensures)
 
 same-length : tie.Need-same-length
 same-length c = search needs
 
 returns : tie.Need-returns
-returns c = bit-done (c .before .before .before .before .before .before .before .before .before .pre) (sized-null (c .before .before .before .before .before .before .before .before .before .args .ty)) _ _ (c .before .before .before .before .before .before .store-null .ensures) _ (c .before .before .put-bit .ensures)
+returns c =
+    let entry = c .before .before .before .before .before .before .before .before .before in
+    bit-done (entry .pre) (sized-null (entry .args .ty)) _ _ (c .before .before .before .before .before .before .store-null .ensures) _ (c .before .before .put-bit .ensures)
 
 pub write-null-spec : {M : Type 1} → statement M
 write-null-spec =

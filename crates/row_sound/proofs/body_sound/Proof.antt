@@ -32,8 +32,9 @@ column-bit-is-set-requires c κs = search needs
 
 returns-2 : tie.Need-returns-2
 returns-2 c =
-    let a = c .before .before .before .before .before .before .args in
-    let p = c .before .before .before .before .before .before .pre in
+    let entry = c .before .before .before .before .before .before in
+    let a = entry .args in
+    let p = entry .pre in
     let b = bodily (p .0) (p .1 .0) (p .1 .1 .0) in
     null-sound (a .layout) (a .packed) (a .before) (now (a .row)) _ (ap isVarlen (body-typed b) ∙ body-fixed (now (a .schema)) (a .at) (a .kind) (c .before .before .if1 .left)) (sym (c .before .column-bit-is-set .ensures) ∙ c .if2 .taken)
 
@@ -44,34 +45,39 @@ char-sound-requires c κs =
 
 char-sound-requires-2 : tie.Need-char-sound-requires-2
 char-sound-requires-2 c κs =
-    let a = c .before .before .before .before .before .before .before .args in
-    let p = c .before .before .before .before .before .before .before .pre in
+    let entry = c .before .before .before .before .before .before .before in
+    let a = entry .args in
+    let p = entry .pre in
     rw (c .before .before .before .before .read-u16 .ensures) (as-char (a .layout) (a .packed) (a .before) (now (a .row)) (rw (typed-as (bodily (p .0) (p .1 .0) (p .1 .1 .0)) (c .match .keys2)) at (p .1 .1 .1)))
 
 record-sound-requires : tie.Need-record-sound-requires
 record-sound-requires c κs =
-    let a = c .before .before .before .before .before .before .before .args in
-    let p = c .before .before .before .before .before .before .before .pre in
+    let entry = c .before .before .before .before .before .before .before in
+    let a = entry .args in
+    let p = entry .pre in
     (p .1 .1 .0, (p .1 .1 .1, ap isVarlen (body-typed (bodily (p .0) (p .1 .0) (p .1 .1 .0))) ∙ body-fixed (now (a .schema)) (a .at) (a .kind) (c .before .before .before .if1 .left)))
 
 returns-3 : tie.Need-returns-3
 returns-3 c =
-    let a = c .before .before .before .before .before .before .before .before .args in
-    let p = c .before .before .before .before .before .before .before .before .pre in
+    let entry = c .before .before .before .before .before .before .before .before in
+    let a = entry .args in
+    let p = entry .pre in
     rw (typed-as (bodily (p .0) (p .1 .0) (p .1 .1 .0)) (c .before .match .keys1), ← c .before .before .before .before .before .read-u16 .ensures)
     (slot-told (a .layout) (a .packed) (a .before) (now (a .row)) (Char (c .before .before .before .before .before .read-u16 .result)) refl refl (sym (c .before .before .before .column-bit-is-set .ensures) ∙ c .before .before .if2 .left) refl (c .char-sound .ensures ∙ value-if _ _))
 
 returns-4 : tie.Need-returns-4
 returns-4 c =
-    let a = c .before .before .before .before .before .before .before .before .args in
-    let p = c .before .before .before .before .before .before .before .before .pre in
+    let entry = c .before .before .before .before .before .before .before .before in
+    let a = entry .args in
+    let p = entry .pre in
     rw (typed-as (bodily (p .0) (p .1 .0) (p .1 .1 .0)) (c .before .match .keys2), ← c .before .before .before .before .before .read-u16 .ensures)
     (slot-told (a .layout) (a .packed) (a .before) (now (a .row)) (Character (c .before .before .before .before .before .read-u16 .result)) refl refl (sym (c .before .before .before .column-bit-is-set .ensures) ∙ c .before .before .if2 .left) refl (c .char-sound2 .ensures ∙ value-if _ _))
 
 returns-5 : tie.Need-returns-5
 returns-5 c =
-    let a = c .before .before .before .before .before .before .before .args in
-    let p = c .before .before .before .before .before .before .before .pre in
+    let entry = c .before .before .before .before .before .before .before in
+    let a = entry .args in
+    let p = entry .pre in
     rw (typed-as (bodily (p .0) (p .1 .0) (p .1 .1 .0)) (c .match .keys3)) (any-sound (a .layout) (a .packed) (a .before) (now (a .row)) _ refl (λ i bs. refl))
 
 returns-6 : tie.Need-returns-6

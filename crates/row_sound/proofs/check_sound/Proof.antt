@@ -24,16 +24,18 @@ row-sound-requires c κs = framed (c .before .before .before .before .before .be
 
 returns : tie.Need-returns
 returns c =
-    let a = c .before .before .before .before .before .args in
+    let entry = c .before .before .before .before .before in
+    let a = entry .args in
     frame-refused rowLimit (typesIn (now (a .schema))) (now (a .row))
-    (c .before .before .before .before .before .pre .layout)
+    (entry .pre .layout)
     (λ e. NotSound) _ (sym (c .before .before .check-frame .ensures) ∙ c .enum-told .given .1)
 
 returns-2 : tie.Need-returns-2
 returns-2 c =
-    let a = c .before .before .before .before .before .before .before .args in
+    let entry = c .before .before .before .before .before .before .before in
+    let a = entry .args in
     let ts = typesIn (now (a .schema)) in
-    let known = c .before .before .before .before .before .before .before .pre .layout in
+    let known = entry .pre .layout in
     c .row-sound .ensures ∙ soundness-walked _ ts (now (a .row)) known
     ∙ frame-good rowLimit ts (now (a .row)) known (λ e. NotSound) (λ p. soundIn offsetWidth p ts (now (a .row)))
     (sym (c .before .before .before .before .check-frame .ensures) ∙ c .before .before .packed .given .1)

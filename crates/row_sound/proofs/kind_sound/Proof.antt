@@ -21,10 +21,11 @@ plain-size-requires c κs = search needs
 
 plain-sound-requires : tie.Need-plain-sound-requires
 plain-sound-requires c κs =
-    let a = c .before .before .before .before .before .args in
+    let entry = c .before .before .before .before .before in
+    let a = entry .args in
     let z = c .before .plain-size .ensures in
     let e = ap typeIn (plain-record (now (a .schema)) (a .at) (λ f. c .if1 .taken (z .0 ∙ f))) in
-    (z .0, (omega (arith, c .if1 .taken), (z .1, subst (λ (t : DataType). Reachable (a .layout) (a .packed) (a .before) t (now (a .row))) e (c .before .before .before .before .before .pre .1))))
+    (z .0, (omega (arith, c .if1 .taken), (z .1, subst (λ (t : DataType). Reachable (a .layout) (a .packed) (a .before) t (now (a .row))) e (entry .pre .1))))
 
 returns : tie.Need-returns
 returns c =

@@ -13,7 +13,9 @@ column-bit-is-set-requires : tie.Need-column-bit-is-set-requires
 column-bit-is-set-requires c κs = search needs
 
 offset-at-requires : tie.Need-offset-at-requires
-offset-at-requires c κs = let k = c .before .before .before .before .pre .rank refl in rw (c .before .before .varlen-table-offset .ensures) (omega (arith, k, c .before .before .before .before .pre .table))
+offset-at-requires c κs =
+    let entry = c .before .before .before .before in
+    let k = entry .pre .rank refl in rw (c .before .before .varlen-table-offset .ensures) (omega (arith, k, entry .pre .table))
 
 returns : tie.Need-returns
 returns c =
@@ -21,7 +23,9 @@ returns c =
     rw (varchar-told (a .layout) (a .packed) (a .before) (now (a .row)) (a .n), ← c .before .before .column-bit-is-set .ensures, c .before .if1 .taken, ← c .before .before .before .varlen-table-offset .ensures, ← c .offset-at .ensures .0)
 
 range-sound-requires : tie.Need-range-sound-requires
-range-sound-requires c κs = (c .before .before .before .before .pre .rank refl, rw (c .before .before .varlen-table-offset .ensures) (c .before .before .before .before .pre .table))
+range-sound-requires c κs =
+    let entry = c .before .before .before .before in
+    (entry .pre .rank refl, rw (c .before .before .varlen-table-offset .ensures) (entry .pre .table))
 
 returns-2 : tie.Need-returns-2
 returns-2 c =

@@ -24,25 +24,28 @@ enum-known-packed c = search needs
 
 read-column-requires : tie.Need-read-column-requires
 read-column-requires c κs =
-    let f = c .before .before .before .before .before .before .pre .1 .1 in
-    reach (framed (c .before .before .before .before .before .before .pre .0) (sym (c .before .before .before .check-frame .ensures) ∙ c .before .packed .given .1)) _ _ (c .before .before .before .before .before .before .args .column) (c .before .before .before .before .before .before .pre .1 .0) (f .layout) (f .type-is) (f .bounded) (f .digits)
+    let entry = c .before .before .before .before .before .before in
+    let f = entry .pre .1 .1 in
+    reach (framed (entry .pre .0) (sym (c .before .before .before .check-frame .ensures) ∙ c .before .packed .given .1)) _ _ (entry .args .column) (entry .pre .1 .0) (f .layout) (f .type-is) (f .bounded) (f .digits)
 
 text-read-requires : tie.Need-text-read-requires
 text-read-requires c κs = search needs
 
 returns : tie.Need-returns
 returns c =
-    let a = c .before .before .before .before .before .before .args in (
+    let entry = c .before .before .before .before .before .before in
+    let a = entry .args in (
       frame-refused rowLimit (typesIn (now (a .schema))) (now (a .row))
-          (c .before .before .before .before .before .before .pre .0 .layout)
+          (entry .pre .0 .layout)
           Refused _ (sym (c .before .before .before .check-frame .ensures) ∙ c .before .e .given .1),
       tt,
     )
 
 returns-2 : tie.Need-returns-2
 returns-2 c =
-    let a = c .before .before .before .before .before .before .before .before .args in
-    let h = c .before .before .before .before .before .before .before .before .pre in
+    let entry = c .before .before .before .before .before .before .before .before in
+    let a = entry .args in
+    let h = entry .pre in
     let f = h .1 .1 in
     let ts = typesIn (now (a .schema)) in
     let p = c .before .before .before .packed .given .0 .0 in

@@ -10,13 +10,17 @@ returns : tie.Need-returns
 returns c = (rw (← columns-all (c .before .before .before .before .pre)) (search by-tests), tt)
 
 column-at-requires : tie.Need-column-at-requires
-column-at-requires c κs = (c .before .before .before .before .pre .schema, omega (arith, columns-all (c .before .before .before .before .pre), c .if1 .left))
+column-at-requires c κs =
+    let entry = c .before .before .before .before in
+    (entry .pre .schema, omega (arith, columns-all (entry .pre), c .if1 .left))
 
 holds-text-requires : tie.Need-holds-text-requires
 holds-text-requires c κs = search needs
 
 text-in-row-requires : tie.Need-text-in-row-requires
-text-in-row-requires c κs = (c .before .before .before .before .before .before .before .pre, (omega (arith, columns-all (c .before .before .before .before .before .before .before .pre), c .before .before .before .if1 .left), c .before .before .column-at .ensures))
+text-in-row-requires c κs =
+    let entry = c .before .before .before .before .before .before .before in
+    (entry .pre, (omega (arith, columns-all (entry .pre), c .before .before .before .if1 .left), c .before .before .column-at .ensures))
 
 returns-2 : tie.Need-returns-2
 returns-2 c = (c .text-in-row .ensures .0 ∙ rw (← c .before .before .before .column-at .ensures .type-is, ← c .before .before .holds-text .ensures, ← columns-all (c .before .before .before .before .before .before .before .before .pre)) (search by-tests), c .text-in-row .ensures .1)

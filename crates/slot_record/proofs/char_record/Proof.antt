@@ -29,8 +29,9 @@ same-length c = search needs
 
 returns : tie.Need-returns
 returns c =
-    let a = c .before .before .before .before .before .before .before .before .before .args in
-    rw (← c .before .before .before .before .before .is-valid .ensures, c .before .before .before .before .if1 .taken, c .before .before .write-range .ensures .0, c .before .before .write-range .ensures .1, part-length (now (a .row)) (a .start) (a .end) (c .before .before .before .before .before .before .before .before .before .pre .0) (c .before .before .before .before .before .before .before .before .before .pre .1 .0))
+    let entry = c .before .before .before .before .before .before .before .before .before in
+    let a = entry .args in
+    rw (← c .before .before .before .before .before .is-valid .ensures, c .before .before .before .before .if1 .taken, c .before .before .write-range .ensures .0, c .before .before .write-range .ensures .1, part-length (now (a .row)) (a .start) (a .end) (entry .pre .0) (entry .pre .1 .0))
 
 returns-2 : tie.Need-returns-2
 returns-2 c = rw (← c .before .is-valid .ensures, c .if1 .left)

@@ -49,67 +49,84 @@ write-64-requires-2 : tie.Need-write-64-requires-2
 write-64-requires-2 c κs = omega (arith, c .before .before .before .before .before .pre .1 .1)
 
 bool-record-requires : tie.Need-bool-record-requires
-bool-record-requires c κs = let h = rw (c .before .match .keys6) at (c .before .before .before .before .pre .1 .0) in (h, c .before .before .before .before .pre .1 .1)
+bool-record-requires c κs =
+    let entry = c .before .before .before .before in
+    let h = rw (c .before .match .keys6) at (entry .pre .1 .0) in (h, entry .pre .1 .1)
 
 date-record-requires : tie.Need-date-record-requires
-date-record-requires c κs = let h = rw (c .before .match .keys7) at (c .before .before .before .before .pre .1 .0) in (h, c .before .before .before .before .pre .1 .1)
+date-record-requires c κs =
+    let entry = c .before .before .before .before in
+    let h = rw (c .before .match .keys7) at (entry .pre .1 .0) in (h, entry .pre .1 .1)
 
 time-record-requires : tie.Need-time-record-requires
-time-record-requires c κs = let h = rw (c .before .match .keys8) at (c .before .before .before .before .pre .1 .0) in (h, c .before .before .before .before .pre .1 .1)
+time-record-requires c κs =
+    let entry = c .before .before .before .before in
+    let h = rw (c .before .match .keys8) at (entry .pre .1 .0) in (h, entry .pre .1 .1)
 
 timestamp-record-requires : tie.Need-timestamp-record-requires
 timestamp-record-requires c κs =
+    let entry = c .before .before .before .before in
     let r = c .before .match .rest in
     let b = c .before .before .before .before in
     let e =
     last-plain (b .args .kind) (r .0 .0 .0 .0 .0 .0 .0 .1) (r .0 .0 .0 .0 .0 .0 .1) (r .0 .0 .0 .0 .0 .1)
     (r .0 .0 .0 .0 .1) (r .0 .0 .0 .1) (r .0 .0 .1) (r .0 .1) (r .1) (b .pre .0)
     in
-    (rw e at (c .before .before .before .before .pre .1 .0), c .before .before .before .before .pre .1 .1)
+    (rw e at (entry .pre .1 .0), entry .pre .1 .1)
 
 same-length : tie.Need-same-length
 same-length c = search needs
 
 returns : tie.Need-returns
-returns c = λ start.
-    let a = c .before .before .before .before .before .before .before .before .args in
-    let h = rw (c .before .before .before .before .before .match .keys1) at (c .before .before .before .before .before .before .before .before .pre .1 .0) in
+returns c =
+    let entry = c .before .before .before .before .before .before .before .before in
+    λ start.
+    let a = entry .args in
+    let h = rw (c .before .before .before .before .before .match .keys1) at (entry .pre .1 .0) in
     rw (c .before .before .before .before .before .match .keys1) (signed (now (a .out)) (a .at) 1 2 (c .before .before .write-16 .ensures .0) (c .before .before .write-16 .ensures .1) w16 (search needs) (c .before .before .before .read-u16 .ensures ∙ slot-taken 2 (now (a .bytes)) h))
 
 same-length-2 : tie.Need-same-length-2
 same-length-2 c = search needs
 
 returns-2 : tie.Need-returns-2
-returns-2 c = λ start.
-    let a = c .before .before .before .before .before .before .before .before .args in
-    let h = rw (c .before .before .before .before .before .match .keys2) at (c .before .before .before .before .before .before .before .before .pre .1 .0) in
+returns-2 c =
+    let entry = c .before .before .before .before .before .before .before .before in
+    λ start.
+    let a = entry .args in
+    let h = rw (c .before .before .before .before .before .match .keys2) at (entry .pre .1 .0) in
     rw (c .before .before .before .before .before .match .keys2) (signed (now (a .out)) (a .at) 2 4 (c .before .before .write-32 .ensures .0) (c .before .before .write-32 .ensures .1) w32 (search needs) (c .before .before .before .read-u32 .ensures ∙ slot-taken 4 (now (a .bytes)) h))
 
 same-length-3 : tie.Need-same-length-3
 same-length-3 c = search needs
 
 returns-3 : tie.Need-returns-3
-returns-3 c = λ start.
-    let a = c .before .before .before .before .before .before .before .before .args in
-    let h = rw (c .before .before .before .before .before .match .keys3) at (c .before .before .before .before .before .before .before .before .pre .1 .0) in
+returns-3 c =
+    let entry = c .before .before .before .before .before .before .before .before in
+    λ start.
+    let a = entry .args in
+    let h = rw (c .before .before .before .before .before .match .keys3) at (entry .pre .1 .0) in
     rw (c .before .before .before .before .before .match .keys3) (signed (now (a .out)) (a .at) 3 8 (c .before .before .write-64 .ensures .0) (c .before .before .write-64 .ensures .1) w64 (search needs) (c .before .before .before .read-u64 .ensures ∙ slot-taken 8 (now (a .bytes)) h))
 
 same-length-4 : tie.Need-same-length-4
 same-length-4 c = search needs
 
 returns-4 : tie.Need-returns-4
-returns-4 c = λ start.
-    let a = c .before .before .before .before .before .before .before .before .args in
-    let h = rw (c .before .before .before .before .before .match .keys4) at (c .before .before .before .before .before .before .before .before .pre .1 .0) in
+returns-4 c =
+    let entry = c .before .before .before .before .before .before .before .before in
+    λ start.
+    let a = entry .args in
+    let h = rw (c .before .before .before .before .before .match .keys4) at (entry .pre .1 .0) in
     rw (c .before .before .before .before .before .match .keys4) (unsigned (now (a .out)) (a .at) 4 4 (c .before .before .write-322 .ensures .0) (c .before .before .write-322 .ensures .1) (c .before .before .before .read-u322 .ensures ∙ slot-taken 4 (now (a .bytes)) h))
 
 same-length-5 : tie.Need-same-length-5
 same-length-5 c = search needs
 
 returns-5 : tie.Need-returns-5
-returns-5 c = λ start.
-    let a = c .before .before .before .before .before .before .before .before .args in
-    let h = rw (c .before .before .before .before .before .match .keys5) at (c .before .before .before .before .before .before .before .before .pre .1 .0) in
+returns-5 c =
+    let entry = c .before .before .before .before .before .before .before .before in
+    λ start.
+    let a = entry .args in
+    let h = rw (c .before .before .before .before .before .match .keys5) at (entry .pre .1 .0) in
     rw (c .before .before .before .before .before .match .keys5) (unsigned (now (a .out)) (a .at) 5 8 (c .before .before .write-642 .ensures .0) (c .before .before .write-642 .ensures .1) (c .before .before .before .read-u642 .ensures ∙ slot-taken 8 (now (a .bytes)) h))
 
 same-length-6 : tie.Need-same-length-6

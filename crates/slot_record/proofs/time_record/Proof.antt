@@ -36,16 +36,18 @@ same-length c = search needs
 
 returns : tie.Need-returns
 returns c =
-    let bs = now (c .before .before .before .before .before .before .before .before .before .before .before .before .args .bytes) in
+    let entry = c .before .before .before .before .before .before .before .before .before .before .before .before in
+    let bs = now (entry .args .bytes) in
     let m = c .before .before .before .before .before .before .micros .given in
-    let read = ap timeOf (sym (passed w64 (search needs) (c .before .before .before .before .before .before .before .before .before .read-i64 .ensures ∙ ap (toZ w64) (slot-taken 8 bs (c .before .before .before .before .before .before .before .before .before .before .before .before .pre .0))))) ∙ sym (c .before .before .before .before .before .before .before .before .time-of .ensures) ∙ m .1 in
+    let read = ap timeOf (sym (passed w64 (search needs) (c .before .before .before .before .before .before .before .before .before .read-i64 .ensures ∙ ap (toZ w64) (slot-taken 8 bs (entry .pre .0))))) ∙ sym (c .before .before .before .before .before .before .before .before .time-of .ensures) ∙ m .1 in
     let bits = handed w64 (ofZ w64) (m .0 .0) (search needs) (c .before .before .before .cast-unsigned-64 .ensures) in
     rw (read, c .before .before .write-64 .ensures .0, c .before .before .write-64 .ensures .1, bits)
 
 returns-2 : tie.Need-returns-2
 returns-2 c =
-    let bs = now (c .before .before .before .before .before .before .args .bytes) in
-    let read = ap timeOf (sym (passed w64 (search needs) (c .before .before .before .read-i64 .ensures ∙ ap (toZ w64) (slot-taken 8 bs (c .before .before .before .before .before .before .pre .0))))) ∙ sym (c .before .before .time-of .ensures) ∙ c .enum-told .given .1 in
+    let entry = c .before .before .before .before .before .before in
+    let bs = now (entry .args .bytes) in
+    let read = ap timeOf (sym (passed w64 (search needs) (c .before .before .before .read-i64 .ensures ∙ ap (toZ w64) (slot-taken 8 bs (entry .pre .0))))) ∙ sym (c .before .before .time-of .ensures) ∙ c .enum-told .given .1 in
     rw read
 
 pub time-record-spec : {M : Type 1} → statement M

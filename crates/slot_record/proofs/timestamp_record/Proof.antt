@@ -30,14 +30,16 @@ same-length c = search needs
 
 returns : tie.Need-returns
 returns c =
-    let bs = now (c .before .before .before .before .before .before .before .before .before .before .args .bytes) in
-    let read = ap isTimestamp (sym (passed w64 (search needs) (c .before .before .before .before .before .before .before .read-i64 .ensures ∙ ap (toZ w64) (slot-taken 8 bs (c .before .before .before .before .before .before .before .before .before .before .pre .0))))) ∙ sym (c .before .before .before .before .before .before .is-timestamp .ensures) ∙ c .before .before .before .before .before .if1 .taken in
-    rw read (signed (now (c .before .before .before .before .before .before .before .before .before .before .args .out)) (c .before .before .before .before .before .before .before .before .before .before .args .at) 13 8 (c .before .before .write-64 .ensures .0) (c .before .before .write-64 .ensures .1) w64 (search needs) (c .before .before .before .read-u64 .ensures ∙ slot-taken 8 bs (c .before .before .before .before .before .before .before .before .before .before .pre .0)))
+    let entry = c .before .before .before .before .before .before .before .before .before .before in
+    let bs = now (entry .args .bytes) in
+    let read = ap isTimestamp (sym (passed w64 (search needs) (c .before .before .before .before .before .before .before .read-i64 .ensures ∙ ap (toZ w64) (slot-taken 8 bs (entry .pre .0))))) ∙ sym (c .before .before .before .before .before .before .is-timestamp .ensures) ∙ c .before .before .before .before .before .if1 .taken in
+    rw read (signed (now (entry .args .out)) (entry .args .at) 13 8 (c .before .before .write-64 .ensures .0) (c .before .before .write-64 .ensures .1) w64 (search needs) (c .before .before .before .read-u64 .ensures ∙ slot-taken 8 bs (entry .pre .0)))
 
 returns-2 : tie.Need-returns-2
 returns-2 c =
-    let bs = now (c .before .before .before .before .before .args .bytes) in
-    let read = ap isTimestamp (sym (passed w64 (search needs) (c .before .before .read-i64 .ensures ∙ ap (toZ w64) (slot-taken 8 bs (c .before .before .before .before .before .pre .0))))) ∙ sym (c .before .is-timestamp .ensures) ∙ c .if1 .left in
+    let entry = c .before .before .before .before .before in
+    let bs = now (entry .args .bytes) in
+    let read = ap isTimestamp (sym (passed w64 (search needs) (c .before .before .read-i64 .ensures ∙ ap (toZ w64) (slot-taken 8 bs (entry .pre .0))))) ∙ sym (c .before .is-timestamp .ensures) ∙ c .if1 .left in
     rw read
 
 pub timestamp-record-spec : {M : Type 1} → statement M

@@ -13,8 +13,9 @@ sub-length c = search needs
 
 returns : tie.Need-returns
 returns c =
-    let a = c .before .before .before .args in
-    rw (part-length (now (a .row)) (a .start) (a .end) (c .before .before .before .pre .0) (c .before .before .before .pre .1 .0), lt-ltb _ _ (c .if1 .taken))
+    let entry = c .before .before .before in
+    let a = entry .args in
+    rw (part-length (now (a .row)) (a .start) (a .end) (entry .pre .0) (entry .pre .1 .0), lt-ltb _ _ (c .if1 .taken))
 
 sub-is-valid : tie.Need-sub-is-valid
 sub-is-valid c = search needs
@@ -36,13 +37,15 @@ same-length c = search needs
 
 returns-2 : tie.Need-returns-2
 returns-2 c =
-    let a = c .before .before .before .before .before .before .before .before .before .before .args in
-    rw (← c .before .before .before .before .before .is-valid .ensures, c .before .before .before .before .if2 .taken, c .before .before .write-range .ensures .0, c .before .before .write-range .ensures .1, part-length (now (a .row)) (a .start) (a .end) (c .before .before .before .before .before .before .before .before .before .before .pre .0) (c .before .before .before .before .before .before .before .before .before .before .pre .1 .0), le-ltb (a .n) (a .end - a .start) (c .before .before .before .before .before .before .before .if1 .left))
+    let entry = c .before .before .before .before .before .before .before .before .before .before in
+    let a = entry .args in
+    rw (← c .before .before .before .before .before .is-valid .ensures, c .before .before .before .before .if2 .taken, c .before .before .write-range .ensures .0, c .before .before .write-range .ensures .1, part-length (now (a .row)) (a .start) (a .end) (entry .pre .0) (entry .pre .1 .0), le-ltb (a .n) (a .end - a .start) (c .before .before .before .before .before .before .before .if1 .left))
 
 returns-3 : tie.Need-returns-3
 returns-3 c =
-    let a = c .before .before .before .before .before .before .args in
-    rw (← c .before .is-valid .ensures, c .if2 .left, part-length (now (a .row)) (a .start) (a .end) (c .before .before .before .before .before .before .pre .0) (c .before .before .before .before .before .before .pre .1 .0), le-ltb (a .n) (a .end - a .start) (c .before .before .before .if1 .left))
+    let entry = c .before .before .before .before .before .before in
+    let a = entry .args in
+    rw (← c .before .is-valid .ensures, c .if2 .left, part-length (now (a .row)) (a .start) (a .end) (entry .pre .0) (entry .pre .1 .0), le-ltb (a .n) (a .end - a .start) (c .before .before .before .if1 .left))
 
 pub varchar-record-spec : {M : Type 1} → statement M
 varchar-record-spec =

@@ -45,7 +45,9 @@ cast-read-numeric : tie.Need-cast-read-numeric
 cast-read-numeric c = search needs
 
 read-numeric-requires : tie.Need-read-numeric-requires
-read-numeric-requires c κs = (rw (c .before .ty .given .1) at (c .before .before .before .before .pre .0), (rw (c .before .ty .given .1) at (c .before .before .before .before .pre .1)) refl)
+read-numeric-requires c κs =
+    let entry = c .before .before .before .before in
+    (rw (c .before .ty .given .1) at (entry .pre .0), (rw (c .before .ty .given .1) at (entry .pre .1)) refl)
 
 enum-known-ty-2 : tie.Need-enum-known-ty-2
 enum-known-ty-2 c = search needs
@@ -54,7 +56,9 @@ cast-read-numeric-2 : tie.Need-cast-read-numeric-2
 cast-read-numeric-2 c = search needs
 
 read-numeric-requires-2 : tie.Need-read-numeric-requires-2
-read-numeric-requires-2 c κs = (rw (c .before .ty2 .given .1) at (c .before .before .before .before .pre .0), (rw (c .before .ty2 .given .1) at (c .before .before .before .before .pre .1)) refl)
+read-numeric-requires-2 c κs =
+    let entry = c .before .before .before .before in
+    (rw (c .before .ty2 .given .1) at (entry .pre .0), (rw (c .before .ty2 .given .1) at (entry .pre .1)) refl)
 
 enum-told-6 : tie.Need-enum-told-6
 enum-told-6 c = search needs
@@ -106,28 +110,33 @@ read-timestamp-requires c κs = (rw (c .enum-told12 .given .1) at (c .before .be
 
 returns : tie.Need-returns
 returns c =
-    let h = (rw (c .before .enum-told .given .1) at (c .before .before .before .before .pre .1)) refl in
-    rw (c .before .enum-told .given .1, ← passed w16 (search needs) (c .read-i16 .ensures ∙ ap (toZ w16) (slot-taken 2 (now (c .before .before .before .before .args .bytes)) h)))
+    let entry = c .before .before .before .before in
+    let h = (rw (c .before .enum-told .given .1) at (entry .pre .1)) refl in
+    rw (c .before .enum-told .given .1, ← passed w16 (search needs) (c .read-i16 .ensures ∙ ap (toZ w16) (slot-taken 2 (now (entry .args .bytes)) h)))
 
 returns-2 : tie.Need-returns-2
 returns-2 c =
-    let h = (rw (c .before .enum-told2 .given .1) at (c .before .before .before .before .pre .1)) refl in
-    rw (c .before .enum-told2 .given .1, ← passed w32 (search needs) (c .read-i32 .ensures ∙ ap (toZ w32) (slot-taken 4 (now (c .before .before .before .before .args .bytes)) h)))
+    let entry = c .before .before .before .before in
+    let h = (rw (c .before .enum-told2 .given .1) at (entry .pre .1)) refl in
+    rw (c .before .enum-told2 .given .1, ← passed w32 (search needs) (c .read-i32 .ensures ∙ ap (toZ w32) (slot-taken 4 (now (entry .args .bytes)) h)))
 
 returns-3 : tie.Need-returns-3
 returns-3 c =
-    let h = (rw (c .before .enum-told3 .given .1) at (c .before .before .before .before .pre .1)) refl in
-    rw (c .before .enum-told3 .given .1, ← passed w64 (search needs) (c .read-i64 .ensures ∙ ap (toZ w64) (slot-taken 8 (now (c .before .before .before .before .args .bytes)) h)))
+    let entry = c .before .before .before .before in
+    let h = (rw (c .before .enum-told3 .given .1) at (entry .pre .1)) refl in
+    rw (c .before .enum-told3 .given .1, ← passed w64 (search needs) (c .read-i64 .ensures ∙ ap (toZ w64) (slot-taken 8 (now (entry .args .bytes)) h)))
 
 returns-4 : tie.Need-returns-4
 returns-4 c =
-    let h = (rw (c .before .enum-told4 .given .1) at (c .before .before .before .before .pre .1)) refl in
-    rw (c .before .enum-told4 .given .1, c .read-u32 .ensures, slot-taken 4 (now (c .before .before .before .before .args .bytes)) h)
+    let entry = c .before .before .before .before in
+    let h = (rw (c .before .enum-told4 .given .1) at (entry .pre .1)) refl in
+    rw (c .before .enum-told4 .given .1, c .read-u32 .ensures, slot-taken 4 (now (entry .args .bytes)) h)
 
 returns-5 : tie.Need-returns-5
 returns-5 c =
-    let h = (rw (c .before .enum-told5 .given .1) at (c .before .before .before .before .pre .1)) refl in
-    rw (c .before .enum-told5 .given .1, c .read-u64 .ensures, slot-taken 8 (now (c .before .before .before .before .args .bytes)) h)
+    let entry = c .before .before .before .before in
+    let h = (rw (c .before .enum-told5 .given .1) at (entry .pre .1)) refl in
+    rw (c .before .enum-told5 .given .1, c .read-u64 .ensures, slot-taken 8 (now (entry .args .bytes)) h)
 
 returns-6 : tie.Need-returns-6
 returns-6 c = rw (c .before .before .ty .given .1) (c .read-numeric .ensures)

@@ -18,7 +18,9 @@ cast-signed-64-requires : tie.Need-cast-signed-64-requires
 cast-signed-64-requires c κs = search needs
 
 returns-2 : tie.Need-returns-2
-returns-2 c = let a = c .before .before .before .args in without-low (a .high) (a .low) _ (a .scale) (c .before .before .before .pre) (c .before .before .if1 .taken) (c .before .if2 .left) (passed w64 (search needs) (c .cast-signed-64 .ensures))
+returns-2 c =
+    let entry = c .before .before .before in
+    let a = entry .args in without-low (a .high) (a .low) _ (a .scale) (entry .pre) (c .before .before .if1 .taken) (c .before .if2 .left) (passed w64 (search needs) (c .cast-signed-64 .ensures))
 
 sub-cast-signed-64-3 : tie.Need-sub-cast-signed-64-3
 sub-cast-signed-64-3 c = search needs

@@ -15,10 +15,14 @@ is-date-requires : tie.Need-is-date-requires
 is-date-requires c κs = search needs
 
 returns : tie.Need-returns
-returns c = rw (← passed w32 (search needs) (c .before .before .read-i32 .ensures ∙ ap (toZ w32) (slot-taken 4 (now (c .before .before .before .before .args .bytes)) (c .before .before .before .before .pre))), ← c .before .is-date .ensures, c .if1 .taken)
+returns c =
+    let entry = c .before .before .before .before in
+    rw (← passed w32 (search needs) (c .before .before .read-i32 .ensures ∙ ap (toZ w32) (slot-taken 4 (now (entry .args .bytes)) (entry .pre))), ← c .before .is-date .ensures, c .if1 .taken)
 
 returns-2 : tie.Need-returns-2
-returns-2 c = rw (← passed w32 (search needs) (c .before .before .read-i32 .ensures ∙ ap (toZ w32) (slot-taken 4 (now (c .before .before .before .before .args .bytes)) (c .before .before .before .before .pre))), ← c .before .is-date .ensures, c .if1 .left)
+returns-2 c =
+    let entry = c .before .before .before .before in
+    rw (← passed w32 (search needs) (c .before .before .read-i32 .ensures ∙ ap (toZ w32) (slot-taken 4 (now (entry .args .bytes)) (entry .pre))), ← c .before .is-date .ensures, c .if1 .left)
 
 pub read-date-spec : {M : Type 1} → statement M
 read-date-spec = tie.close (tie.spec read-i32-requires is-date-requires returns returns-2)

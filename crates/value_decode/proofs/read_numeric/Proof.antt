@@ -11,7 +11,9 @@ enum-known-negative : tie.Need-enum-known-negative
 enum-known-negative c = search needs
 
 numeric-from-requires : tie.Need-numeric-from-requires
-numeric-from-requires c κs = rw (← c .before .before .before .decode-numeric-bcd .ensures, c .before .negative .given .1) at (signable (c .before .before .before .before .before .args .p) (now (c .before .before .before .before .before .args .bytes)) (c .before .before .before .before .before .pre .0))
+numeric-from-requires c κs =
+    let entry = c .before .before .before .before .before in
+    rw (← c .before .before .before .decode-numeric-bcd .ensures, c .before .negative .given .1) at (signable (entry .args .p) (now (entry .args .bytes)) (entry .pre .0))
 
 enum-told : tie.Need-enum-told
 enum-told c = search needs

@@ -25,11 +25,14 @@ enum-told c = search needs
 
 returns : tie.Need-returns
 returns c =
+    let entry = c .before .before .before .before .before .before in
     let m = c .before .micros .given in
-    rw (← passed w64 (search needs) (c .before .before .before .before .read-i64 .ensures ∙ ap (toZ w64) (slot-taken 8 (now (c .before .before .before .before .before .before .args .bytes)) (c .before .before .before .before .before .before .pre))), ← c .before .before .before .time-of .ensures, m .1) (ap (λ (z : ℤ). Value (Time z)) (passed w64 {r = m .0 .0} (search needs) refl))
+    rw (← passed w64 (search needs) (c .before .before .before .before .read-i64 .ensures ∙ ap (toZ w64) (slot-taken 8 (now (entry .args .bytes)) (entry .pre))), ← c .before .before .before .time-of .ensures, m .1) (ap (λ (z : ℤ). Value (Time z)) (passed w64 {r = m .0 .0} (search needs) refl))
 
 returns-2 : tie.Need-returns-2
-returns-2 c = rw (← passed w64 (search needs) (c .before .before .before .read-i64 .ensures ∙ ap (toZ w64) (slot-taken 8 (now (c .before .before .before .before .before .args .bytes)) (c .before .before .before .before .before .pre))), ← c .before .before .time-of .ensures, c .enum-told .given .1)
+returns-2 c =
+    let entry = c .before .before .before .before .before in
+    rw (← passed w64 (search needs) (c .before .before .before .read-i64 .ensures ∙ ap (toZ w64) (slot-taken 8 (now (entry .args .bytes)) (entry .pre))), ← c .before .before .time-of .ensures, c .enum-told .given .1)
 
 pub read-time-spec : {M : Type 1} → statement M
 read-time-spec =

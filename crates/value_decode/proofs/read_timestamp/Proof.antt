@@ -15,10 +15,14 @@ is-timestamp-requires : tie.Need-is-timestamp-requires
 is-timestamp-requires c κs = search needs
 
 returns : tie.Need-returns
-returns c = rw (← passed w64 (search needs) (c .before .before .read-i64 .ensures ∙ ap (toZ w64) (slot-taken 8 (now (c .before .before .before .before .args .bytes)) (c .before .before .before .before .pre))), ← c .before .is-timestamp .ensures, c .if1 .taken)
+returns c =
+    let entry = c .before .before .before .before in
+    rw (← passed w64 (search needs) (c .before .before .read-i64 .ensures ∙ ap (toZ w64) (slot-taken 8 (now (entry .args .bytes)) (entry .pre))), ← c .before .is-timestamp .ensures, c .if1 .taken)
 
 returns-2 : tie.Need-returns-2
-returns-2 c = rw (← passed w64 (search needs) (c .before .before .read-i64 .ensures ∙ ap (toZ w64) (slot-taken 8 (now (c .before .before .before .before .args .bytes)) (c .before .before .before .before .pre))), ← c .before .is-timestamp .ensures, c .if1 .left)
+returns-2 c =
+    let entry = c .before .before .before .before in
+    rw (← passed w64 (search needs) (c .before .before .read-i64 .ensures ∙ ap (toZ w64) (slot-taken 8 (now (entry .args .bytes)) (entry .pre))), ← c .before .is-timestamp .ensures, c .if1 .left)
 
 pub read-timestamp-spec : {M : Type 1} → statement M
 read-timestamp-spec =

@@ -16,8 +16,9 @@ in-area-requires c κs = search needs
 
 add-suits-text : tie.Need-add-suits-text
 add-suits-text c =
+    let entry = c .before .before .before .before in
     let r = c .before .before .range .result in
-    let h : r .start + r .length ≤ length (now (c .before .before .before .before .args .area)) = leb-true (r .start + r .length) (length (now (c .before .before .before .before .args .area))) (sym (c .before .in-area .ensures) ∙ c .if1 .taken) in
+    let h : r .start + r .length ≤ length (now (entry .args .area)) = leb-true (r .start + r .length) (length (now (entry .args .area))) (sym (c .before .in-area .ensures) ∙ c .if1 .taken) in
     search needs
 
 sub-suits-text : tie.Need-sub-suits-text
@@ -28,8 +29,9 @@ part-suits-text-start c = search needs
 
 part-suits-text-end : tie.Need-part-suits-text-end
 part-suits-text-end c =
+    let entry = c .before .before .before .before in
     let r = c .before .before .range .result in
-    let h : r .start + r .length ≤ length (now (c .before .before .before .before .args .area)) = leb-true (r .start + r .length) (length (now (c .before .before .before .before .args .area))) (sym (c .before .in-area .ensures) ∙ c .if1 .taken) in
+    let h : r .start + r .length ≤ length (now (entry .args .area)) = leb-true (r .start + r .length) (length (now (entry .args .area))) (sym (c .before .in-area .ensures) ∙ c .if1 .taken) in
     search needs
 
 suits-text-requires : tie.Need-suits-text-requires

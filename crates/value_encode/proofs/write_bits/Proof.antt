@@ -15,8 +15,9 @@ same-length c = search needs
 
 returns : tie.Need-returns
 returns c =
-    let a = c .before .before .before .before .before .before .before .before .before .before .args in
-    bits-stored (now (a .out)) (a .at) (a .n) (now (a .bits)) _ _ (c .before .before .before .before .before .before .before .before .before .before .pre .0) (c .before .before .before .before .before .before .before .before .before .before .pre .1) (c .before .before .before .before .before .before .copy .ensures) (c .before .before .clear-spare-bits .ensures)
+    let entry = c .before .before .before .before .before .before .before .before .before .before in
+    let a = entry .args in
+    bits-stored (now (a .out)) (a .at) (a .n) (now (a .bits)) _ _ (entry .pre .0) (entry .pre .1) (c .before .before .before .before .before .before .copy .ensures) (c .before .before .clear-spare-bits .ensures)
 
 pub write-bits-spec : {M : Type 1} → statement M
 write-bits-spec = tie.close (tie.spec copy-requires clear-spare-bits-requires same-length returns)

@@ -12,9 +12,10 @@ magnitude-requires c κs = search needs
 
 encode-numeric-bcd-requires : tie.Need-encode-numeric-bcd-requires
 encode-numeric-bcd-requires c κs =
-    let a = c .before .before .before .args in
+    let entry = c .before .before .before in
+    let a = entry .args in
     let m = handed w64 (λ (z : ℤ). magnitude z (a .low)) (a .high) (search needs) (c .before .magnitude .ensures) in
-    rw m (c .before .before .before .pre)
+    rw m (entry .pre)
 
 same-length : tie.Need-same-length
 same-length c = search needs

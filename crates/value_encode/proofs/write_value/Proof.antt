@@ -66,10 +66,11 @@ enum-known-value-6 c = search needs
 
 write-number-requires : tie.Need-write-number-requires
 write-number-requires c κs =
+    let entry = c .before .before .before .before .before .before .before .before .before in
     let n = c .before .before .before .value6 .given .0 .0 in
-    let e = rw (c .before .before .before .value6 .given .1) at (c .before .before .before .before .before .before .before .before .before .pre .1 .0) in
-    let h = rw (c .before .before .before .value6 .given .1, length-encode) at (c .before .before .before .before .before .before .before .before .before .pre .1 .1) in
-    rw (toZ-ofZ w64 (n .high) (search needs), c .before .before .before .before .before .precision .ensures) (c .before .before .before .before .before .before .before .before .before .pre .0, (fits-below (c .before .before .before .before .before .before .before .before .before .args .ty) (n .scale) (magnitude (n .high) (n .low)) e, h))
+    let e = rw (c .before .before .before .value6 .given .1) at (entry .pre .1 .0) in
+    let h = rw (c .before .before .before .value6 .given .1, length-encode) at (entry .pre .1 .1) in
+    rw (toZ-ofZ w64 (n .high) (search needs), c .before .before .before .before .before .precision .ensures) (entry .pre .0, (fits-below (entry .args .ty) (n .scale) (magnitude (n .high) (n .low)) e, h))
 
 enum-known-value-7 : tie.Need-enum-known-value-7
 enum-known-value-7 c = search needs
@@ -82,9 +83,10 @@ enum-told-2 c = search needs
 
 write-char-requires : tie.Need-write-char-requires
 write-char-requires c κs =
-    let a = c .before .before .before .before .before .before .before .args in
-    let e = rw (c .before .enum-told2 .given .1) at (c .before .before .before .before .before .before .before .pre .1 .0) in
-    let h = rw (c .before .enum-told2 .given .1, length-char _ (now (a .text)) e) at (c .before .before .before .before .before .before .before .pre .1 .1) in
+    let entry = c .before .before .before .before .before .before .before in
+    let a = entry .args in
+    let e = rw (c .before .enum-told2 .given .1) at (entry .pre .1 .0) in
+    let h = rw (c .before .enum-told2 .given .1, length-char _ (now (a .text)) e) at (entry .pre .1 .1) in
     rw (c .before .before .before .before .declared-length .ensures) (fits-length _ (now (a .text)) e, h)
 
 enum-told-3 : tie.Need-enum-told-3
@@ -110,9 +112,10 @@ enum-told-4 c = search needs
 
 write-bits-requires : tie.Need-write-bits-requires
 write-bits-requires c κs =
-    let a = c .before .before .before .before .before .before .before .args in
-    let e = rw (c .before .enum-told4 .given .1) at (c .before .before .before .before .before .before .before .pre .1 .0) in
-    let h = rw (c .before .enum-told4 .given .1, length-packed) at (c .before .before .before .before .before .before .before .pre .1 .1) in
+    let entry = c .before .before .before .before .before .before .before in
+    let a = entry .args in
+    let e = rw (c .before .enum-told4 .given .1) at (entry .pre .1 .0) in
+    let h = rw (c .before .enum-told4 .given .1, length-packed) at (entry .pre .1 .1) in
     rw (c .before .before .before .before .declared-length .ensures) (eqb-true _ _ e, h)
 
 enum-known-value-10 : tie.Need-enum-known-value-10
