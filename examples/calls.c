@@ -1,4 +1,5 @@
-/* Every call once, from C, and a refusal of each. The columns are Int, Varchar(5), SmallInt. */
+/* Every call once, from C, and a refusal of each. The columns are Int, Varchar(5), SmallInt; where code points are
+ * counted, Char(5), Varchar(5), Bit(3), Int. */
 #include <stdio.h>
 
 #include "rook_row.h"
@@ -10,7 +11,10 @@ static const uint8_t values[] = {2, 1, 0, 0, 0, 9, 0, 0, 2, 0, 0};
 /* A list of one value: a Varchar, 5 bytes from byte 0 of the text. */
 static const uint8_t longer[] = {9, 0, 0, 5, 0};
 
-static uint8_t row[20];
+/* The code points of each text that a build or a read has. */
+static uint32_t counts[5];
+
+static uint8_t row[22];
 static size_t length;
 
 static const uint8_t *bytes(const char *text) {
@@ -56,6 +60,67 @@ static void show_handle(rook_row_handle handle) {
            layout.num_columns, layout.num_varlen_cols, layout.fixed_size, layout.packed ? "packed" : "padded");
 }
 
+static void show_counts(size_t columns) {
+    printf("%-27s", "  code points");
+    for (size_t i = 0; i < columns; i++)
+        printf(" %u", counts[i]);
+    printf("\n");
+}
+
+static void show_check(const char *call, const char *text, size_t count) {
+    rook_check_answer answer = rook_text_check(bytes(text), count);
+    printf("%-28s%s, %zu code points\n", call, answer.valid ? "text" : "no text", answer.points);
+}
+
+static const uint8_t accented[] = {9, 5, 0, 11, 5, 0, 14, 3, 0, 2};
+
+/* A row of six bytes of text: the Char is two from byte 0, the Varchar five from byte 0, the Bit the last; null. */
+static rook_row_answer build_accented(const char *text, size_t room, size_t numbers) {
+    static const uint8_t list[] = {8, 0, 0, 2, 0, 9, 0, 0, 5, 0, 12, 5, 0, 1, 0, 0};
+    return rook_row_build(accented, sizeof accented, list, sizeof list, bytes(text), 6, row, room, counts, numbers);
+}
+
+/* Counts of code points: "e" with an accent as Char, the same and a euro sign as Varchar, three bits, a null. */
+static void show_points(void) {
+    static const uint16_t all[] = {0, 1, 2, 3};
+    static const char text[] = "\xC3\xA9\xE2\x82\xAC\xC0";
+    uint8_t list[72];
+    show("build, three numbers", build_accented(text, 22, 3), row);
+    show("build, and a byte short", build_accented(text, 21, 3), row);
+    show("build, and no text", build_accented("\xFF\xA9\xE2\x82\xAC\xC0", 22, 3), row);
+    size_t end = show("build, with accents", build_accented(text, 22, 4), row);
+    show_counts(4);
+    show("read all", rook_row_read(accented, sizeof accented, row, end, all, 4, list, sizeof list, counts, 4), list);
+    show_counts(4);
+    counts[4] = 7;
+    show("read column 1, five numbers",
+         rook_row_read(accented, sizeof accented, row, end, all + 1, 1, list, sizeof list, counts, 5), list);
+    show_counts(5);
+    show("read, three numbers",
+         rook_row_read(accented, sizeof accented, row, end, all, 4, list, sizeof list, counts, 3), list);
+    show("build, no columns", rook_row_build(NULL, 0, NULL, 0, NULL, 0, row, sizeof row, NULL, 0), row);
+
+    show_check("text: a letter and a sign", text, 5);
+    show_check("text: C0 80", "\xC0\x80", 2);
+    show_check("text: no bytes", "", 0);
+    show_check("text: F4 8F BF BF", "\xF4\x8F\xBF\xBF", 4);
+    show_check("text: an umlaut", "Z\xC3\xBCrich", 7);
+    show_check("text: an umlaut, cut", "Z\xC3\xBCrich", 2);
+}
+
+/* Edits over a handle of the row; the first accepted one fills in the layout. */
+static void show_handle_edits(void) {
+    size_t n = sizeof schema;
+    rook_row_handle handle = {length, {0, 0, 0, 0}};
+    show("handle, column 3 to null", rook_row_handle_set_null(&handle, schema, n, row, sizeof row, 3), row);
+    show_handle(handle);
+    show("handle, set column 1",
+         rook_row_handle_set(&handle, schema, n, row, sizeof row, 1, longer, sizeof longer, bytes("ABCDE"), 5), row);
+    show_handle(handle);
+    show("handle, column 1 to null", rook_row_handle_set_null(&handle, schema, n, row, sizeof row, 1), row);
+    show_handle(handle);
+}
+
 int main(void) {
     size_t n = sizeof schema;
     uint8_t list[54];
@@ -63,11 +128,13 @@ int main(void) {
     show("fresh, no room", rook_row_fresh(schema, n, row, 12), row);
     show("fresh, unknown type", rook_row_fresh(bytes("\2\20"), 2, row, sizeof row), row);
 
-    show("build, text cut", rook_row_build(schema, n, values, sizeof values, bytes("A"), 1, row, sizeof row), row);
-    length = show("build", rook_row_build(schema, n, values, sizeof values, bytes("AB"), 2, row, sizeof row), row);
+    show("build, text cut",
+         rook_row_build(schema, n, values, sizeof values, bytes("A"), 1, row, sizeof row, counts, 3), row);
+    length = show("build", rook_row_build(schema, n, values, sizeof values, bytes("AB"), 2, row, sizeof row, counts, 3),
+                  row);
 
-    show("read columns 0 and 1", rook_row_read(schema, n, row, length, wanted, 2, list, sizeof list), list);
-    show("read, row cut", rook_row_read(schema, n, row, 12, wanted, 2, list, sizeof list), list);
+    show("read columns 0 and 1", rook_row_read(schema, n, row, length, wanted, 2, list, sizeof list, counts, 3), list);
+    show("read, row cut", rook_row_read(schema, n, row, 12, wanted, 2, list, sizeof list, counts, 3), list);
 
     show_text("text of column 1", rook_row_text(schema, n, row, length, 1));
     show_text("text of column 2", rook_row_text(schema, n, row, length, 2));
@@ -81,21 +148,12 @@ int main(void) {
     length = show("set column 1 to null", rook_row_set_null(schema, n, row, sizeof row, length, 1), row);
     length = show("set column 3 to null", rook_row_set_null(schema, n, row, sizeof row, length, 3), row);
 
-    rook_row_handle handle = {length, {0, 0, 0, 0}};
-    show("handle, column 3 to null", rook_row_handle_set_null(&handle, schema, n, row, sizeof row, 3), row);
-    show_handle(handle);
-    show("handle, set column 1",
-         rook_row_handle_set(&handle, schema, n, row, sizeof row, 1, longer, sizeof longer, bytes("ABCDE"), 5), row);
-    show_handle(handle);
-    show("handle, column 1 to null", rook_row_handle_set_null(&handle, schema, n, row, sizeof row, 1), row);
-    show_handle(handle);
-
-    printf("%-28s%u\n", "text: an umlaut", rook_text_valid(bytes("Z\xC3\xBCrich"), 7));
-    printf("%-28s%u\n", "text: an umlaut, cut", rook_text_valid(bytes("Z\xC3\xBCrich"), 2));
+    show_handle_edits();
+    show_points();
 
     uint32_t version = rook_row_version();
     printf("%-28s%u.%u.%u\n", "version of the library", version >> 16, version >> 8 & 255, version & 255);
     printf("%-28s%s\n", "version of the header", ROOK_ROW_VERSION);
-    printf("%-28s%s\n", "the same series", rook_row_0_2() >> 8 == ROOK_ROW_VERSION_NUMBER >> 8 ? "yes" : "no");
+    printf("%-28s%s\n", "the same series", rook_row_0_3() >> 8 == ROOK_ROW_VERSION_NUMBER >> 8 ? "yes" : "no");
     return 0;
 }

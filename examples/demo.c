@@ -1,5 +1,6 @@
-/* A small table of platform occupations: built, read and edited through the library. Each row is shown as bytes, region
- * by region, and as the values that the library reads from it. `make demo` builds and runs this. */
+/* A small table of platform occupations: built, read and edited through the library. Rows are shown as bytes, region by
+ * region, and as the values that the library reads from them; then the table, lined up by the code points of its texts.
+ * `make demo` builds and runs this. */
 #include <stdio.h>
 #include <stdlib.h>
 #include <string.h>
@@ -7,7 +8,7 @@
 
 #include "rook_list.h"
 
-enum { COLUMNS = 6, ROOM = 128 };
+enum { COLUMNS = 6, ROWS = 3, ROOM = 128 };
 
 /* A column: its record in the schema, the bytes of its slot (a Varchar has an offset instead), and what they are. */
 static const struct {
@@ -57,8 +58,22 @@ static size_t done(rook_row_answer answer) {
 }
 
 static void build(struct row *row, const struct list *list) {
+    uint32_t counts[COLUMNS];
     row->length = done(rook_row_build(schema, schema_length, list->records, list->values.records.length, list->text,
-                                      list->values.text.length, row->bytes, ROOM));
+                                      list->values.text.length, row->bytes, ROOM, counts, COLUMNS));
+}
+
+/* What was read of a row: a value list, and the code points of each text. */
+struct reading {
+    uint8_t list[ROOK_MAX_RECORD * COLUMNS];
+    size_t length;
+    uint32_t counts[COLUMNS];
+};
+
+static void read_all(const struct row *row, struct reading *reading) {
+    static const uint16_t all[COLUMNS] = {0, 1, 2, 3, 4, 5};
+    reading->length = done(rook_row_read(schema, schema_length, row->bytes, row->length, all, COLUMNS, reading->list,
+                                         sizeof reading->list, reading->counts, COLUMNS));
 }
 
 static void show_schema(void) {
@@ -166,16 +181,14 @@ static void show_value(const rook_value *value, const struct row *row) {
 }
 
 static void show(const char *title, const struct row *row) {
-    static const uint16_t all[COLUMNS] = {0, 1, 2, 3, 4, 5};
-    uint8_t list[ROOK_MAX_RECORD * COLUMNS];
+    struct reading reading;
     printf("\n%s: %zu bytes\n", title, row->length);
     printf("  from  %-25s%-10ssays\n", "bytes", "region");
     show_slots(row, show_offsets(row, show_head(row)));
     show_payloads(row);
-    size_t length =
-        done(rook_row_read(schema, schema_length, row->bytes, row->length, all, COLUMNS, list, sizeof list));
+    read_all(row, &reading);
     printf("  values:");
-    rook_values_reader reader = rook_values_of(list, length);
+    rook_values_reader reader = rook_values_of(reading.list, reading.length);
     rook_value value;
     for (int first = 1; rook_values_next(&reader, &value); first = 0) {
         printf(first ? " " : " | ");
@@ -199,8 +212,50 @@ static void edit(struct row *row) {
            answer.number, answer.place);
 }
 
+/* How many characters `show_value` prints for a text, with its quotes, or for a null. */
+static size_t width(const struct row *row, size_t column, const struct reading *reading) {
+    return is_null(row, column) ? strlen("null") : reading->counts[column] + 2;
+}
+
+/* Platform, unit and arrival of each row. A box is as wide as the widest of its texts. */
+static void show_table(const struct row *table) {
+    struct reading readings[ROWS];
+    size_t boxes[2] = {0, 0};
+    for (size_t i = 0; i < ROWS; i++) {
+        read_all(&table[i], &readings[i]);
+        for (size_t column = 0; column < 2; column++)
+            if (boxes[column] < width(&table[i], column, &readings[i]))
+                boxes[column] = width(&table[i], column, &readings[i]);
+    }
+    printf("\nThe table. Its boxes are as wide as the texts have characters, as rook_row_read counts them.\n");
+    for (size_t i = 0; i < ROWS; i++) {
+        rook_values_reader reader = rook_values_of(readings[i].list, readings[i].length);
+        rook_value value;
+        for (size_t column = 0; column < 3 && rook_values_next(&reader, &value); column++) {
+            printf(column == 0 ? "  | " : " | ");
+            show_value(&value, &table[i]);
+            if (column < 2)
+                printf("%*s", (int)(boxes[column] - width(&table[i], column, &readings[i])), "");
+        }
+        printf(" |\n");
+    }
+}
+
+/* A row that the table alone shows: an accent takes two bytes, and stands in its box as one character. */
+static void build_accented(struct row *row) {
+    struct list list;
+    start(&list);
+    rook_values_varchar(&list.values, "4");
+    rook_values_varchar(&list.values, "Wendezug S\xC3\xBC" "d");
+    rook_values_timestamp(&list.values, at(6, 25, 0));
+    rook_values_null(&list.values);
+    rook_values_small_int(&list.values, 6);
+    rook_values_bool(&list.values, 0);
+    build(row, &list);
+}
+
 int main(void) {
-    struct row table[2];
+    struct row table[ROWS];
     struct list first, second;
     printf("A table of platform occupations. Numbers have their low byte first. Its schema has a record for each\n"
            "column: a byte for the kind of type, then what the type is declared with.\n");
@@ -227,5 +282,7 @@ int main(void) {
     show("Row 1, built", &table[1]);
 
     edit(&table[0]);
+    build_accented(&table[2]);
+    show_table(table);
     return 0;
 }

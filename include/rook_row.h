@@ -1,8 +1,8 @@
 /* The typed-row codec, proved for every input. Link with librook_row.a.
  *
- * Slices. A slice passes as a pointer and then its length, in bytes; `wanted` in column numbers. An empty slice may
- * have any pointer. What a call writes to (`out`, `buf`, a handle) overlaps no other slice; slices that it only reads may
- * overlap.
+ * Slices. A slice passes as a pointer and then its length, in bytes; `wanted` in column numbers, `counts` in numbers of
+ * 32 bits, each aligned as its type is. An empty slice may have any pointer. What a call writes to (`out`, `counts`,
+ * `buf`, a handle) overlaps no other slice; slices that it only reads may overlap.
  *
  * Answers. Every answer comes back by value. `number` is 0 for done, else that of the refusal; `place` goes with it.
  * Columns and bytes count from 0.
@@ -24,11 +24,12 @@
  *   11  a value of another kind than the column's type; null given to a set        the column
  *   12  a value that its type does not hold, or a range past the text area        the column
  *   13  the row would pass 65,535 bytes                                            0
- *   14  no room in the lent output, or row_length beyond the buffer                0
+ *   14  no room in the lent output; row_length beyond the buffer;                  0
+ *       or fewer numbers lent than the schema has columns                          0
  *   15  the row to be edited is not sound                                          0
  *
- * What a refusal leaves. No lent byte is changed. What else the call hands out is 0, but the `length` of a refused
- * edit is the `row_length` that it got, so that it can be stored in any case.
+ * What a refusal leaves. No lent byte or number is changed. What else the call hands out is 0, but the `length` of a
+ * refused edit is the `row_length` that it got, so that it can be stored in any case.
  *
  * Threads. The calls keep no state: any number may run at once, as long as none writes what another is lent.
  *
@@ -61,9 +62,9 @@ extern "C" {
 /* The version of this interface: of this header. The first two numbers are its series, within which no call changes its
  * form. The last line is the version as rook_row_version answers it for the library. */
 #define ROOK_ROW_VERSION_MAJOR 0
-#define ROOK_ROW_VERSION_MINOR 2
+#define ROOK_ROW_VERSION_MINOR 3
 #define ROOK_ROW_VERSION_PATCH 0
-#define ROOK_ROW_VERSION "0.2.0"
+#define ROOK_ROW_VERSION "0.3.0"
 #define ROOK_ROW_VERSION_NUMBER \
     ((uint32_t)ROOK_ROW_VERSION_MAJOR << 16 | ROOK_ROW_VERSION_MINOR << 8 | ROOK_ROW_VERSION_PATCH)
 
@@ -167,6 +168,11 @@ typedef struct {
     size_t length;
 } rook_text_answer;
 
+typedef struct {
+    uint32_t valid; /* 1 for text, else 0 */
+    size_t points;  /* the code points of the text; 0 if it is none */
+} rook_check_answer;
+
 /* A handle: a row's length, and its layout: how many columns, how many Varchars, the bytes of the fixed columns, and
  * whether the row is packed, 0 or 1. No call uses the layout that it gets, so a handle is made of the length that
  * fresh, build or an edit handed back, and zeros. It has no padding: an accepted call stores every byte of it. */
@@ -190,22 +196,29 @@ rook_row_answer rook_row_fresh(const uint8_t *schema, size_t schema_length, uint
 
 /* The row of a value list.
  * Gets a schema, a value list with one record for each column, and the text area in which its texts and bit strings
- * lie, of at most 65,535 bytes; writes the row at the front of `out`. Bytes past the row stay as they are.
+ * lie, of at most 65,535 bytes; writes the row at the front of `out`, and at the front of `counts` a number for each
+ * column: the code points of a Char, Character or Varchar as it is stored, a Char's blanks with them, and 0 for a null
+ * and for every other type. Bytes past the row and numbers past the last column stay as they are.
  * Answers with the row's length.
  * Refuses with 1 and 2 (schema), 10 (value list), 11 and 12 (a column's value), 13 (row above 65,535 bytes),
- * 14 (out too short); then `out` is as it was, and `length` 0. */
+ * 14 (out too short, or fewer counts than columns); then `out` and `counts` are as they were, and `length` 0. */
 rook_row_answer rook_row_build(const uint8_t *schema, size_t schema_length, const uint8_t *values, size_t values_length,
-                               const uint8_t *text, size_t text_length, uint8_t *out, size_t out_length);
+                               const uint8_t *text, size_t text_length, uint8_t *out, size_t out_length,
+                               uint32_t *counts, size_t counts_length);
 
 /* The values of chosen columns of a row.
  * Gets a schema, a row and `wanted_count` column numbers, in any order, repeats allowed, unknown ones ignored; writes
- * a value list at the front of `out`, a record for each column of the schema, null for an unwanted one. The list's
- * text area is the row itself. 18 bytes a column are always enough; bytes past the list stay as they are.
+ * a value list at the front of `out`, a record for each column of the schema, null for an unwanted one, and at the
+ * front of `counts` a number for each column: the code points of a wanted Char, Character or Varchar as it is stored, a
+ * Char's blanks with them, and 0 for a null, for an unwanted column and for every other type. The list's text area is
+ * the row itself. 18 bytes a column are always enough; bytes past the list and numbers past the last column stay as
+ * they are.
  * Answers with the list's length.
- * Refuses with 1 and 2 (schema), 4, 3, 5, 6, 3 (row), 7 and 8 (a wanted column), 14 (out too short); then `out` is
- * as it was, and `length` 0. */
+ * Refuses with 1 and 2 (schema), 4, 3, 5, 6, 3 (row), 7 and 8 (a wanted column), 14 (out too short, or fewer counts
+ * than columns); then `out` and `counts` are as they were, and `length` 0. */
 rook_row_answer rook_row_read(const uint8_t *schema, size_t schema_length, const uint8_t *row, size_t row_length,
-                              const uint16_t *wanted, size_t wanted_count, uint8_t *out, size_t out_length);
+                              const uint16_t *wanted, size_t wanted_count, uint8_t *out, size_t out_length,
+                              uint32_t *counts, size_t counts_length);
 
 /* A column set to a value, in place.
  * Gets a schema, a buffer whose first `row_length` bytes are the row, the column, a value list of exactly one record,
@@ -260,20 +273,20 @@ rook_flag_answer rook_row_same_content(const uint8_t *schema, size_t schema_leng
  * than its bitmap), place 0; then `flag` is 0. */
 rook_flag_answer rook_row_is_null(const uint8_t *row, size_t row_length, size_t column);
 
-/* Whether bytes are text by RFC 3629 (UTF-8).
+/* Whether bytes are text by RFC 3629 (UTF-8), and of how many code points.
  * Gets any bytes; writes nothing, refuses nothing.
- * Answers with 1 for text, else 0. */
-uint32_t rook_text_valid(const uint8_t *text, size_t text_length);
+ * Answers with `valid` 1 and the text's code points, or with 0 and 0 for bytes that are no text. */
+rook_check_answer rook_text_check(const uint8_t *text, size_t text_length);
 
 /* The version of the library.
  * Gets nothing, writes nothing, refuses nothing.
- * Answers with a byte for each of its numbers: 0x000200 for 0.2.0. The library goes with this header if it is of the
+ * Answers with a byte for each of its numbers: 0x000300 for 0.3.0. The library goes with this header if it is of the
  * same series: rook_row_version() >> 8 == ROOK_ROW_VERSION_NUMBER >> 8. */
 uint32_t rook_row_version(void);
 
 /* As rook_row_version. A library of another series does not have this function, so that a program which calls it, or
  * only refers to it, does not link with one. */
-uint32_t rook_row_0_2(void);
+uint32_t rook_row_0_3(void);
 
 #ifdef __cplusplus
 }

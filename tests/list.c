@@ -65,22 +65,9 @@ static int is_text(const rook_value *value, const uint8_t *row, const char *byte
     return value->length == count && memcmp(row + value->start, bytes, count) == 0;
 }
 
-static void every_kind(void) {
-    uint8_t schema[64], records[ROOK_MAX_RECORD * 15], text[64], row[256], list[ROOK_MAX_RECORD * 15];
-    uint16_t all[15];
-    size_t schema_length = make_schema(schema, sizeof schema);
-    rook_values v = rook_values_in(records, sizeof records, text, sizeof text);
-    put_values(&v);
-    expect(rook_values_fit(&v), "the values do not fit");
-    rook_row_answer built = rook_row_build(schema, schema_length, records, v.records.length, text, v.text.length, row,
-                                           sizeof row);
-    expect(built.number == ROOK_DONE, rook_number_text(built.number));
-    for (uint16_t i = 0; i < 15; i++)
-        all[i] = i;
-    rook_row_answer read = rook_row_read(schema, schema_length, row, built.length, all, 15, list, sizeof list);
-    expect(read.number == ROOK_DONE, rook_number_text(read.number));
-
-    rook_values_reader reader = rook_values_of(list, read.length);
+/* The values that were put, as they were read. */
+static void compare(const uint8_t *list, size_t length, const uint8_t *row) {
+    rook_values_reader reader = rook_values_of(list, length);
     rook_value value = next(&reader, ROOK_VALUE_SMALL_INT);
     expect(value.number == -2, "SmallInt");
     expect((value = next(&reader, ROOK_VALUE_INT)).number == -70000, "Int");
@@ -105,6 +92,28 @@ static void every_kind(void) {
     expect(!rook_values_next(&reader, &value), "a value past the last");
 }
 
+static void every_kind(void) {
+    uint8_t schema[64], records[ROOK_MAX_RECORD * 15], text[64], row[256], list[ROOK_MAX_RECORD * 15];
+    uint16_t all[15];
+    uint32_t built_counts[15], counts[15];
+    static const uint32_t points[15] = {[7] = 4, [8] = 3};
+    size_t schema_length = make_schema(schema, sizeof schema);
+    rook_values v = rook_values_in(records, sizeof records, text, sizeof text);
+    put_values(&v);
+    expect(rook_values_fit(&v), "the values do not fit");
+    rook_row_answer built = rook_row_build(schema, schema_length, records, v.records.length, text, v.text.length, row,
+                                           sizeof row, built_counts, 15);
+    expect(built.number == ROOK_DONE, rook_number_text(built.number));
+    for (uint16_t i = 0; i < 15; i++)
+        all[i] = i;
+    rook_row_answer read =
+        rook_row_read(schema, schema_length, row, built.length, all, 15, list, sizeof list, counts, 15);
+    expect(read.number == ROOK_DONE, rook_number_text(read.number));
+    expect(memcmp(built_counts, points, sizeof points) == 0, "the code points of what was built");
+    expect(memcmp(counts, points, sizeof points) == 0, "the code points of what was read");
+    compare(list, read.length, row);
+}
+
 /* Numeric(4,2) of -12.34 is 01 23 4D, Numeric(3,0) of 7 is 00 7C. */
 static void numerics(void) {
     uint8_t schema[8], records[64], row[32];
@@ -114,8 +123,9 @@ static void numerics(void) {
     rook_values v = rook_values_in(records, sizeof records, NULL, 0);
     rook_values_numeric(&v, -1234, 2);
     rook_values_numeric(&v, 7, 0);
+    uint32_t counts[2];
     rook_row_answer built =
-        rook_row_build(schema, s.length, records, v.records.length, NULL, 0, row, sizeof row);
+        rook_row_build(schema, s.length, records, v.records.length, NULL, 0, row, sizeof row, counts, 2);
     static const uint8_t wanted[] = {2, 0, 0, 0x80, 0, 0x01, 0x23, 0x4D, 0x00, 0x7C};
     expect(built.length == sizeof wanted && memcmp(row, wanted, sizeof wanted) == 0, "the row of two Numerics");
 }

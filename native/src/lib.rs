@@ -26,6 +26,11 @@ pub const THREE_BYTE: &[&str] = &[
     "საქართველოსრკინიგზისსადგურებისადამატარებლებისგანრიგისნიმუშიარისესტექსტი",
 ];
 
+pub const FOUR_BYTE: &[&str] = &[
+    "𐌰𐍄𐍄𐌰𐌿𐌽𐍃𐌰𐍂𐌸𐌿𐌹𐌽𐌷𐌹𐌼𐌹𐌽𐌰𐌼𐍅𐌴𐌹𐌷𐌽𐌰𐌹𐌽𐌰𐌼𐍉𐌸𐌴𐌹𐌽𐌵𐌹𐌼𐌰𐌹𐌸𐌹𐌿𐌳𐌹𐌽𐌰𐍃𐍃𐌿𐍃𐌸𐌴𐌹𐌽𐍃",
+    "🚂🚃🚄🚅🚆🚇🚈🚉🚊🚝🚞🚟🚠🚡🚲🛤🛫🛬🕐🕑🕒🕓🕔🕕🕖🕗🕘🕙🕚🕛",
+];
+
 /// A text of exactly `length` bytes out of one of the sources, from a random character on. Where a character does not fit, letters fill the end.
 pub fn text(sources: &[&str], length: usize, random: &mut Random) -> Vec<u8> {
     let source: Vec<char> = sources[random.below(sources.len())].chars().collect();

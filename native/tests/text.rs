@@ -1,14 +1,11 @@
-//! The proved check against `std::str::from_utf8`.
+//! The proved check against `std::str::from_utf8`, and its code points against `chars`.
 
-use native::{text, Random, ACCENTED, ASCII, THREE_BYTE};
-use rook_row::raw::text_valid;
+use native::{text, Random, ACCENTED, ASCII, FOUR_BYTE, THREE_BYTE};
+use rook_row::raw::text_check;
 
 fn agree(bytes: &[u8]) {
-    assert_eq!(
-        text_valid(bytes),
-        std::str::from_utf8(bytes).is_ok(),
-        "{bytes:02X?}"
-    );
+    let wanted = std::str::from_utf8(bytes).map(|text| text.chars().count());
+    assert_eq!(text_check(bytes), wanted.ok(), "{bytes:02X?}");
 }
 
 /// The bytes at which a range of the grammar begins or ends.
@@ -93,7 +90,7 @@ fn four_bytes() {
 fn each_place() {
     let mut random = Random(7);
     for length in 0..=300 {
-        for sources in [ASCII, ACCENTED, THREE_BYTE] {
+        for sources in [ASCII, ACCENTED, THREE_BYTE, FOUR_BYTE] {
             let whole = text(sources, length, &mut random);
             for piece in PIECES {
                 for at in 0..=length {
@@ -109,6 +106,22 @@ fn each_place() {
             }
         }
     }
+}
+
+/// Texts of each sort up to lengths that a count in bytes, in 16 bits or in blocks would not hold.
+#[test]
+fn long_texts() {
+    let mut random = Random(13);
+    for sources in [ASCII, ACCENTED, THREE_BYTE, FOUR_BYTE] {
+        for length in (250..1200).chain([4_095, 4_096, 65_535, 65_536, 70_001, 1_000_000]) {
+            let whole = text(sources, length, &mut random);
+            agree(&whole);
+            let points = whole.iter().filter(|&&byte| byte & 0xC0 != 0x80).count();
+            assert_eq!(text_check(&whole), Some(points));
+        }
+    }
+    agree(&[b'x'; 300_000]);
+    agree("\u{10FFFF}".repeat(70_000).as_bytes());
 }
 
 /// Random bytes and texts with random changes, between bytes that must not matter, at each alignment.
@@ -152,7 +165,7 @@ fn random_texts() {
             }
             _ => {
                 // A valid text, then up to two bytes of it changed.
-                let sources = [ASCII, ACCENTED, THREE_BYTE][random.below(3)];
+                let sources = [ASCII, ACCENTED, THREE_BYTE, FOUR_BYTE][random.below(4)];
                 let source = sources[random.below(sources.len())].as_bytes();
                 let mut shift = random.below(source.len());
                 while source[shift % source.len()] & 0xC0 == 0x80 {

@@ -1,6 +1,6 @@
 //! A day of platform occupations: a table of 1,000 rows, built, edited, scanned and printed.
 use rook_row::{
-    Builder, DataType, Date, Editor, Error, Reader, RowBuf, RowRef, Schema, Time, Timestamp, Value,
+    Builder, DataType, Date, Editor, Error, Reader, RowBuf, Schema, Time, Timestamp, Value,
 };
 
 const UNITS: [&str; 5] = ["ET 41", "ET 42", "VT 628", "RS 1", "Wendezug Süd"];
@@ -76,9 +76,32 @@ fn scan(schema: &Schema, rows: &[RowBuf], platform: &str) -> Result<(i32, Time),
     Ok((cars, longest))
 }
 
-fn print(schema: &Schema, row: RowRef) -> Result<(), Error> {
-    let fields: Vec<String> = row.read(schema)?.iter().map(Value::to_string).collect();
-    println!("  {}", fields.join(" | "));
+/// What a value is printed as, and how many characters that is: those of a text were counted by the read, and all else
+/// is ASCII.
+fn field((value, width): (Value, usize)) -> (String, usize) {
+    let field = value.to_string();
+    let width = match value {
+        Value::Text(_) => width,
+        _ => field.len(),
+    };
+    (field, width)
+}
+
+/// Prints rows in boxes that are as wide as their widest field.
+fn print(schema: &Schema, rows: &[&RowBuf]) -> Result<(), Error> {
+    let mut table = Vec::new();
+    for row in rows {
+        let values = row.read_with_widths(schema)?;
+        table.push(values.into_iter().map(field).collect::<Vec<_>>());
+    }
+    for row in &table {
+        let boxes = row.iter().enumerate().map(|(column, (field, width))| {
+            let widest = table.iter().map(|row| row[column].1).max();
+            let blanks = " ".repeat(widest.unwrap_or(0) - width);
+            format!("{field}{blanks}")
+        });
+        println!("  {} |", boxes.collect::<Vec<_>>().join(" | "));
+    }
     Ok(())
 }
 
@@ -100,13 +123,11 @@ fn main() -> Result<(), Error> {
         println!("platform {platform}: {cars} cars, longest stop {longest}");
     }
 
-    for row in rows
-        .iter()
-        .filter(|row| row.get(&schema, "platform") == Ok("12b"))
-        .take(3)
-    {
-        print(&schema, row.as_row())?;
-    }
+    let of_12b = |row: &&RowBuf| row.get(&schema, "platform") == Ok("12b");
+    print(
+        &schema,
+        &rows.iter().filter(of_12b).take(3).collect::<Vec<_>>(),
+    )?;
     if let Err(refused) = rows[0].set(&schema, "platform", "depot west") {
         println!("{refused}");
     }

@@ -1,6 +1,6 @@
 //! Many rows built of values.
 use crate::error::Call;
-use crate::list::ValueList;
+use crate::list::{with_counts, ValueList};
 use crate::{raw, Error, RowMut, RowRef, Schema, Value, MAX_LENGTH};
 use alloc::vec::Vec;
 
@@ -22,6 +22,8 @@ pub struct Builder {
     schema: Schema,
     list: ValueList,
     row: Vec<u8>,
+    /// Those of the row that was last built with widths.
+    widths: Vec<usize>,
 }
 
 impl Builder {
@@ -31,20 +33,43 @@ impl Builder {
             schema: schema.clone(),
             list: ValueList::default(),
             row: Vec::new(),
+            widths: Vec::new(),
         }
     }
 
     /// The row of these values, one for each column. Refuses with 10 (not one for each column, or texts above 65,535
     /// bytes), 11 and 12 (a column's value), 13 (row above 65,535 bytes).
     pub fn build(&mut self, values: &[Value<'_>]) -> Result<RowRef<'_>, Error> {
-        self.list.fill(&self.schema, values);
-        // Only the texts of Varchars lengthen the row of nulls, and the text area has those and more.
-        let room = (self.schema.minimum() + self.list.text().len()).min(MAX_LENGTH);
-        if self.row.len() < room {
-            self.row.resize(room, 0);
-        }
-        let length = write(&self.schema, &self.list, values, &mut self.row)?;
+        let length = self.write(values, |_, _| ())?;
         Ok(RowRef::new(&self.row[..length]))
+    }
+
+    /// The row of these values and the widths of its columns: the code points of each text as it is stored, a Char's
+    /// blanks with them, or 0 for a null and for a column without text. Refuses as [`build`](Builder::build).
+    ///
+    /// ```
+    /// use rook_row::{Builder, DataType, Schema};
+    ///
+    /// let schema = Schema::new([("unit", DataType::Varchar(16)), ("cars", DataType::SmallInt)])?;
+    /// let mut builder = Builder::new(&schema);
+    /// let mut widest = 0;
+    /// for unit in ["Süd", "ET 41"] {
+    ///     let (row, widths) = builder.build_with_widths(&[unit.into(), 4i16.into()])?;
+    ///     assert_eq!(row.get::<&str>(&schema, "unit")?, unit);
+    ///     widest = widest.max(widths[0]);
+    /// }
+    /// assert_eq!(widest, 5);
+    /// # Ok::<(), rook_row::Error>(())
+    /// ```
+    pub fn build_with_widths(
+        &mut self,
+        values: &[Value<'_>],
+    ) -> Result<(RowRef<'_>, &[usize]), Error> {
+        let length = self.write(values, |counts, widths| {
+            widths.clear();
+            widths.extend(counts.iter().map(|&count| count as usize));
+        })?;
+        Ok((RowRef::new(&self.row[..length]), &self.widths))
     }
 
     /// The row of these values at the front of a lent buffer. Refuses as [`build`](Builder::build), and with 14 (the
@@ -55,8 +80,31 @@ impl Builder {
         buffer: &'b mut [u8],
     ) -> Result<RowMut<'b>, Error> {
         self.list.fill(&self.schema, values);
-        let length = write(&self.schema, &self.list, values, buffer)?;
+        let length = with_counts(self.schema.len(), |counts| {
+            write(&self.schema, &self.list, values, buffer, counts)
+        })?;
         Ok(RowMut::new(buffer, length))
+    }
+
+    /// Writes the row of these values to the kept memory, and hands back its length; `then` is given the counts of code
+    /// points, and the kept widths.
+    #[inline]
+    fn write(
+        &mut self,
+        values: &[Value<'_>],
+        then: impl FnOnce(&[u32], &mut Vec<usize>),
+    ) -> Result<usize, Error> {
+        self.list.fill(&self.schema, values);
+        // Only the texts of Varchars lengthen the row of nulls, and the text area has those and more.
+        let room = (self.schema.minimum() + self.list.text().len()).min(MAX_LENGTH);
+        if self.row.len() < room {
+            self.row.resize(room, 0);
+        }
+        with_counts(self.schema.len(), |counts| {
+            let length = write(&self.schema, &self.list, values, &mut self.row, counts)?;
+            then(counts, &mut self.widths);
+            Ok(length)
+        })
     }
 }
 
@@ -65,7 +113,8 @@ fn write(
     list: &ValueList,
     values: &[Value<'_>],
     out: &mut [u8],
+    counts: &mut [u32],
 ) -> Result<usize, Error> {
-    raw::build(schema.as_bytes(), list.bytes(), list.text(), out)
+    raw::build(schema.as_bytes(), list.bytes(), list.text(), out, counts)
         .map_err(|refusal| Error::new(refusal, Call::Build(schema, values)))
 }

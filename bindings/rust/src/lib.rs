@@ -30,6 +30,10 @@
 //! # Ok::<(), Error>(())
 //! ```
 //!
+//! A table lines up by the code points of its texts, which reading and building count on the way:
+//! [`RowRef::widths`], [`Columns::width`] and [`Builder::build_with_widths`] hand them out. A width is a number of code
+//! points, so a mark that is put on a letter counts by itself.
+//!
 //! [`RowRef`] borrows its bytes, [`RowBuf`] owns them, as `str` and `String` do; [`RowMut`] edits a row in lent
 //! memory. For many rows of one schema there are [`Reader`], [`Builder`] and [`Editor`], which keep their memory.
 //! [`raw`] has the calls themselves: slices in, numbers out. The library keeps no state, so all of these may be used by

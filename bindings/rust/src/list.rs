@@ -9,6 +9,21 @@ pub(crate) const RECORD: usize = 18;
 /// it with 12.
 const NO_LENGTH: usize = 0xFFFF;
 
+/// Lends a number for each column, which takes no memory of the heap.
+#[inline(always)]
+pub(crate) fn with_counts<R>(columns: usize, then: impl FnOnce(&mut [u32]) -> R) -> R {
+    const FEW: usize = 32;
+    let (mut few, mut many);
+    let counts: &mut [u32] = if columns <= FEW {
+        few = [0; FEW];
+        &mut few[..columns]
+    } else {
+        many = [0; 256];
+        &mut many[..columns]
+    };
+    then(counts)
+}
+
 /// The text of a value, or the bytes of its bits: what its record has a range for.
 #[inline]
 pub(crate) fn text<'v>(value: &'v Value<'_>) -> &'v [u8] {

@@ -6,16 +6,20 @@
 //! let schema = [2, 11, 5, 0, 1]; // Int, Varchar(5), SmallInt
 //! let values = [2, 1, 0, 0, 0, 9, 0, 0, 2, 0, 0]; // Int 1; a Varchar, 2 bytes from byte 0 of the text; null
 //! let mut buffer = [0; 20];
-//! assert_eq!(raw::build(&schema, &values, b"AB", &mut buffer), Ok(15));
+//! let mut counts = [0; 3]; // the code points of each text
+//! assert_eq!(raw::build(&schema, &values, b"AB", &mut buffer, &mut counts), Ok(15));
+//! assert_eq!(counts, [0, 2, 0]);
 //! let row = [3, 0, 1, 0x80, 4, 0x0D, 0, 1, 0, 0, 0, 0, 0, 0x41, 0x42];
 //! assert_eq!(buffer[..15], row);
 //!
 //! // columns 0 and 1, as a value list whose text area is the row
 //! let mut list = [0; 54];
-//! assert_eq!(raw::read(&schema, &row, &[0, 1], &mut list), Ok(11));
+//! assert_eq!(raw::read(&schema, &row, &[0, 1], &mut list, &mut counts), Ok(11));
 //! assert_eq!(list[..11], [2, 1, 0, 0, 0, 9, 13, 0, 2, 0, 0]);
+//! assert_eq!(counts, [0, 2, 0]);
 //! assert_eq!(raw::text(&schema, &row, 1), Ok(13..15));
 //! assert_eq!(raw::same_content(&schema, &row, &row), Ok(true));
+//! assert_eq!(raw::text_check(&row[13..15]), Some(2));
 //! assert_eq!(raw::is_null(&row, 2), Ok(true));
 //! assert_eq!(raw::is_null(&row, 3), Err(raw::Refusal { number: 9, place: 0 }));
 //!
@@ -67,6 +71,12 @@ struct TextAnswer {
     length: usize,
 }
 
+#[repr(C)]
+struct CheckAnswer {
+    valid: u32,
+    points: usize,
+}
+
 /// Where the parts of a row stand: the counts of columns and Varchars, the bytes of the fixed columns, and whether
 /// the row is packed.
 #[repr(C)]
@@ -109,6 +119,8 @@ extern "C" {
         text_length: usize,
         out: *mut u8,
         out_length: usize,
+        counts: *mut u32,
+        counts_length: usize,
     ) -> RowAnswer;
     fn rook_row_read(
         schema: *const u8,
@@ -119,6 +131,8 @@ extern "C" {
         wanted_count: usize,
         out: *mut u8,
         out_length: usize,
+        counts: *mut u32,
+        counts_length: usize,
     ) -> RowAnswer;
     fn rook_row_set(
         schema: *const u8,
@@ -176,7 +190,7 @@ extern "C" {
         b_length: usize,
     ) -> FlagAnswer;
     fn rook_row_is_null(row: *const u8, row_length: usize, column: usize) -> FlagAnswer;
-    fn rook_text_valid(text: *const u8, text_length: usize) -> u32;
+    fn rook_text_check(text: *const u8, text_length: usize) -> CheckAnswer;
     fn rook_row_version() -> u32;
 }
 
@@ -198,8 +212,16 @@ pub fn fresh(schema: &[u8], out: &mut [u8]) -> Result<usize, Refusal> {
 }
 
 /// The row of a value list at the front of `out`; hands back its length. Texts and bit strings are ranges of `text`.
-pub fn build(schema: &[u8], values: &[u8], text: &[u8], out: &mut [u8]) -> Result<usize, Refusal> {
-    // SAFETY: as in `fresh`; `out` is borrowed alone.
+/// The code points of each text, as it is stored, go to the front of `counts`, a number for each column: 0 for a column
+/// that is null or has no text. A Char counts with its blanks. A list of fewer numbers than columns gives 14.
+pub fn build(
+    schema: &[u8],
+    values: &[u8],
+    text: &[u8],
+    out: &mut [u8],
+    counts: &mut [u32],
+) -> Result<usize, Refusal> {
+    // SAFETY: as in `fresh`; `out` and `counts` are borrowed alone.
     let answer = unsafe {
         rook_row_build(
             schema.as_ptr(),
@@ -210,6 +232,8 @@ pub fn build(schema: &[u8], values: &[u8], text: &[u8], out: &mut [u8]) -> Resul
             text.len(),
             out.as_mut_ptr(),
             out.len(),
+            counts.as_mut_ptr(),
+            counts.len(),
         )
     };
     done(answer.number, answer.place, answer.length)
@@ -217,9 +241,15 @@ pub fn build(schema: &[u8], values: &[u8], text: &[u8], out: &mut [u8]) -> Resul
 
 /// The wanted columns of a row as a value list at the front of `out`; hands back its length. A record for each
 /// column of the schema, null for an unwanted one; texts are ranges of the row. 18 bytes a column are always
-/// enough.
-pub fn read(schema: &[u8], row: &[u8], wanted: &[u16], out: &mut [u8]) -> Result<usize, Refusal> {
-    // SAFETY: as in `fresh`; `out` is borrowed alone.
+/// enough. The code points of each text go to the front of `counts` as in [`build`], 0 for an unwanted column.
+pub fn read(
+    schema: &[u8],
+    row: &[u8],
+    wanted: &[u16],
+    out: &mut [u8],
+    counts: &mut [u32],
+) -> Result<usize, Refusal> {
+    // SAFETY: as in `fresh`; `out` and `counts` are borrowed alone.
     let answer = unsafe {
         rook_row_read(
             schema.as_ptr(),
@@ -230,6 +260,8 @@ pub fn read(schema: &[u8], row: &[u8], wanted: &[u16], out: &mut [u8]) -> Result
             wanted.len(),
             out.as_mut_ptr(),
             out.len(),
+            counts.as_mut_ptr(),
+            counts.len(),
         )
     };
     done(answer.number, answer.place, answer.length)
@@ -376,13 +408,15 @@ pub fn is_null(row: &[u8], column: usize) -> Result<bool, Refusal> {
     done(answer.number, answer.place, answer.flag == 1)
 }
 
-/// Whether bytes are text by RFC 3629 (UTF-8).
-pub fn text_valid(text: &[u8]) -> bool {
+/// How many code points a text has; none for bytes that are no text by RFC 3629 (UTF-8).
+#[inline]
+pub fn text_check(text: &[u8]) -> Option<usize> {
     // SAFETY: as in `fresh`; the call writes nothing.
-    unsafe { rook_text_valid(text.as_ptr(), text.len()) == 1 }
+    let answer = unsafe { rook_text_check(text.as_ptr(), text.len()) };
+    (answer.valid == 1).then_some(answer.points)
 }
 
-/// The library's version, with a byte for each of its numbers: `0x000200` for 0.2.0.
+/// The library's version, with a byte for each of its numbers: `0x000300` for 0.3.0.
 pub fn version() -> u32 {
     // SAFETY: the call gets nothing.
     unsafe { rook_row_version() }

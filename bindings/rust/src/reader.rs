@@ -35,6 +35,8 @@ pub struct Reader {
     /// For each column that was asked for, its rank among the wanted ones; empty if that is its own place.
     ranks: Vec<u16>,
     list: Vec<u8>,
+    /// The code points of texts, a number for each column of the schema.
+    counts: Vec<u32>,
 }
 
 impl Reader {
@@ -63,11 +65,11 @@ impl Reader {
             let rank = |number| wanted.numbers().partition_point(|other| other < number) as u16;
             ranks.extend(asked.iter().map(rank));
         }
-        let list = vec![0; wanted.room()];
         Reader {
+            list: vec![0; wanted.room()],
+            counts: vec![0; schema.len()],
             wanted,
             ranks,
-            list,
         }
     }
 
@@ -78,11 +80,12 @@ impl Reader {
         let schema = self.wanted.schema();
         let records = self
             .wanted
-            .read(row, &mut self.list)
+            .read(row, &mut self.list, &mut self.counts)
             .map_err(|refusal| Error::new(refusal, Call::Read(schema, row)))?;
         Ok(Columns {
             wanted: &self.wanted,
             ranks: &self.ranks,
+            counts: &self.counts,
             records,
             cursor: Cell::new(Cursor::default()),
         })
@@ -94,6 +97,7 @@ impl Reader {
 pub struct Columns<'r, 'a> {
     wanted: &'r Wanted,
     ranks: &'r [u16],
+    counts: &'r [u32],
     records: Records<'r, 'a>,
     /// Where the last look was, so that one column after the other is found at once.
     cursor: Cell<Cursor>,
@@ -133,6 +137,39 @@ impl<'r, 'a> Columns<'r, 'a> {
             )),
             None => Err(Error::NoSuchColumn { column: place }),
         }
+    }
+
+    /// The width of such a column: the code points of its text as it is stored, a Char's blanks with them, or 0 for a
+    /// null and for a column without text. Refuses with 9 (there is none).
+    ///
+    /// ```
+    /// use rook_row::{DataType, Reader, RowBuf, Schema};
+    ///
+    /// let schema = Schema::new([("unit", DataType::Varchar(16)), ("cars", DataType::SmallInt)])?;
+    /// let row = RowBuf::build(&schema, &["Süd".into(), 4i16.into()])?;
+    /// let mut reader = Reader::new(&schema, &["cars", "unit"])?;
+    /// let columns = reader.read(&row)?;
+    /// assert_eq!((columns.get::<&str>("unit")?, columns.width("unit")?), ("Süd", 3));
+    /// assert!(columns.widths().eq([0, 3]));
+    /// # Ok::<(), rook_row::Error>(())
+    /// ```
+    pub fn width(&self, column: impl PlaceAsked) -> Result<usize, Error> {
+        let place = column.place(self)?;
+        match place < self.len() {
+            true => Ok(self.width_at(place)),
+            false => Err(Error::NoSuchColumn { column: place }),
+        }
+    }
+
+    /// The widths, in order, as [`width`](Columns::width) has them.
+    pub fn widths(&self) -> impl ExactSizeIterator<Item = usize> + '_ {
+        (0..self.len()).map(|place| self.width_at(place))
+    }
+
+    fn width_at(&self, place: usize) -> usize {
+        self.counts
+            .get(self.number(place))
+            .map_or(0, |&count| count as usize)
     }
 
     /// The values, in order.

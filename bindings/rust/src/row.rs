@@ -1,6 +1,7 @@
 //! Rows to read: bytes that are borrowed.
 use crate::error::Call;
-use crate::raw::records::{read_all, read_one, read_text};
+use crate::list::with_counts;
+use crate::raw::records::{count_all, read_all, read_one, read_text};
 use crate::{raw, ColumnIndex, Error, FromValue, Reader, RowBuf, Schema, Value};
 use alloc::vec::Vec;
 
@@ -34,8 +35,46 @@ impl<'a> RowRef<'a> {
 
     /// The values of all columns. Refuses with 3 to 6 (the row), 7 and 8 (a column).
     pub fn read(self, schema: &Schema) -> Result<Vec<Value<'a>>, Error> {
-        read_all(schema, self.bytes)
+        with_counts(schema.len(), |counts| read_all(schema, self.bytes, counts))
             .map_err(|refusal| Error::new(refusal, Call::Read(schema, self.bytes)))
+    }
+
+    /// The values of all columns, each with its width: the code points of its text as it is stored, a Char's blanks
+    /// with them, or 0 for a null and for a column without text. Refuses as [`read`](RowRef::read).
+    ///
+    /// ```
+    /// use rook_row::{DataType, RowBuf, Schema};
+    ///
+    /// let schema = Schema::new([("unit", DataType::Varchar(16)), ("cars", DataType::SmallInt)])?;
+    /// let row = RowBuf::build(&schema, &["Süd".into(), 4i16.into()])?; // four bytes
+    /// assert_eq!(row.read_with_widths(&schema)?, [("Süd".into(), 3), (4i16.into(), 0)]);
+    /// # Ok::<(), rook_row::Error>(())
+    /// ```
+    pub fn read_with_widths(self, schema: &Schema) -> Result<Vec<(Value<'a>, usize)>, Error> {
+        with_counts(schema.len(), |counts| {
+            let values = read_all(schema, self.bytes, counts)?;
+            let widths = counts.iter().map(|&count| count as usize);
+            Ok(values.into_iter().zip(widths).collect())
+        })
+        .map_err(|refusal| Error::new(refusal, Call::Read(schema, self.bytes)))
+    }
+
+    /// The widths of all columns, as [`read_with_widths`](RowRef::read_with_widths) has them.
+    ///
+    /// ```
+    /// use rook_row::{DataType, RowBuf, Schema, Value};
+    ///
+    /// let schema = Schema::new([DataType::Char(5), DataType::Varchar(5), DataType::Varchar(5)])?;
+    /// let row = RowBuf::build(&schema, &["é".into(), "é€".into(), Value::Null])?;
+    /// assert_eq!(row.widths(&schema)?, [4, 2, 0]); // three blanks fill the five bytes
+    /// # Ok::<(), rook_row::Error>(())
+    /// ```
+    pub fn widths(self, schema: &Schema) -> Result<Vec<usize>, Error> {
+        with_counts(schema.len(), |counts| {
+            count_all(schema, self.bytes, counts)?;
+            Ok(counts.iter().map(|&count| count as usize).collect())
+        })
+        .map_err(|refusal| Error::new(refusal, Call::Read(schema, self.bytes)))
     }
 
     /// The values of these columns, in this order. Refuses with 9 (no such column), 3 to 6 (the row), 7 and 8 (one of
@@ -56,13 +95,39 @@ impl<'a> RowRef<'a> {
         schema: &Schema,
         column: impl ColumnIndex,
     ) -> Result<T, Error> {
+        self.get_with_width(schema, column).map(|(value, _)| value)
+    }
+
+    /// The value of a column and its width: the code points of its text as it is stored, a Char's blanks with them, or
+    /// 0 for a null and for a column without text. Refuses as [`get`](RowRef::get).
+    ///
+    /// ```
+    /// use rook_row::{DataType, RowBuf, Schema};
+    ///
+    /// let schema = Schema::new([("unit", DataType::Varchar(16))])?;
+    /// let row = RowBuf::build(&schema, &["Süd".into()])?;
+    /// let (unit, width) = row.get_with_width::<&str>(&schema, "unit")?;
+    /// assert_eq!(format!("|{unit}{:1$}|", "", 8 - width), "|Süd     |");
+    /// # Ok::<(), rook_row::Error>(())
+    /// ```
+    #[inline]
+    pub fn get_with_width<T: FromValue<'a>>(
+        self,
+        schema: &Schema,
+        column: impl ColumnIndex,
+    ) -> Result<(T, usize), Error> {
         let column = column.number(schema)?;
         if column >= schema.len() {
             return Err(Error::NoSuchColumn { column });
         }
-        let value = read_one(schema, self.bytes, column)
-            .map_err(|refusal| Error::new(refusal, Call::Read(schema, self.bytes)))?;
-        T::from_value(value).map_err(|error| Error::not_read_as(error, schema, column))
+        let (value, width) = with_counts(schema.len(), |counts| {
+            let value = read_one(schema, self.bytes, column, counts)?;
+            Ok((value, counts[column] as usize))
+        })
+        .map_err(|refusal| Error::new(refusal, Call::Read(schema, self.bytes)))?;
+        let value = T::from_value(value);
+        let value = value.map_err(|error| Error::not_read_as(error, schema, column))?;
+        Ok((value, width))
     }
 
     /// The text of a Char, with its blanks, or of a Varchar; `None` for null. Refuses with 9 (no such column), 11 (a

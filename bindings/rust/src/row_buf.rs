@@ -14,6 +14,16 @@ macro_rules! reads_as_a_row {
             self.as_row().read(schema)
         }
 
+        /// As [`RowRef::read_with_widths`].
+        pub fn read_with_widths(&self, schema: &Schema) -> Result<Vec<(Value<'_>, usize)>, Error> {
+            self.as_row().read_with_widths(schema)
+        }
+
+        /// As [`RowRef::widths`].
+        pub fn widths(&self, schema: &Schema) -> Result<Vec<usize>, Error> {
+            self.as_row().widths(schema)
+        }
+
         /// As [`RowRef::read_columns`].
         pub fn read_columns(
             &self,
@@ -30,6 +40,15 @@ macro_rules! reads_as_a_row {
             column: impl ColumnIndex,
         ) -> Result<T, Error> {
             self.as_row().get(schema, column)
+        }
+
+        /// As [`RowRef::get_with_width`].
+        pub fn get_with_width<'r, T: FromValue<'r>>(
+            &'r self,
+            schema: &Schema,
+            column: impl ColumnIndex,
+        ) -> Result<(T, usize), Error> {
+            self.as_row().get_with_width(schema, column)
         }
 
         /// As [`RowRef::text`].
@@ -75,6 +94,16 @@ impl RowBuf {
     pub fn build(schema: &Schema, values: &[Value<'_>]) -> Result<RowBuf, Error> {
         let mut builder = Builder::new(schema);
         builder.build(values).map(RowRef::to_owned)
+    }
+
+    /// The row of these values and the widths of its columns, as [`Builder::build_with_widths`] has them.
+    pub fn build_with_widths(
+        schema: &Schema,
+        values: &[Value<'_>],
+    ) -> Result<(RowBuf, Vec<usize>), Error> {
+        let mut builder = Builder::new(schema);
+        let (row, widths) = builder.build_with_widths(values)?;
+        Ok((row.to_owned(), widths.to_vec()))
     }
 
     /// The row of these bytes, whatever they are: the calls check them.

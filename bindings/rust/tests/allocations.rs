@@ -50,12 +50,17 @@ fn none_in_a_loop() {
             .iter()
             .eq([values[2].borrowed(), values[0].borrowed()]));
         assert_eq!(columns.get::<&str>("platform"), Ok("platform 7"));
+        assert!(columns.widths().eq([0, 10]));
+        let (row, widths) = builder.build_with_widths(&values).unwrap();
+        assert_eq!(widths, [10, 0, 0]);
         editor.open(row);
         editor.set("platform", "platform 12 b").unwrap();
         editor.set("cars", None::<i16>).unwrap();
         let row = RowRef::new(page.as_bytes());
         assert_eq!(row.get::<i16>(&schema, "cars"), Ok(4));
         assert_eq!(row.text(&schema, 0), Ok(Some("platform 7")));
+        let wide = row.get_with_width::<&str>(&schema, 0);
+        assert_eq!(wide, Ok(("platform 7", 10)));
     };
     round();
     assert_eq!(allocations(|| (0..100).for_each(|_| round())), 0);

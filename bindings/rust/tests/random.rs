@@ -1,6 +1,7 @@
 //! Random schemas, values and edits: what goes in comes out, and there is always room.
 use rook_row::{
-    Bits, Builder, DataType, Date, Editor, Numeric, Reader, RowMut, Schema, Time, Timestamp, Value,
+    Bits, Builder, DataType, Date, Editor, Numeric, Reader, RowBuf, RowMut, Schema, Time,
+    Timestamp, Value,
 };
 
 /// Numbers that look random (xorshift).
@@ -107,6 +108,26 @@ fn check_read(random: &mut Random, schema: &Schema, values: &[Value], row: &[u8]
     assert!(columns
         .iter()
         .eq(wanted.iter().map(|&column| values[column].borrowed())));
+    assert!(columns
+        .widths()
+        .eq(wanted.iter().map(|&column| width(&values[column]))));
+}
+
+/// The row that is built of these values has the length, the widths and the content of this one.
+fn check_built(builder: &mut Builder, schema: &Schema, values: &[Value], row: &RowBuf) {
+    let (built, widths) = builder.build_with_widths(values).unwrap();
+    assert_eq!(row.as_bytes().len(), built.as_bytes().len());
+    assert!(widths.iter().copied().eq(values.iter().map(width)));
+    assert_eq!(row.widths(schema).unwrap(), widths);
+    assert_eq!(row.same_content(schema, built), Ok(true));
+}
+
+/// The code points of a text.
+fn width(value: &Value) -> usize {
+    match value {
+        Value::Text(text) => text.chars().count(),
+        _ => 0,
+    }
 }
 
 #[test]
@@ -144,8 +165,6 @@ fn built_edited_and_read() {
             assert_eq!((lent.as_row(), editor.row()), (row.as_row(), row.as_row()));
             check_read(&mut random, &schema, &values, row.as_bytes());
         }
-        let built = builder.build(&values).unwrap();
-        assert_eq!(row.as_bytes().len(), built.as_bytes().len());
-        assert_eq!(row.same_content(&schema, built), Ok(true));
+        check_built(&mut builder, &schema, &values, &row);
     }
 }

@@ -128,7 +128,7 @@ fn case_9_text() {
     };
     for invalid in [&b"\xED\xA0\x80"[..], b"\xC0\x80", b"\xF4\x90\x80\x80"] {
         assert_eq!(refused(read(invalid)), (8, 0));
-        assert!(!rook_row::raw::text_valid(invalid));
+        assert_eq!(rook_row::raw::text_check(invalid), None);
     }
     assert_eq!(read(b"\xF4\x8F\xBF\xBF").unwrap(), "\u{10FFFF}");
 }

@@ -1,1 +1,2 @@
 pub mod Present
+mod Counts

@@ -20,6 +20,7 @@ use Rattle.datatype.proofs.Plain.{Plain, plain-facts, plain-record}
 use Rattle.stored_form.specs.declared.SlotRead.{SlotRead}
 use Rattle.stored_form.specs.declared.SlotRead.the-variants as Slot
 use Rattle.stored_form.specs.Read.{readSlot}
+use Rattle.value.specs.declared.DataValue.{DataValue}
 use Rattle.slot_record.specs.InnerRecord.{recorded}
 use Rattle.slot_record.proofs.Numbers.{part-length}
 use Rattle.row_column.specs.Column.{slotValue}
@@ -28,10 +29,15 @@ use Rattle.row_column.specs.declared.ColumnRead.the-variants as Read
 use Rattle.row_column.specs.InnerWalk.{walkedColumn, Reachable, InRow}
 use Rattle.column_decode.specs.InnerColumn.{stepped}
 
--- a slot's record is the column's
-pub slot-stepped : (buf : List ℕ) (end i : ℕ) (x : SlotRead) → recorded buf end i x ≡ stepped buf end (slotValue i x)
-slot-stepped buf end i (Slot.Value v) = refl
-slot-stepped buf end i Slot.NoValue = refl
+-- a slot's record is the column's, where n is its value's count
+abbrev pub CountOf : (DataValue → ℕ) → ℕ → SlotRead → Type 0
+CountOf f n (Slot.Value v) = n ≡ f v
+CountOf f n Slot.NoValue = Unit {0}
+
+pub slot-stepped : (buf : List ℕ) (end i n : ℕ) (f : DataValue → ℕ) (x : SlotRead) → CountOf f n x
+    → recorded buf end i n x ≡ stepped buf end f (slotValue i x)
+slot-stepped buf end i n f (Slot.Value v) e = rw e
+slot-stepped buf end i n f Slot.NoValue e = refl
 
 -- a text in a row is one in a longer row
 pub wider : (c : ColumnRead) (n m : ℕ) → n ≤ m → InRow n c → InRow m c

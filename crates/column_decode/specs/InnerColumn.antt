@@ -6,23 +6,28 @@ use mathlib.Core.Path.{_≡_}
 use lib.ListN.{length}
 use lib.Seq.{sets}
 use Rattle.error.specs.declared.Refusal.{Refusal}
-use Rattle.error.specs.declared.Answer.the-variants as Answer
-use Rattle.error.specs.Answer.{Outcome}
 use Rattle.row_format.specs.Places.{rowLimit}
 use Rattle.row_layout.specs.declared.RowLayout.{RowLayout}
 use Rattle.datatype.specs.declared.Record.the-variants as Record
 use Rattle.datatype.specs.Schema.{columnRecordAt}
 use Rattle.datatype.specs.Check.{typeAt, typesIn}
 use Rattle.datatype.specs.InnerSteps.{typeIn}
+use Rattle.value.specs.declared.DataValue.{DataValue}
 use Rattle.value_list.specs.Records.{recordOf}
+use Rattle.slot_record.specs.declared.Recorded.{Recorded}
+use Rattle.slot_record.specs.declared.Recorded.the-variants as Recorded
 use Rattle.row_column.specs.declared.ColumnRead.{ColumnRead}
 use Rattle.row_column.specs.declared.ColumnRead.the-variants.{Value, Refused}
 use Rattle.row_column.specs.InnerWalk.{Reachable}
 
--- a column's record written at `end`
-abbrev pub stepped : List ℕ → ℕ → ColumnRead → Outcome
-stepped buf end (Value v) = (Answer.Done (end + length (recordOf v)), sets buf end (recordOf v))
-stepped buf end (Refused e) = (Answer.Refused e, buf)
+-- a column's record written at `end`, with the count f of its value
+abbrev pub stepped : List ℕ → ℕ → (DataValue → ℕ) → ColumnRead → Recorded × List ℕ
+stepped buf end f (Value v) = (Recorded.Done (end + length (recordOf v)) (f v), sets buf end (recordOf v))
+stepped buf end f (Refused e) = (Recorded.Refused e, buf)
+
+-- the count of what is no text
+abbrev pub noPoints : DataValue → ℕ
+noPoints v = 0
 
 -- what the walk has come to: a record of the schema, and room for the column's own
 pub record DecodeAt (s : List ℕ) (at : ℕ) (l : RowLayout) (p : Bool) (b : RowLayout) (r buf : List ℕ) (end : ℕ) : Type

@@ -1,11 +1,11 @@
 // row.rs, `RowDecoder::decode`: one column of a row, its value written as a record of a value list.
 use datatype::Record;
 use datatype::schema_kinds;
-use error::Answer;
 use error::Refusal;
 use row_column::ColumnRead;
 use row_layout::RowLayout;
 use row_layout::VarlenRange;
+use slot_record::Recorded;
 ghost use mathlib.Core.Path.{_≡_};
 ghost use mathlib.Core.Bool.{false};
 ghost use Prim.Native.Nat.{_+_, _*_, _<_, _≤_};
@@ -18,15 +18,16 @@ ghost use Rattle.datatype.specs.declared.DataType.the-variants.{Char as CharTyp
 ghost use Rattle.datatype.specs.Check.{typeAt, typesIn};
 ghost use Rattle.row_column.specs.Column.{readBytes, varlenValue};
 ghost use Rattle.row_column.specs.InnerWalk.{walkedPlace, walkedColumn, Reachable, InRow};
-ghost use Rattle.column_decode.specs.InnerColumn.{stepped, DecodeAt};
+ghost use Rattle.stored_form.specs.Points.{pointsIn};
+ghost use Rattle.column_decode.specs.InnerColumn.{stepped, noPoints, DecodeAt};
 
-fn write_column(buf: &mut [u8], end: usize, column: ColumnRead) -> Answer
+fn write_column(buf: &mut [u8], end: usize, column: ColumnRead) -> Recorded
     requires { ⌜ (end + 18 ≤ length (now buf)) × InRow 65535 column ⌝ }
-    ensures { λ r. ⌜ (r, now (buf .exit)) ≡ stepped (now (buf .entry)) end column ⌝ }
+    ensures { λ r. ⌜ (r, now (buf .exit)) ≡ stepped (now (buf .entry)) end noPoints column ⌝ }
 {
     match column {
-        ColumnRead::Value(v) => Answer::Done(record_encode::write_value_record(buf, end, v)),
-        ColumnRead::Refused(e) => Answer::Refused(e),
+        ColumnRead::Value(v) => Recorded::Done(record_encode::write_value_record(buf, end, v), 0),
+        ColumnRead::Refused(e) => Recorded::Refused(e),
     }
 }
 
@@ -40,20 +41,20 @@ fn decode_varchar(
     rank: usize,
     buf: &mut [u8],
     end: usize,
-) -> Answer
+) -> Recorded
     requires { ⌜ ((rank < varlens) × (table + varlens * offsetWidth ≤ length (now row)))
         × ((length (now row) ≤ 65535) × (end + 18 ≤ length (now buf))) ⌝ }
     ensures { λ r. ⌜ (r, now (buf .exit))
-        ≡ stepped (now (buf .entry)) end
+        ≡ stepped (now (buf .entry)) end (pointsIn (now (row .entry)))
         (varlenValue (VarcharType n) i (now (row .entry))
         (varlenRange offsetWidth table varlens rank (now (row .entry)))) ⌝ }
 {
     match row_layout::varlen_range(row, table, varlens, rank) {
-        VarlenRange::Null => Answer::Done(record_encode::write_null(buf, end)),
+        VarlenRange::Null => Recorded::Done(record_encode::write_null(buf, end), 0),
         VarlenRange::Bytes(start, stop) => {
             slot_record::varchar_record(n, i, row, start, stop, buf, end)
         }
-        VarlenRange::Outside => Answer::Refused(Refusal::BadRange(i)),
+        VarlenRange::Outside => Recorded::Refused(Refusal::BadRange(i)),
     }
 }
 
@@ -66,11 +67,11 @@ fn decode_char(
     row: &[u8],
     buf: &mut [u8],
     end: usize,
-) -> Answer
+) -> Recorded
     requires { ⌜ Reachable layout packed before (CharType n) (now row)
         × ((length (now row) ≤ 65535) × (end + 18 ≤ length (now buf))) ⌝ }
     ensures { λ r. ⌜ (r, now (buf .exit))
-        ≡ stepped (now (buf .entry)) end
+        ≡ stepped (now (buf .entry)) end (pointsIn (now (row .entry)))
         (readBytes (CharType n) (before .«num_columns») (now (row .entry))
         (walkedPlace layout packed before (CharType n)) (walkedPlace layout packed before (CharType n) + n)) ⌝ }
 {
@@ -78,7 +79,7 @@ fn decode_char(
     slot_record::char_record(before.num_columns, row, start, start + n, buf, end)
 }
 
-// The other types with a body, by their value.
+// The other types with a body, by their value, which is no text.
 fn decode_value(
     schema: &[u8],
     at: usize,
@@ -88,15 +89,15 @@ fn decode_value(
     row: &[u8],
     buf: &mut [u8],
     end: usize,
-) -> Answer
+) -> Recorded
     requires { ⌜ DecodeAt (now schema) at layout packed before (now row) (now buf) end ⌝ }
     ensures { λ r. ⌜ (r, now (buf .exit))
-        ≡ stepped (now (buf .entry)) end
+        ≡ stepped (now (buf .entry)) end noPoints
         (walkedColumn layout packed before (typeAt (typesIn (now (schema .entry))) (before .«num_columns»))
         (now (row .entry))) ⌝ }
 {
     match datatype::record_at(schema, at) {
-        Record::Refused(e) => Answer::Refused(e),
+        Record::Refused(e) => Recorded::Refused(e),
         Record::Column(ty, _) => {
             let column = row_column::read_column(layout, packed, before, ty, row);
             write_column(buf, end, column)
@@ -114,11 +115,11 @@ fn decode_body(
     row: &[u8],
     buf: &mut [u8],
     end: usize,
-) -> Answer
+) -> Recorded
     requires { ⌜ DecodeAt (now schema) at layout packed before (now row) (now buf) end
         × (eqb (bitAt (before .«num_columns») (drop bitmapStart (now row))) 1 ≡ false) ⌝ }
     ensures { λ r. ⌜ (r, now (buf .exit))
-        ≡ stepped (now (buf .entry)) end
+        ≡ stepped (now (buf .entry)) end (pointsIn (now (row .entry)))
         (walkedColumn layout packed before (typeAt (typesIn (now (schema .entry))) (before .«num_columns»))
         (now (row .entry))) ⌝ }
 {
@@ -159,11 +160,11 @@ pub fn decode_present(
     row: &[u8],
     buf: &mut [u8],
     end: usize,
-) -> Answer
+) -> Recorded
     requires { ⌜ DecodeAt (now schema) at layout packed before (now row) (now buf) end
         × (eqb (bitAt (before .«num_columns») (drop bitmapStart (now row))) 1 ≡ false) ⌝ }
     ensures { λ r. ⌜ (r, now (buf .exit))
-        ≡ stepped (now (buf .entry)) end
+        ≡ stepped (now (buf .entry)) end (pointsIn (now (row .entry)))
         (walkedColumn layout packed before (typeAt (typesIn (now (schema .entry))) (before .«num_columns»))
         (now (row .entry))) ⌝ }
 {

@@ -172,7 +172,7 @@ module _ {schema : List ℕ} {ts : List DataType} (g : HandleHistory schema ts) 
       record {
         answered = answers-same;
         state = left-same;
-        built = λ o. rw (sheet-same, zeroed-same) (history (g .plain) .built o);
+        built = λ o counts. rw (sheet-same, zeroed-same) (history (g .plain) .built o counts);
         layout =
             run-layout offsetWidth rowLimit schema (g .plain .calls) (handleStart g) ∙ rw (same-types, left-packed);
       }

@@ -9,7 +9,7 @@ use mathlib.Core.Path.{_≡_}
 use lib.ListN.{length, replicate}
 use Rattle.error.specs.declared.Answer.{Answer}
 use Rattle.error.specs.declared.Answer.the-variants.{Done, Refused}
-use Rattle.error.specs.Answer.{placed}
+use Rattle.error.specs.Answer.{placedBoth}
 use Rattle.row_format.specs.Places.{offsetWidth, rowLimit}
 use Rattle.row_format.specs.Table.{Cell}
 use Rattle.row_format.specs.Zeroed.{zeroedRow}
@@ -17,7 +17,7 @@ use Rattle.datatype.specs.declared.DataType.{DataType}
 use Rattle.datatype.specs.Types.{shapeOf}
 use Rattle.datatype.specs.Check.{layoutFor}
 use Rattle.value_list.specs.Lists.{listOf}
-use Rattle.row_build.specs.Build.{buildCall}
+use Rattle.row_build.specs.Build.{cellsPoints, buildCall}
 use Rattle.history.specs.History.{Call, setValue, setNull, State, rowOf, Entry, sheetBy, texts, lastValues, sheetCells}
 use Rattle.history.specs.Demand.{History, left, replies}
 use Rattle.row_handle.specs.declared.RowHandle.{RowHandle}
@@ -86,9 +86,9 @@ module _ {schema : List ℕ} {ts : List DataType} (g : HandleHistory schema ts) 
   pub record Carries : Type 0 where
     pub answered : handleReplies ≡ replies (g .plain)
     pub state : stateOf handleLeft ≡ left (g .plain)
-    pub built : (o : List ℕ)
-        → buildCall offsetWidth rowLimit schema (listOf (lastValues 0 handleSheet)) (texts handleSheet) o
-        ≡ placed o handleZeroed
+    pub built : (o counts : List ℕ)
+        → buildCall offsetWidth rowLimit schema (listOf (lastValues 0 handleSheet)) (texts handleSheet) o counts
+        ≡ placedBoth o counts handleZeroed (cellsPoints ts handleCells)
     pub layout : handleLeft .handle .layout
         ≡ cond (someDone handleReplies) (geometry (layoutFor ts) true) (g .handle .layout)
 

@@ -4,12 +4,13 @@ use mathlib.Core.List.{List, map}
 use mathlib.Core.Path.{_≡_, sym, ap, _∙_}
 use native.Mathlib.Omega.{arith}
 use lib.ListN.{length}
-use Rattle.error.specs.Answer.{placed}
+use Rattle.error.specs.Answer.{placedBoth}
 use Rattle.row_format.specs.Places.{offsetWidth, rowLimit}
 use Rattle.row_format.specs.Row.{builtRow}
 use Rattle.row_format.proofs.Cells.{built-inj}
 use Rattle.datatype.specs.declared.DataType.{DataType}
 use Rattle.datatype.specs.Types.{shapeOf}
+use Rattle.row_build.specs.Build.{cellsPoints}
 use Rattle.history.specs.Demand.{History, left, zeroed, sheet, cells, Leaves, Told}
 use Rattle.history.proofs.Kept.{Kept, fits, kept-length, kept-long, built-length, kept-zeroed, keeps-start, keeps-all, keeps-built}
 
@@ -26,7 +27,7 @@ module _ {schema : List ℕ} {ts : List DataType} (h : History schema ts) where
   pub history : Leaves h
   history =
       record {
-        built = λ o. keeps-built rowLimit schema ts (h .columns) wide (omega arith) kept o ∙ ap (placed o) (sym zeroed-cells);
+        built = λ o counts. keeps-built rowLimit schema ts (h .columns) wide (omega arith) kept o counts ∙ ap (λ (r : List ℕ). placedBoth o counts r (cellsPoints ts (cells h))) (sym zeroed-cells);
         handed = sym (kept-length offsetWidth rowLimit ts kept);
         long = kept-length offsetWidth rowLimit ts kept ∙ kept-long offsetWidth rowLimit ts kept;
         same-length =

@@ -15,7 +15,7 @@ use Rattle.laws.proofs.Stores.{sets-start}
 use Rattle.error.specs.declared.Refusal.the-variants.{NoSuchColumn, NoRoom}
 use Rattle.error.specs.declared.Answer.{Answer}
 use Rattle.error.specs.declared.Answer.the-variants.{Done, Refused}
-use Rattle.error.specs.Answer.{Outcome, unchanged, placed}
+use Rattle.error.specs.Answer.{Outcome, unchanged, placed, placedBoth}
 use Rattle.error.specs.Result.{ok}
 use Rattle.row_format.specs.declared.Shape.{Shape}
 use Rattle.row_format.specs.declared.Shape.the-variants.{Varlen}
@@ -42,7 +42,7 @@ use Rattle.value_list.proofs.Lists.{list-checked}
 use Rattle.row_sound.specs.declared.Soundness.the-variants.{Sound}
 use Rattle.row_sound.specs.Sound.{soundness}
 use Rattle.row_sound.proofs.Rows.{row-told, cells-row}
-use Rattle.row_build.specs.Build.{buildCall, freshRow, freshCall}
+use Rattle.row_build.specs.Build.{cellsPoints, buildCall, freshRow, freshCall}
 use Rattle.row_build.proofs.Schemas.{schema-minimum, schema-few}
 use Rattle.row_column.specs.declared.Frame.the-variants as Frame
 use Rattle.row_column.specs.Frame.{onFrame}
@@ -235,8 +235,9 @@ module _ (limit : ℕ) (schema : List ℕ) (ts : List DataType) (columns : schem
 
   -- ---- the builder, on the last accepted values
 
-  pub keeps-built : limit ≤ 65535 → {s : State} {es : List Entry} → Keeps s es → (o : List ℕ) → buildCall offsetWidth limit schema (listOf (lastValues 0 es)) (texts es) o ≡ placed o (builtRow offsetWidth (map shapeOf ts) (sheetCells ts es))
-  keeps-built narrow {s} {es} k o =
+  pub keeps-built : limit ≤ 65535 → {s : State} {es : List Entry} → Keeps s es → (o counts : List ℕ) → buildCall offsetWidth limit schema (listOf (lastValues 0 es)) (texts es) o counts
+      ≡ placedBoth o counts (builtRow offsetWidth (map shapeOf ts) (sheetCells ts es)) (cellsPoints ts (sheetCells ts es))
+  keeps-built narrow {s} {es} k o counts =
       let short = k .short in
       let area : length (texts es) ≤ limit = omega (arith, texts-le (k .suit), kept-long offsetWidth limit ts k) in
       let sized = values-sized (k .suit) 0 (omega arith) in

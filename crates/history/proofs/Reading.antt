@@ -8,7 +8,7 @@ use native.Mathlib.Omega.{arith}
 use lib.ListN.{length, getD, length-map}
 use Rattle.laws.proofs.Maps.{at-map}
 use Rattle.laws.proofs.Truths.{both}
-use Rattle.error.specs.Answer.{unchanged}
+use Rattle.error.specs.Answer.{unchangedBoth}
 use Rattle.error.specs.Result.{ok, onResult}
 use Rattle.row_format.specs.Places.{offsetWidth, rowLimit}
 use Rattle.datatype.specs.declared.DataType.{DataType}
@@ -78,11 +78,11 @@ module _ {ts : List DataType} {p : Bool} {r : List ℕ} (s : SoundRow offsetWidt
   reads-all {schema} e =
       record {
         count = length-listed value 0 (length ts);
-        read = λ ws o all.
-            ap (λ (x : Parsed). onResult x (unchanged o) (λ cs. readRow offsetWidth rowLimit cs r ws o)) e
-            ∙ ap (λ (x : Frame). onFrame x (unchanged o)
-            (λ q. handOut o (readFrom offsetWidth q ts (isWanted ws) r 0 (length ts)))) (s .frame)
-            ∙ ap (handOut o) (read-from (isWanted ws) all (length ts) 0 (zero-add (length ts)));
+        read = λ ws o counts all.
+            ap (λ (x : Parsed). onResult x (unchangedBoth o counts) (λ cs. readRow offsetWidth rowLimit cs r ws o counts)) e
+            ∙ ap (λ (x : Frame). onFrame x (unchangedBoth o counts)
+            (λ q. handOut o counts r (readFrom offsetWidth q ts (isWanted ws) r 0 (length ts)))) (s .frame)
+            ∙ ap (handOut o counts r) (read-from (isWanted ws) all (length ts) 0 (zero-add (length ts)));
       }
 
   -- ---- what is read, by columns

@@ -13,7 +13,7 @@ use Rattle.error.specs.declared.Refusal.{Refusal}
 use Rattle.error.specs.declared.Refusal.the-variants.{NoSuchColumn}
 use Rattle.error.specs.declared.Answer.{Answer}
 use Rattle.error.specs.declared.Answer.the-variants.{Done}
-use Rattle.error.specs.Answer.{placed, unchanged}
+use Rattle.error.specs.Answer.{unchanged, placedBoth}
 use Rattle.error.specs.Result.{ok, refused}
 use Rattle.row_format.specs.Places.{offsetWidth, rowLimit, minimum}
 use Rattle.row_format.specs.Table.{Cell, payloads}
@@ -27,7 +27,7 @@ use Rattle.datatype.specs.Check.{typeAt}
 use Rattle.value_list.specs.Lists.{listOf}
 use Rattle.row_sound.specs.declared.Soundness.the-variants.{Sound}
 use Rattle.row_sound.specs.Sound.{soundness}
-use Rattle.row_build.specs.Build.{rowPlaced, buildCall, freshCall}
+use Rattle.row_build.specs.Build.{rowPlaced, cellsPoints, buildCall, freshCall}
 use Rattle.row_edit.specs.Edit.{rowStored, given}
 use Rattle.history.specs.History.{Call, setValue, setNull, State, rowOf, called, run, answers}
 use Rattle.history.specs.History.{Entry, sheetBy, texts, lastValues, sheetCells}
@@ -78,12 +78,14 @@ module _ {schema : List ℕ} {ts : List DataType} (h : History schema ts) where
   cells = sheetCells ts sheet
 
   -- ---- "For every history": the row zeroed "is the very row that the builder makes of the last accepted values".
-  -- `placed` is 14 where there is no room for it; so "the builder refuses with nothing but 14, for want of room;
-  -- otherwise it writes the history's row". The length that was handed back is the row's, "the layout's minimum plus
-  -- the payload lengths of its non-null Varchar columns", and zeroing keeps it.
+  -- `placedBoth` is 14 where there is no room for it or for its counts, which are those of the sheet's stored forms; so
+  -- "the builder refuses with nothing but 14, for want of room; otherwise it writes the history's row". The length that
+  -- was handed back is the row's, "the layout's minimum plus the payload lengths of its non-null Varchar columns", and
+  -- zeroing keeps it.
   pub record Leaves : Type 0 where
-    pub built : (o : List ℕ)
-        → buildCall offsetWidth rowLimit schema (listOf (lastValues 0 sheet)) (texts sheet) o ≡ placed o zeroed
+    pub built : (o counts : List ℕ)
+        → buildCall offsetWidth rowLimit schema (listOf (lastValues 0 sheet)) (texts sheet) o counts
+        ≡ placedBoth o counts zeroed (cellsPoints ts cells)
     pub handed : left .row-length ≡ length row
     pub long : length row
         ≡ minimum offsetWidth true (map shapeOf ts) + length (payloads (varlenCells (map shapeOf ts) cells))

@@ -5,7 +5,7 @@ use mathlib.Core.Bool.{Bool, true}
 use mathlib.Core.List.{List, map}
 use mathlib.Core.Path.{_≡_}
 use lib.ListN.{length, drop, set}
-use Rattle.error.specs.Answer.{placed}
+use Rattle.error.specs.Answer.{placedBoth}
 use Rattle.error.specs.Result.{ok}
 use Rattle.row_format.specs.Places.{offsetWidth, rowLimit}
 use Rattle.datatype.specs.declared.DataType.{DataType}
@@ -14,6 +14,7 @@ use Rattle.datatype.specs.Check.{typeAt}
 use Rattle.value.specs.declared.DataValue.{DataValue}
 use Rattle.value.specs.Ranges.{textOf}
 use Rattle.value_list.specs.Lists.{valuesOf, listOf}
+use Rattle.stored_form.specs.Points.{pointsIn}
 use Rattle.row_column.specs.declared.ColumnRead.the-variants.{Value}
 use Rattle.row_decode.specs.Read.{isWanted, readCall}
 use Rattle.row_sound.specs.Sound.{SoundRow}
@@ -30,12 +31,13 @@ givenContent t (setValue i list area) =
     valueContent t (oneValue (valuesOf list)) (textOf area (oneValue (valuesOf list)))
 givenContent t (setNull i) = nullContent
 
--- a read of all n columns of a row answers with the values vs, into any output: "such a list whose text area is the
--- row itself"
+-- a read of all n columns of a row answers with the values vs, into any output, and with their counts, into any list:
+-- "such a list whose text area is the row itself"
 pub record ReadsAll (schema : List ℕ) (n : ℕ) (row : List ℕ) (vs : List DataValue) : Type 0 where
   pub count : length vs ≡ n
-  pub read : (wanted out : List ℕ) → ((i : ℕ) → i < n → isWanted wanted i ≡ true)
-      → readCall offsetWidth rowLimit schema row wanted out ≡ placed out (listOf vs)
+  pub read : (wanted out counts : List ℕ) → ((i : ℕ) → i < n → isWanted wanted i ≡ true)
+      → readCall offsetWidth rowLimit schema row wanted out counts
+      ≡ placedBoth out counts (listOf vs) (map (pointsIn row) vs)
 
 -- what they are, wherever their texts stand
 abbrev pub contents : List ℕ → List DataValue → List Content

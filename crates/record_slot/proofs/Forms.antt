@@ -30,9 +30,9 @@ use Rattle.value.specs.Ranges.{noText, inArea, part, rangeOf, textOf}
 use Rattle.value.specs.InnerKinds.{heldKind}
 use Rattle.value_list.specs.Records.{bodyLength, numericAt, rangeAt, valueAt, recordAt as valueRecordAt}
 use Rattle.stored_form.specs.Write.{fitsText, accepted, storedForm}
-use Rattle.stored_form.proofs.Lengths.{fits-below, fits-length}
+use Rattle.stored_form.proofs.Lengths.{fits-below, fits-length, fits-valid}
 use Rattle.record_slot.specs.Stored.{isNull}
-use Rattle.record_slot.specs.InnerSteps.{HasType, Readable, valueIn, declaredAt, textSuits, bitsSuit, suitsAt, Testable, payloadLength, payloadIn, formIn, slotSize, bodyStored, slotStored, SlotReady, NumberReady}
+use Rattle.record_slot.specs.InnerSteps.{HasType, Readable, valueIn, declaredAt, textSuits, bitsSuit, suitsAt, Testable, payloadLength, payloadIn, formIn, slotSize, bodyStored, slotStored, SlotReady, NumberReady, TextThere, Suited}
 use Rattle.record_slot.proofs.Tests.{payload-short, cell-wrong, cell-unsuited, size-refused, size-null, size-fixed, size-varchar}
 use Rattle.record_slot.proofs.Held.{read-at, value-body, body-within, Declared, told}
 
@@ -45,8 +45,14 @@ module _ (n : ℕ) (r : TextRange) (area : List ℕ) (e : textSuits n r area ≡
   pub text-inside : r .start + r .length ≤ length area
   text-inside = leb-true (r .start + r .length) (length area) (both (inArea (length area) r) (fitsText n (part area r)) e .0)
 
+  text-fits : fitsText n (part area r) ≡ true
+  text-fits = both (inArea (length area) r) (fitsText n (part area r)) e .1
+
   pub text-within : length (part area r) ≤ n
-  text-within = fits-length n (part area r) (both (inArea (length area) r) (fitsText n (part area r)) e .1)
+  text-within = fits-length n (part area r) text-fits
+
+  pub text-there : TextThere r area
+  text-there = record { inside = text-inside; valid = fits-valid n (part area r) text-fits }
 
 module _ (n : ℕ) (r : TextRange) (area : List ℕ) (e : bitsSuit n r area ≡ true) where
   pub bits-inside : r .start + r .length ≤ length area
@@ -322,7 +328,7 @@ module _ {s : List ℕ} {at : ℕ} {list : List ℕ} {from : ℕ} (r : Readable 
   -- ---- its stored form
 
   module _ (m : matches t v ≡ true) where
-    kind-is : k ≡ valueKind t
+    pub kind-is : k ≡ valueKind t
     kind-is = matched-kind list (from + 1) t k (rw (value-body r) at m)
 
     value-is : v ≡ valueAt (valueKind t) list (from + 1)
@@ -340,16 +346,28 @@ module _ {s : List ℕ} {at : ℕ} {list : List ℕ} {from : ℕ} (r : Readable 
     pub varchar-form : k ≡ 9 → (area : List ℕ) → part area (rangeAt list (from + 1)) ≡ formIn s at list from area
     varchar-form e area = rw (value-body r, e) refl
 
-  module _ {area : List ℕ} {slot room : ℕ} (p : SlotReady t v area slot room) where
-    slot-form : slotStored k n list (from + 1) area ≡ formIn s at list from area
-    slot-form =
-        ap (λ (j : ℕ). slotStored j n list (from + 1) area) (kind-is (p .match)) ∙ by-type .form (p .fixed) area
-        ∙ ap (λ (u : DataValue). storedForm t u (textOf area u)) (sym (value-is (p .match)))
+  module _ {area : List ℕ} (u : Suited t v area) where
+    kind-suits : suitsAt k n list (from + 1) area ≡ true
+    kind-suits =
+        ap (λ (j : ℕ). suitsAt j n list (from + 1) area) (kind-is (u .match)) ∙ by-type .suited area
+        ∙ ap (λ (w : DataValue). accepted t w area) (sym (value-is (u .match))) ∙ u .suited
 
-    slot-suits : suitsAt k n list (from + 1) area ≡ true
-    slot-suits =
-        ap (λ (j : ℕ). suitsAt j n list (from + 1) area) (kind-is (p .match)) ∙ by-type .suited area
-        ∙ ap (λ (u : DataValue). accepted t u area) (sym (value-is (p .match))) ∙ p .suited
+    -- by the kind that was found
+    pub suits-as : (j : ℕ) → k ≡ j → suitsAt j n list (from + 1) area ≡ true
+    suits-as j e = ap (λ (m : ℕ). suitsAt m n list (from + 1) area) (sym e) ∙ kind-suits
+
+  module _ (m : matches t v ≡ true) (f : isVarlen t ≡ false) (area : List ℕ) where
+    fixed-form : slotStored k n list (from + 1) area ≡ formIn s at list from area
+    fixed-form =
+        ap (λ (j : ℕ). slotStored j n list (from + 1) area) (kind-is m) ∙ by-type .form f area
+        ∙ ap (λ (u : DataValue). storedForm t u (textOf area u)) (sym (value-is m))
+
+    pub form-as : (j : ℕ) → k ≡ j → slotStored j n list (from + 1) area ≡ formIn s at list from area
+    form-as j e = ap (λ (m : ℕ). slotStored m n list (from + 1) area) (sym e) ∙ fixed-form
+
+  module _ {area : List ℕ} {slot room : ℕ} (p : SlotReady t v area slot room) where
+    slot-suited : Suited t v area
+    slot-suited = record { match = p .match; suited = p .suited }
 
     slot-room : slot + slotSize k n ≤ room
     slot-room = rw (kind-is (p .match), by-type .size) (p .room)
@@ -357,10 +375,10 @@ module _ {s : List ℕ} {at : ℕ} {list : List ℕ} {from : ℕ} (r : Readable 
     -- the same by the kind that was found
     module _ (j : ℕ) (e : k ≡ j) where
       pub form-at : slotStored j n list (from + 1) area ≡ formIn s at list from area
-      form-at = ap (λ (m : ℕ). slotStored m n list (from + 1) area) (sym e) ∙ slot-form
+      form-at = form-as (p .match) (p .fixed) area j e
 
       pub suits-at : suitsAt j n list (from + 1) area ≡ true
-      suits-at = ap (λ (m : ℕ). suitsAt m n list (from + 1) area) (sym e) ∙ slot-suits
+      suits-at = suits-as slot-suited j e
 
       pub room-at : slot + slotSize j n ≤ room
       room-at = subst (λ (m : ℕ). slot + slotSize m n ≤ room) e slot-room
@@ -374,4 +392,4 @@ module _ {s : List ℕ} {at : ℕ} {list : List ℕ} {from : ℕ} (r : Readable 
         }
 
     pub body-stored : (k ≡ 6 → ⊥) → (k ≡ 8 → ⊥) → (k ≡ 12 → ⊥) → bodyStored k list (from + 1) ≡ formIn s at list from area
-    body-stored a b c = plain-stored k n list (from + 1) area a b c ∙ slot-form
+    body-stored a b c = plain-stored k n list (from + 1) area a b c ∙ fixed-form (p .match) (p .fixed) area

@@ -6,8 +6,7 @@ use mathlib.Core.List.{List}
 use native.Mathlib.Omega.{arith}
 use borrow.Author.Tests.{eqb-true, eqb-false, le-leb, lt-leb, leb-true, ltb-false, lt-ltb, le-ltb}
 use lib.Dec.{eqb, leb, ltb}
-use lib.ListN.{length, getD, take, drop, length-drop}
-use lib.Seq.{length-take-le}
+use lib.ListN.{length, getD, take, drop}
 use Rattle.error.specs.declared.Refusal.the-variants.{BadRecord, BadSchema, BadValueList}
 use Rattle.laws.proofs.Bytes.{from-add, from-one}
 use Rattle.laws.proofs.Truths.{cases, by-cond, and-left, and-right}
@@ -31,6 +30,7 @@ use Rattle.value_list.specs.InnerSizes.{sizeAt}
 use Rattle.value_list.proofs.Records.{Given, given}
 use Rattle.value_list.proofs.Sizes.{Whole, size-none, size-some}
 use Rattle.record_slot.specs.InnerSteps.{lengthAt, HasType, Readable, ReadAt, valueIn, afterColumn, givenAt, declaredAt, textSuits, bitsSuit}
+use Rattle.record_slot.proofs.Tests.{length-part}
 
 -- ---- the records at two places
 
@@ -195,7 +195,7 @@ module _ (n a b : ℕ) (area : List ℕ) where
 
   module _ (h : a + b ≤ length area) where
     length-range : length (take b (drop a area)) ≡ b
-    length-range = length-take-le b (drop a area) (rw length-drop (omega arith))
+    length-range = length-part area range h
 
     pub text-long : n < b → false ≡ textSuits n range area
     text-long l = rw (le-leb (a + b) (length area) h, length-range, lt-leb b n l)

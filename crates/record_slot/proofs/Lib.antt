@@ -1,3 +1,4 @@
 pub mod Tests
 pub mod Held
 pub mod Forms
+pub mod Points

@@ -1,5 +1,5 @@
 -- The cell of a column by the tests on its value.
-use Prim.Native.Nat.{ℕ, _≤_}
+use Prim.Native.Nat.{ℕ, _+_, _≤_}
 use mathlib.Core.Path.{_≡_, refl, sym, ap, _∙_, subst}
 use mathlib.Core.Bool.{Bool, true, false, cond}
 use mathlib.Core.List.{List}
@@ -15,13 +15,18 @@ use Rattle.row_format.specs.Places.{rowLimit}
 use Rattle.row_format.specs.Table.{Cell, bytes}
 use Rattle.datatype.specs.declared.DataType.{DataType}
 use Rattle.datatype.specs.Types.{sizeOf, isVarlen}
+use Rattle.value.specs.declared.TextRange.{TextRange}
 use Rattle.value.specs.declared.DataValue.{DataValue}
 use Rattle.value.specs.Kinds.{matches}
-use Rattle.value.specs.Ranges.{rangeOf, textOf}
+use Rattle.value.specs.Ranges.{part, rangeOf, textOf}
 use Rattle.stored_form.specs.Write.{accepted, storedForm}
 use Rattle.stored_form.proofs.Lengths.{length-stored, accepted-inside, accepted-suits}
 use Rattle.record_slot.specs.Stored.{isNull, cellIn}
 use Rattle.record_slot.specs.InnerSteps.{payloadAnswer}
+
+-- a range of the area
+pub length-part : (area : List ℕ) (r : TextRange) → r .start + r .length ≤ length area → length (part area r) ≡ r .length
+length-part area r h = length-take-le (r .length) (drop (r .start) area) (rw length-drop (omega arith))
 
 -- ---- the stored form of a value that is accepted
 
@@ -29,17 +34,12 @@ module _ (t : DataType) (v : DataValue) (area : List ℕ) (m : matches t v ≡ t
   abbrev form : List ℕ
   form = storedForm t v (textOf area v)
 
-  length-text : length (textOf area v) ≡ rangeOf v .length
-  length-text =
-      let h = accepted-inside t v area a in
-      length-take-le (rangeOf v .length) (drop (rangeOf v .start) area) (rw length-drop (omega arith))
-
   -- in a slot, or as a payload
   pub length-slot : isVarlen t ≡ false → length form ≡ sizeOf t
   length-slot f = length-stored t v (textOf area v) m (accepted-suits t v area a) ∙ rw f
 
   pub length-payload : isVarlen t ≡ true → length form ≡ rangeOf v .length
-  length-payload f = length-stored t v (textOf area v) m (accepted-suits t v area a) ∙ rw (f, length-text)
+  length-payload f = length-stored t v (textOf area v) m (accepted-suits t v area a) ∙ rw (f, length-part area (rangeOf v) (accepted-inside t v area a))
 
   pub payload-short : length area ≤ rowLimit → rangeOf v .length ≤ rowLimit
   payload-short h = omega (arith, accepted-inside t v area a)

@@ -2,6 +2,7 @@
 use Prim.Native.Nat.{ℕ, _+_, _-_, _^_, _/_, _%_, _≤_, _<_}
 use mathlib.Core.Bool.{Bool, true, false, cond}
 use mathlib.Core.List.{List, [], _∷_, _++_}
+use mathlib.Core.Option.{some}
 use mathlib.Core.Path.{_≡_}
 use lib.Dec.{eqb, leb, ltb}
 use lib.ListN.{length, getD, replicate}
@@ -14,6 +15,7 @@ use Rattle.error.specs.Result.{Result, ok, refused}
 use Rattle.laws.specs.Bytes.{toLe}
 use Rattle.row_format.specs.Places.{rowLimit}
 use Rattle.row_format.specs.Table.{Cell, bytes}
+use Rattle.text.specs.Rfc3629.{isText}
 use Rattle.bit_utils.specs.Bits.{bytesFor, packBits, unpackBits}
 use Rattle.numeric.specs.Packed.{encodeBcd}
 use Rattle.datatype.specs.declared.DataType.{DataType}
@@ -35,7 +37,8 @@ use Rattle.value_list.specs.InnerSizes.{sizeAt}
 use Rattle.value_list.specs.Records.{bodyLength, numberAt, numericAt, rangeAt, recordAt as valueRecordAt}
 use Rattle.stored_form.specs.Number.{isNegative, magnitude}
 use Rattle.stored_form.specs.Write.{fitsDigits, fitsText, accepted as holds, storedForm}
-use Rattle.record_slot.specs.Stored.{cellIn}
+use Rattle.stored_form.specs.Points.{storedPoints}
+use Rattle.record_slot.specs.Stored.{isNull, cellIn}
 
 -- ---- the records
 
@@ -203,3 +206,21 @@ pub record NumberReady (p : ℕ) (x : NumericValue) (slot n : ℕ) : Type 0 wher
   pub few : p ≤ 38
   pub below : magnitude (x .high) (x .low) < 10 ^ p
   pub room : slot + (p + 2) / 2 ≤ n
+
+-- ---- its code points
+
+-- a range of the area that is text
+pub record TextThere (r : TextRange) (area : List ℕ) : Type 0 where
+  pub inside : r .start + r .length ≤ length area
+  pub valid : isText (part area r) ≡ true
+
+-- a value that its column holds
+pub record Suited (t : DataType) (v : DataValue) (area : List ℕ) : Type 0 where
+  pub match : matches t v ≡ true
+  pub suited : holds t v area ≡ true
+
+-- those of the value at a place, as stored
+abbrev pub pointsStored : List ℕ → ℕ → List ℕ → ℕ → List ℕ → ℕ
+pointsStored s at list from area =
+    cond (isNull (valueIn (valueRecordAt list from))) 0
+    (storedPoints (typeIn (columnRecordAt s at)) (some (formIn s at list from area)))

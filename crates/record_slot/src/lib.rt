@@ -5,18 +5,20 @@ use error::Refusal;
 use value::value_kinds;
 ghost use mathlib.Core.Path.{_≡_};
 ghost use Prim.Native.Nat.{_+_, _%_, _≤_, _<_};
-ghost use mathlib.Core.Bool.{true, cond};
+ghost use mathlib.Core.Bool.{true, false, cond};
 ghost use lib.Dec.{eqb};
 ghost use lib.ListN.{length};
 ghost use lib.Seq.{sets};
 ghost use Rattle.row_format.specs.Places.{offsetWidth, rowLimit};
+ghost use Rattle.text.specs.Check.{points};
 ghost use Rattle.bit_utils.specs.Bits.{bytesFor};
 ghost use Rattle.datatype.specs.Types.{sizeOf};
 ghost use Rattle.datatype.specs.Schema.{columnRecordAt};
 ghost use Rattle.datatype.specs.InnerSteps.{typeIn};
 ghost use Rattle.value.specs.Ranges.{part};
+ghost use Rattle.record_slot.specs.Stored.{isNull};
 ghost use Rattle.value_list.specs.Records.{bodyLength, numericAt, rangeAt, recordAt as valueRecordAt};
-ghost use Rattle.record_slot.specs.InnerSteps.{lengthAt, HasType, Readable, declaredAt, afterColumn, textSuits, bitsSuit, numberSuits, suitsAt, Testable, payloadLength, payloadIn, Short, valueIn, formIn, blankFilled, numberStored, bitsStored, SlotReady, NumberReady};
+ghost use Rattle.record_slot.specs.InnerSteps.{lengthAt, HasType, Readable, declaredAt, afterColumn, textSuits, bitsSuit, numberSuits, suitsAt, Testable, payloadLength, payloadIn, Short, valueIn, formIn, blankFilled, numberStored, bitsStored, SlotReady, NumberReady, TextThere, Suited, pointsStored};
 
 // The two bytes after the kind of a column, a length or precision and scale; 0 where the record is too short for them.
 fn declared_length(schema: &[u8], at: usize) -> usize
@@ -161,6 +163,10 @@ pub fn slot_size(schema: &[u8], at: usize) -> usize
     requires { ⌜ HasType (now schema) at ⌝ }
     ensures { λ r. ⌜ r ≡ sizeOf (typeIn (columnRecordAt (now (schema .entry)) at)) ⌝ }
 {
+    let size = datatype::plain_size(schema[at]);
+    if size != 0 {
+        return size;
+    }
     let kind = value::held_kind(schema[at]);
     match kind {
         value_kinds::NUMERIC => (declared_length(schema, at) % 256 + 2) / 2,
@@ -262,5 +268,44 @@ pub fn write_slot(
         value_kinds::BIT => write_bits(out, slot, n, values, body, text),
         value_kinds::TIMESTAMP => endian::write_u64(out, slot, endian::read_u64(values, body)),
         _ => {}
+    }
+}
+
+// The code points of the text whose range stands at a place of the list.
+fn text_points(values: &[u8], body: usize, text: &[u8]) -> usize
+    requires { ⌜ (body + 4 ≤ length (now values)) × TextThere (rangeAt (now values) body) (now text) ⌝ }
+    ensures { λ r. ⌜ (r ≡ points (part (now (text .entry)) (rangeAt (now (values .entry)) body)))
+        × (r ≤ 65535) ⌝ }
+{
+    let start = endian::read_u16(values, body) as usize;
+    let length = endian::read_u16(values, body + 2) as usize;
+    text::count_points(&text[start..start + length])
+}
+
+// With the blanks up to n bytes, each of which is one.
+fn char_points(values: &[u8], body: usize, n: usize, text: &[u8]) -> usize
+    requires { ⌜ (body + 4 ≤ length (now values))
+        × ((n ≤ 65535) × (textSuits n (rangeAt (now values) body) (now text) ≡ true)) ⌝ }
+    ensures { λ r. ⌜ (r ≡ points (blankFilled n (part (now (text .entry)) (rangeAt (now (values .entry)) body))))
+        × (r ≤ n) ⌝ }
+{
+    let length = endian::read_u16(values, body + 2) as usize;
+    text_points(values, body, text) + (n - length)
+}
+
+// The code points of a column's text, as stored; 0 for a null and where the value is no text.
+pub fn points_at(schema: &[u8], at: usize, values: &[u8], from: usize, text: &[u8]) -> u32
+    requires { ⌜ Readable (now schema) at (now values) from
+        × (isNull (valueIn (valueRecordAt (now values) from)) ≡ false
+        → Suited (typeIn (columnRecordAt (now schema) at)) (valueIn (valueRecordAt (now values) from))
+        (now text)) ⌝ }
+    ensures { λ r. ⌜ r
+        ≡ pointsStored (now (schema .entry)) at (now (values .entry)) from (now (text .entry)) ⌝ }
+{
+    let body = from + 1;
+    match values[from] {
+        value_kinds::CHAR => char_points(values, body, declared_length(schema, at), text) as u32,
+        value_kinds::VARCHAR => text_points(values, body, text) as u32,
+        _ => 0,
     }
 }

@@ -151,7 +151,8 @@ fn same_read(schema: &[u8], row: &[u8], wanted: &[u8], answer: &[u8]) -> bool {
         return false;
     }
     let mut out = [0; 2048];
-    let r = answered(row_decode::decode(schema, row, &list[0..n], &mut out));
+    let mut counts = [0; 256];
+    let r = answered(row_decode::decode(schema, row, &list[0..n], &mut out, &mut counts));
     same_handed(r.number, r.length, &out, answer)
 }
 

@@ -10,7 +10,14 @@ use replay_parts::variant;
 
 fn same_built(schema: &[u8], values: &[u8], area: &[u8], answer: &[u8]) -> bool {
     let mut out = [0; 2048];
-    let r = answered(row_build::serialize_nullable_typed_row(schema, values, area, &mut out));
+    let mut counts = [0; 256];
+    let r = answered(row_build::serialize_nullable_typed_row(
+        schema,
+        values,
+        area,
+        &mut out,
+        &mut counts,
+    ));
     same_handed(r.number, r.length, &out, answer)
 }
 

@@ -6,4 +6,4 @@ abbrev pub versionNumber : ℕ → ℕ → ℕ → ℕ
 versionNumber major minor patch = 65536 * major + 256 * minor + patch
 
 abbrev pub version : ℕ
-version = versionNumber 0 2 0
+version = versionNumber 0 3 0

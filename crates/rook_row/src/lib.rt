@@ -5,9 +5,9 @@ use error::Answer;
 use error::Flag;
 use row_handle::RowHandle;
 use row_text::ColumnText;
+use text::TextCheck;
 ghost use mathlib.Core.Path.{_≡_};
 ghost use Rattle.row_format.specs.Places.{offsetWidth, rowLimit};
-ghost use Rattle.laws.specs.Bits.{bitValue};
 ghost use Rattle.null_bitmap.specs.Bitmap.{nullFlag};
 ghost use Rattle.row_build.specs.Build.{freshCall, buildCall};
 ghost use Rattle.row_decode.specs.Read.{readCall};
@@ -15,8 +15,9 @@ ghost use Rattle.row_edit.specs.Edit.{setCall, setNullCall};
 ghost use Rattle.row_handle.specs.Handle.{handleSet, handleSetNull};
 ghost use Rattle.row_same.specs.Rows.{sameCall};
 ghost use Rattle.row_text.specs.Text.{textCall};
-ghost use Rattle.text.specs.Rfc3629.{isText};
-ghost use Rattle.rook_row.specs.Answers.{rowAnswer, rowOutcome, handleOutcome, flagAnswer, textAnswer};
+ghost use Rattle.text.specs.Rfc3629.{codePoints};
+ghost use Rattle.text.specs.Check.{checkOf};
+ghost use Rattle.rook_row.specs.Answers.{rowAnswer, rowOutcome, countedOutcome, handleOutcome, flagAnswer, textAnswer, checkAnswer};
 ghost use Rattle.rook_row.specs.Version.{version};
 
 #[repr(C)]
@@ -39,6 +40,12 @@ pub struct TextAnswer {
     pub place: usize,
     pub start: usize,
     pub length: usize,
+}
+
+#[repr(C)]
+pub struct CheckAnswer {
+    pub valid: u32,
+    pub points: usize,
 }
 
 // A refusal hands out `otherwise`.
@@ -85,40 +92,43 @@ pub extern "C" fn rook_row_fresh(schema: &[u8], out: &mut [u8]) -> RowAnswer
     row_answer(row_build::fresh(schema, out), 0)
 }
 
-// The row of a value list at the front of `out`; `length` is its length. The list's ranges lie in `text`.
+// The row of a value list at the front of `out`; `length` is its length. The list's ranges lie in `text`. The code
+// points of each column's text, as stored, go to `counts`.
 #[no_mangle]
 pub extern "C" fn rook_row_build(
     schema: &[u8],
     values: &[u8],
     text: &[u8],
     out: &mut [u8],
+    counts: &mut [u32],
 ) -> RowAnswer
-    ensures { λ r. ⌜ (r, now (out .exit))
-        ≡ rowOutcome 0
+    ensures { λ r. ⌜ (r, (now (out .exit), now (counts .exit)))
+        ≡ countedOutcome 0
         (buildCall offsetWidth rowLimit (now (schema .entry)) (now (values .entry)) (now (text .entry))
-        (now (out .entry))) ⌝ }
+        (now (out .entry)) (now (counts .entry))) ⌝ }
 {
     row_answer(
-        row_build::serialize_nullable_typed_row(schema, values, text, out),
+        row_build::serialize_nullable_typed_row(schema, values, text, out, counts),
         0,
     )
 }
 
 // The wanted columns of a row as a value list at the front of `out`; `length` is its length. The list's text area is
-// the row.
+// the row. The code points of each wanted column's text go to `counts`.
 #[no_mangle]
 pub extern "C" fn rook_row_read(
     schema: &[u8],
     row: &[u8],
     wanted: &[u16],
     out: &mut [u8],
+    counts: &mut [u32],
 ) -> RowAnswer
-    ensures { λ r. ⌜ (r, now (out .exit))
-        ≡ rowOutcome 0
+    ensures { λ r. ⌜ (r, (now (out .exit), now (counts .exit)))
+        ≡ countedOutcome 0
         (readCall offsetWidth rowLimit (now (schema .entry)) (now (row .entry)) (now (wanted .entry))
-        (now (out .entry))) ⌝ }
+        (now (out .entry)) (now (counts .entry))) ⌝ }
 {
-    row_answer(row_decode::decode(schema, row, wanted, out), 0)
+    row_answer(row_decode::decode(schema, row, wanted, out, counts), 0)
 }
 
 // Column `column` of the row in the first `row_length` bytes of `buf` set to the one value of the list; `length` is
@@ -282,25 +292,31 @@ pub extern "C" fn rook_row_is_null(row: &[u8], column: usize) -> FlagAnswer
     flag_answer(null_bitmap::is_column_null_in_row(row, column))
 }
 
-// Whether bytes are text: 1 or 0.
+// Whether bytes are text, 1 or 0, and how many code points it has.
 #[no_mangle]
-pub extern "C" fn rook_text_valid(s: &[u8]) -> u32
-    ensures { λ r. ⌜ r ≡ bitValue (isText (now (s .entry))) ⌝ }
+pub extern "C" fn rook_text_check(s: &[u8]) -> CheckAnswer
+    ensures { λ r. ⌜ r ≡ checkAnswer (checkOf (codePoints (now (s .entry)))) ⌝ }
 {
-    text::is_valid(s) as u32
+    match text::check(s) {
+        TextCheck::Valid(points) => CheckAnswer { valid: 1, points },
+        TextCheck::Invalid => CheckAnswer {
+            valid: 0,
+            points: 0,
+        },
+    }
 }
 
-// The version of this interface, 0.2.0, with a byte for each of its numbers.
+// The version of this interface, 0.3.0, with a byte for each of its numbers.
 #[no_mangle]
 pub extern "C" fn rook_row_version() -> u32
     ensures { λ r. ⌜ r ≡ version ⌝ }
 {
-    0x000200
+    0x000300
 }
 
 // The same, by a name that says the series: what is made for another one does not link.
 #[no_mangle]
-pub extern "C" fn rook_row_0_2() -> u32
+pub extern "C" fn rook_row_0_3() -> u32
     ensures { λ r. ⌜ r ≡ version ⌝ }
 {
     rook_row_version()

@@ -1,24 +1,21 @@
 -- The text of a built row's column is the stored form.
 use Prim.Native.Nat.{ℕ, _<_}
 use mathlib.Core.Path.{_≡_, refl, ap, _∙_}
-use mathlib.Core.Bool.{Bool, true, false, cond, _||_, false≢true}
+use mathlib.Core.Bool.{true, false≢true}
 use mathlib.Core.List.{List}
-use borrow.Author.Tests.{eqb-true}
-use lib.Dec.{eqb}
 use lib.ListN.{length}
 use Rattle.row_format.specs.Table.{Cell}
-use Rattle.datatype.specs.declared.DataType.{DataType}
 use Rattle.datatype.specs.Check.{typeAt}
 use Rattle.value.specs.declared.DataValue.{DataValue}
 use Rattle.value.specs.declared.DataValue.the-variants as D
-use Rattle.value.specs.Kinds.{kindOf, valueKind, matches}
+use Rattle.value.specs.Kinds.{holdsText}
 use Rattle.value.specs.Ranges.{textOf, rangeOf}
-use Rattle.stored_form.specs.ReadBack.{hasText}
+use Rattle.stored_form.proofs.Points.{has-text}
 use Rattle.row_column.specs.declared.Frame.{Frame}
 use Rattle.row_column.specs.Frame.{onFrame}
 use Rattle.row_column.specs.Column.{columnValue}
 use Rattle.row_text.specs.declared.ColumnText.the-variants.{Part, Refused}
-use Rattle.row_text.specs.Text.{holdsText, textRead, textCall, textPart}
+use Rattle.row_text.specs.Text.{textRead, textCall, textPart}
 use Rattle.record_slot.specs.Stored.{isNull}
 use Rattle.row_build.specs.Built.{Built}
 use Rattle.record_slot.proofs.Tests.{CellIs, null, stored}
@@ -45,16 +42,6 @@ null-is (D.Time z) e = absurd (false≢true e)
 null-is (D.Bit z) e = absurd (false≢true e)
 null-is (D.Timestamp z) e = absurd (false≢true e)
 
--- a value of a kind that holds text has one
-has-text : (t : DataType) (v : DataValue) → holdsText t ≡ true → matches t v ≡ true → hasText v ≡ true
-has-text t v h m = rw (eqb-true (kindOf v) (valueKind t) m)
-    (by-kind (eqb (valueKind t) 8) (eqb (valueKind t) 9) (eqb (valueKind t) 12) h)
-  where
-    by-kind : (x y z : Bool) → cond x true y ≡ true → (x || (y || z)) ≡ true
-    by-kind true y z e = refl
-    by-kind false true z e = refl
-    by-kind false false z e = absurd (false≢true e)
-
 module _ {w limit : ℕ} {schema list area out : List ℕ} {n : ℕ} {after : List ℕ}
     (b : Built w limit schema list area out n after) (q : ReadsBack b)
     (i : ℕ) (h : i < length (b .columns)) (t : holdsText (typeAt (b .columns) i) ≡ true) where
@@ -69,7 +56,7 @@ module _ {w limit : ℕ} {schema list area out : List ℕ} {n : ℕ} {after : Li
 
   of-cell : (c : Cell) → CellIs (typeAt (b .columns) i) v area c → textOf (row b) (givenBack b i) ≡ givenForm b i
   of-cell c (null z) = rw (null-is v z)
-  of-cell c (stored z m a) = q .text i h (has-text (typeAt (b .columns) i) v t m)
+  of-cell c (stored z m a) = q .text i h (has-text (typeAt (b .columns) i) v m t)
 
   text-back : TextBack b i
   text-back =

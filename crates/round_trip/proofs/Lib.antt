@@ -1,4 +1,5 @@
 pub mod ReadBuilt
+pub mod Counts
 pub mod ReadBack
 pub mod Nulls
 pub mod Text

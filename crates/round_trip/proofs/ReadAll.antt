@@ -2,18 +2,19 @@
 use Prim.Native.Nat.{ℕ, zero, suc, _+_, _<_}
 use mathlib.Core.Path.{_≡_, refl, sym, ap, ap₂, _∙_, subst}
 use mathlib.Core.Bool.{Bool, true}
-use mathlib.Core.List.{List, _∷_}
+use mathlib.Core.List.{List, _∷_, map}
 use native.Mathlib.Nat.{add-zero}
 use native.Mathlib.Omega.{arith}
 use lib.ListN.{length, getD}
 use Rattle.error.specs.declared.Answer.the-variants as Answer
-use Rattle.error.specs.Answer.{unchanged}
+use Rattle.error.specs.Answer.{unchangedBoth}
 use Rattle.error.specs.Result.{ok, refused, onResult}
 use Rattle.datatype.specs.declared.DataType.{DataType}
 use Rattle.datatype.specs.Schema.{Parsed, schemaOf}
 use Rattle.value.specs.declared.DataValue.{DataValue}
 use Rattle.value.specs.declared.DataValue.the-variants.{Null}
 use Rattle.value_list.specs.Lists.{Values, listOf}
+use Rattle.stored_form.specs.Points.{pointsIn}
 use Rattle.row_column.specs.declared.Frame.{Frame}
 use Rattle.row_column.specs.declared.Frame.the-variants as Frame
 use Rattle.row_column.specs.declared.ColumnRead.{ColumnRead}
@@ -23,7 +24,7 @@ use Rattle.row_column.specs.Column.{columnValue}
 use Rattle.row_decode.specs.Read.{isWanted, wantedValue, onColumn, readFrom, handOut, readRow}
 use Rattle.row_same.specs.Rows.{allColumns}
 use Rattle.row_build.specs.InnerSteps.{valuesGiven}
-use Rattle.row_build.proofs.Built.{IsDone, placed-done}
+use Rattle.row_build.proofs.Built.{IsDone, placed-both-done}
 use Rattle.round_trip.specs.Same.{FullRead, listRead}
 
 -- ---- the columns that were read, one by one
@@ -94,7 +95,7 @@ module _ {w limit : ℕ} {schema r : List ℕ} (q : FullRead w limit schema r) w
   of-values : (ts : List DataType) → schemaOf w limit schema ≡ ok ts → (p : Bool)
       → frameOf w limit ts r ≡ Frame.Good p
       → (u : Values) → readFrom w p ts (isWanted (q .wanted)) r 0 (length ts) ≡ u
-      → handOut (q .out) u ≡ (Answer.Done (q .size), q .after) → All q
+      → handOut (q .out) (q .counts) r u ≡ (Answer.Done (q .size), (q .after, q .numbers)) → All q
   of-values ts e p f (refused x) g o = absurd (subst IsDone (sym o) tt)
   of-values ts e p f (ok vs) g o =
       let every : readFrom w p ts (λ j. true) r 0 (length ts) ≡ ok vs
@@ -109,19 +110,19 @@ module _ {w limit : ℕ} {schema r : List ℕ} (q : FullRead w limit schema r) w
         all-read = ap (λ (x : Frame). onFrame x refused (λ y. readFrom w y ts (λ j. true) r 0 (length ts))) f ∙ every;
         count = c .count;
         each = λ k h. let z : 0 + k ≡ k = omega arith in ap (λ (j : ℕ). columnValue w p ts j r) (sym z) ∙ c .each k h;
-        list-is = placed-done (q .out) (listOf vs) o .part;
+        list-is = placed-both-done (q .out) (q .counts) (listOf vs) (map (pointsIn r) vs) o .bytes .part;
       }
 
   of-frame : (ts : List DataType) → schemaOf w limit schema ≡ ok ts → (f : Frame) → frameOf w limit ts r ≡ f
-      → onFrame f (unchanged (q .out))
-      (λ p. handOut (q .out) (readFrom w p ts (isWanted (q .wanted)) r 0 (length ts))) ≡
-      (Answer.Done (q .size), q .after) → All q
+      → onFrame f (unchangedBoth (q .out) (q .counts))
+      (λ p. handOut (q .out) (q .counts) r (readFrom w p ts (isWanted (q .wanted)) r 0 (length ts))) ≡
+      (Answer.Done (q .size), (q .after, q .numbers)) → All q
   of-frame ts e (Frame.Refused x) f o = absurd (subst IsDone (sym o) tt)
   of-frame ts e (Frame.Good p) f o = of-values ts e p f (readFrom w p ts (isWanted (q .wanted)) r 0 (length ts)) refl o
 
   of-schema : (x : Parsed) → schemaOf w limit schema ≡ x
-      → onResult x (unchanged (q .out)) (λ ts. readRow w limit ts r (q .wanted) (q .out)) ≡
-      (Answer.Done (q .size), q .after) → All q
+      → onResult x (unchangedBoth (q .out) (q .counts)) (λ ts. readRow w limit ts r (q .wanted) (q .out) (q .counts)) ≡
+      (Answer.Done (q .size), (q .after, q .numbers)) → All q
   of-schema (refused x) e o = absurd (subst IsDone (sym o) tt)
   of-schema (ok ts) e o = of-frame ts e (frameOf w limit ts r) refl o
 

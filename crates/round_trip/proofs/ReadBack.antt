@@ -5,12 +5,14 @@ use mathlib.Core.Bool.{Bool, true}
 use mathlib.Core.List.{List, map}
 use native.Mathlib.Omega.{arith}
 use lib.ListN.{length}
-use Rattle.error.specs.Answer.{unchanged, placed}
+use Rattle.error.specs.Answer.{unchangedBoth, placedBoth}
 use Rattle.error.specs.Result.{ok, onResult}
 use Rattle.row_format.specs.Row.{builtRow}
 use Rattle.datatype.specs.Types.{shapeOf}
 use Rattle.datatype.specs.Schema.{Parsed}
+use Rattle.value.specs.Ranges.{textOf}
 use Rattle.value_list.specs.Lists.{listOf}
+use Rattle.stored_form.specs.ReadBack.{hasText}
 use Rattle.value_list.proofs.Lists.{Taken, checked-taken, values-sized}
 use Rattle.value_list.specs.InnerLists.{AllSized}
 use Rattle.row_column.specs.declared.Frame.{Frame}
@@ -18,8 +20,10 @@ use Rattle.row_column.specs.declared.Frame.the-variants.{Good}
 use Rattle.row_column.specs.Frame.{frameOf, onFrame}
 use Rattle.row_decode.specs.Read.{isWanted, readFrom, handOut, readRow, readCall}
 use Rattle.row_build.specs.Built.{Built}
+use Rattle.row_build.proofs.Counting.{many-cells, many-points}
 use Rattle.row_build.proofs.Schemas.{schema-few}
-use Rattle.round_trip.specs.ReadBack.{valuesBack, row, ReadsBack, BuiltReadsBack}
+use Rattle.round_trip.specs.ReadBack.{valuesBack, wantedPoints, row, givenValue, givenBack, givenForm, countsPut, ReadsBack, BuiltReadsBack}
+use Rattle.round_trip.proofs.Counts.{counts-back, all-wanted}
 use Rattle.round_trip.proofs.ReadBuilt.{frame-built, column-built, text-built, columns-built}
 
 module _ {w limit : ℕ} {schema list area out : List ℕ} {n : ℕ} {after : List ℕ}
@@ -50,14 +54,23 @@ module _ {w limit : ℕ} {schema list area out : List ℕ} {n : ℕ} {after : Li
     columns-back wanted = rw (b .row)
         (columns-built w (b .columns) (b .given) area (b .cells-good) (taken .count) few fits sized wanted)
 
-    read-back : (ws o : List ℕ)
-        → readCall w limit schema (row b) ws o ≡ placed o
-        (listOf (valuesBack w (b .columns) (isWanted ws) area (row b) 0 (b .given)))
-    read-back ws o =
-        ap (λ (p : Parsed). onResult p (unchanged o) (λ ts. readRow w limit ts (row b) ws o)) (b .schema-good)
-        ∙ ap (λ (q : Frame). onFrame q (unchanged o)
-        (λ p. handOut o (readFrom w p (b .columns) (isWanted ws) (row b) 0 (length (b .columns))))) frame-back
-        ∙ ap (handOut o) (columns-back (isWanted ws))
+    text-back : (i : ℕ) → i < length (b .columns) → hasText (givenValue b i) ≡ true → textOf (row b) (givenBack b i) ≡ givenForm b i
+    text-back i h g = rw (b .row)
+        (text-built w (b .columns) (b .given) area (b .cells-good) (taken .count) few i h fits sized g)
+
+    cells-many : length (b .cells) ≡ length (b .columns)
+    cells-many = many-cells (b .columns) (b .given) area (b .cells-good) (taken .count)
+
+    read-back : (ws o counts : List ℕ)
+        → readCall w limit schema (row b) ws o counts ≡ placedBoth o counts
+        (listOf (valuesBack w (b .columns) (isWanted ws) area (row b) 0 (b .given))) (wantedPoints (isWanted ws) 0 (countsPut b))
+    read-back ws o counts =
+        ap (λ (p : Parsed). onResult p (unchangedBoth o counts) (λ ts. readRow w limit ts (row b) ws o counts)) (b .schema-good)
+        ∙ ap (λ (q : Frame). onFrame q (unchangedBoth o counts)
+        (λ p. handOut o counts (row b) (readFrom w p (b .columns) (isWanted ws) (row b) 0 (length (b .columns))))) frame-back
+        ∙ ap (handOut o counts (row b)) (columns-back (isWanted ws))
+        ∙ ap (placedBoth o counts (listOf (valuesBack w (b .columns) (isWanted ws) area (row b) 0 (b .given))))
+        (counts-back b (taken .count) cells-many text-back (isWanted ws))
 
     -- the same of values that fit records, wherever they come from
     pub sized-back : ReadsBack b
@@ -66,9 +79,9 @@ module _ {w limit : ℕ} {schema list area out : List ℕ} {n : ℕ} {after : Li
           frame = frame-back;
           column = λ i h. rw (b .row)
               (column-built w (b .columns) (b .given) area (b .cells-good) (taken .count) few i h fits sized);
-          text = λ i h g. rw (b .row)
-              (text-built w (b .columns) (b .given) area (b .cells-good) (taken .count) few i h fits sized g);
+          text = text-back;
           read = read-back;
+          all-counts = λ ws h. all-wanted (isWanted ws) 0 (countsPut b) (λ j l. h j (omega (arith, l, many-points (b .columns) (b .given) area (b .cells-good) (taken .count))));
         }
 
   pub read-built : BuiltReadsBack b

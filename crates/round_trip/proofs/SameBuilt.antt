@@ -141,7 +141,7 @@ module _ {w limit : ℕ} {schema r : List ℕ} (q : FullRead w limit schema r) (
     given-read = rw (← columns-are, ← given-are) value-read
 
 pub same-as-built : {w limit : ℕ} {schema r : List ℕ} (q : FullRead w limit schema r) → SameAsBuilt q
-same-as-built {w} {limit} {schema} {r} q small narrow octets out n after o =
-    let b = built w limit schema (listRead q) r out n after o in
+same-as-built {w} {limit} {schema} {r} q small narrow octets out counts n after numbers o =
+    let b = built w limit schema (listRead q) r out counts n after numbers o .built in
     let all = rw (columns-are q narrow octets b, given-are q narrow octets b) at (all-of q .all-read) in
     same-row b small (given-read q narrow octets b) all

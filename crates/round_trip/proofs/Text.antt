@@ -2,7 +2,7 @@
 use Prim.Native.Nat.{ℕ, zero, suc, _+_, _<_}
 use mathlib.Core.Path.{_≡_, refl, sym, ap, _∙_, subst}
 use mathlib.Core.Bool.{Bool, true, false, cond}
-use mathlib.Core.List.{List, [], _∷_}
+use mathlib.Core.List.{List, [], _∷_, map}
 use native.Mathlib.Omega.{arith}
 use borrow.Author.Tests.{le-ltb, eq-eqb, ne-eqb, lt-leb, leb-false}
 use lib.Dec.{leb}
@@ -10,7 +10,7 @@ use lib.ListN.{length, set, replicate}
 use Rattle.error.specs.declared.Refusal.{Refusal}
 use Rattle.error.specs.declared.Refusal.the-variants.{NoRoom, NoSuchColumn, WrongKind}
 use Rattle.error.specs.declared.Answer.the-variants as Answer
-use Rattle.error.specs.Answer.{Outcome, unchanged}
+use Rattle.error.specs.Answer.{Counted, unchangedBoth, placedBoth}
 use Rattle.error.specs.Result.{ok, refused, onResult, before}
 use Rattle.datatype.specs.declared.DataType.{DataType}
 use Rattle.datatype.specs.Schema.{Parsed, schemaOf}
@@ -18,8 +18,10 @@ use Rattle.datatype.specs.Check.{typeAt}
 use Rattle.value.specs.declared.TextRange.{TextRange}
 use Rattle.value.specs.declared.DataValue.{DataValue}
 use Rattle.value.specs.declared.DataValue.the-variants.{Null}
+use Rattle.value.specs.Kinds.{holdsText}
 use Rattle.value.specs.Ranges.{rangeOf}
 use Rattle.value_list.specs.Lists.{Values, listOf}
+use Rattle.stored_form.specs.Points.{pointsIn}
 use Rattle.row_column.specs.declared.Frame.{Frame}
 use Rattle.row_column.specs.declared.Frame.the-variants as Frame
 use Rattle.row_column.specs.declared.ColumnRead.{ColumnRead}
@@ -28,7 +30,7 @@ use Rattle.row_column.specs.Frame.{frameOf, onFrame}
 use Rattle.row_column.specs.Column.{columnValue}
 use Rattle.row_decode.specs.Read.{isWanted, onColumn, readFrom, handOut, readRow}
 use Rattle.row_text.specs.declared.ColumnText.the-variants.{Part, Refused}
-use Rattle.row_text.specs.Text.{holdsText, textRead, textInRow, textOfColumn, textCall, textPart}
+use Rattle.row_text.specs.Text.{textRead, textInRow, textOfColumn, textCall, textPart}
 use Rattle.round_trip.specs.Text.{readColumn, Names, TextAsRead}
 
 -- ---- a read of column i alone
@@ -45,6 +47,17 @@ alone-first (Column.Refused e) n = refl
 alone-next : (c : ColumnRead) (n i : ℕ) → before Null (alone c n i) ≡ alone c (suc n) (suc i)
 alone-next (Column.Value v) n i = refl
 alone-next (Column.Refused e) n i = refl
+
+-- and its counts
+nulls-counted : (r : List ℕ) (n : ℕ) → map (pointsIn r) (replicate n Null) ≡ replicate n 0
+nulls-counted r zero = refl
+nulls-counted r (suc n) = ap (λ (ns : List ℕ). 0 ∷ ns) (nulls-counted r n)
+
+alone-counts : (r : List ℕ) (v : DataValue) (n i : ℕ)
+    → map (pointsIn r) (set (replicate n Null) i v) ≡ set (replicate n 0) i (pointsIn r v)
+alone-counts r v zero i = refl
+alone-counts r v (suc n) zero = ap (λ (ns : List ℕ). pointsIn r v ∷ ns) (nulls-counted r n)
+alone-counts r v (suc n) (suc i) = ap (λ (ns : List ℕ). 0 ∷ ns) (alone-counts r v n i)
 
 module _ (w : ℕ) (p : Bool) (ts : List DataType) (r : List ℕ) (i : ℕ) where
   abbrev from : ℕ → ℕ → Values
@@ -76,16 +89,18 @@ module _ (w : ℕ) (p : Bool) (ts : List DataType) (r : List ℕ) (i : ℕ) wher
 module _ (w limit : ℕ) (schema r : List ℕ) (i : ℕ) where
   data Both : Type 0 where
     refuse : (e : Refusal) → textCall w limit schema r i ≡ Refused e
-        → ((out : List ℕ) → readColumn w limit schema r i out ≡ unchanged out e) → Both
+        → ((out counts : List ℕ) → readColumn w limit schema r i out counts ≡ unchangedBoth out counts e) → Both
     answer : (x : TextRange) → textCall w limit schema r i ≡ Part x → Names w limit schema r i x → Both
 
   of-schema : (q : Parsed) → schemaOf w limit schema ≡ q
       → textCall w limit schema r i ≡ onResult q Refused (λ ts. textOfColumn w limit ts r i)
   of-schema q e = ap (λ (p : Parsed). onResult p Refused (λ ts. textOfColumn w limit ts r i)) e
 
-  read-schema : (q : Parsed) → schemaOf w limit schema ≡ q → (out : List ℕ)
-      → readColumn w limit schema r i out ≡ onResult q (unchanged out) (λ ts. readRow w limit ts r (i ∷ []) out)
-  read-schema q e out = ap (λ (p : Parsed). onResult p (unchanged out) (λ ts. readRow w limit ts r (i ∷ []) out)) e
+  read-schema : (q : Parsed) → schemaOf w limit schema ≡ q → (out counts : List ℕ)
+      → readColumn w limit schema r i out counts
+      ≡ onResult q (unchangedBoth out counts) (λ ts. readRow w limit ts r (i ∷ []) out counts)
+  read-schema q e out counts =
+      ap (λ (p : Parsed). onResult p (unchangedBoth out counts) (λ ts. readRow w limit ts r (i ∷ []) out counts)) e
 
   -- behind 9 and 11
   pub text-in-row : (ts : List DataType) → schemaOf w limit schema ≡ ok ts → i < length ts
@@ -103,13 +118,13 @@ module _ (w limit : ℕ) (schema r : List ℕ) (i : ℕ) where
         → textCall w limit schema r i ≡ onFrame f Refused (λ p. textRead (columnValue w p ts i r))
     of-frame f g = text ∙ ap (λ (q : Frame). onFrame q Refused (λ p. textRead (columnValue w p ts i r))) g
 
-    read-frame : (f : Frame) → frameOf w limit ts r ≡ f → (out : List ℕ)
-        → readColumn w limit schema r i out ≡ onFrame f (unchanged out)
-        (λ p. handOut out (readFrom w p ts (isWanted (i ∷ [])) r 0 (length ts)))
-    read-frame f g out =
-        read-schema (ok ts) e out
-        ∙ ap (λ (q : Frame). onFrame q (unchanged out)
-        (λ p. handOut out (readFrom w p ts (isWanted (i ∷ [])) r 0 (length ts)))) g
+    read-frame : (f : Frame) → frameOf w limit ts r ≡ f → (out counts : List ℕ)
+        → readColumn w limit schema r i out counts ≡ onFrame f (unchangedBoth out counts)
+        (λ p. handOut out counts r (readFrom w p ts (isWanted (i ∷ [])) r 0 (length ts)))
+    read-frame f g out counts =
+        read-schema (ok ts) e out counts
+        ∙ ap (λ (q : Frame). onFrame q (unchangedBoth out counts)
+        (λ p. handOut out counts r (readFrom w p ts (isWanted (i ∷ [])) r 0 (length ts)))) g
 
     by-column : (p : Bool) → frameOf w limit ts r ≡ Frame.Good p → (c : ColumnRead) → columnValue w p ts i r ≡ c → Both
     by-column p g c k = of-read c said read
@@ -117,13 +132,13 @@ module _ (w limit : ℕ) (schema r : List ℕ) (i : ℕ) where
         said : textCall w limit schema r i ≡ textRead c
         said = of-frame (Frame.Good p) g ∙ ap textRead k
 
-        read : (out : List ℕ) → readColumn w limit schema r i out ≡ handOut out (alone c (length ts) i)
-        read out =
-            read-frame (Frame.Good p) g out
-            ∙ ap (handOut out) (read-alone w p ts r i h ∙ ap (λ (d : ColumnRead). alone d (length ts) i) k)
+        read : (out counts : List ℕ) → readColumn w limit schema r i out counts ≡ handOut out counts r (alone c (length ts) i)
+        read out counts =
+            read-frame (Frame.Good p) g out counts
+            ∙ ap (handOut out counts r) (read-alone w p ts r i h ∙ ap (λ (d : ColumnRead). alone d (length ts) i) k)
 
         of-read : (d : ColumnRead) → textCall w limit schema r i ≡ textRead d
-            → ((out : List ℕ) → readColumn w limit schema r i out ≡ handOut out (alone d (length ts) i)) → Both
+            → ((out counts : List ℕ) → readColumn w limit schema r i out counts ≡ handOut out counts r (alone d (length ts) i)) → Both
         of-read (Column.Refused u) s f = refuse u s f
         of-read (Column.Value v) s f =
             answer (rangeOf v) s
@@ -132,7 +147,9 @@ module _ (w limit : ℕ) (schema r : List ℕ) (i : ℕ) where
               inside = h;
               value = v;
               range = refl;
-              read = f;
+              read = λ out counts.
+                  f out counts
+                  ∙ ap (placedBoth out counts (listOf (set (replicate (length ts) Null) i v))) (alone-counts r v (length ts) i);
               null-empty = λ z. ap (λ (u : DataValue). textPart r (Part (rangeOf u))) z;
             })
 
@@ -157,11 +174,11 @@ module _ (w limit : ℕ) (schema r : List ℕ) (i : ℕ) where
 
   -- ---- in which each says what the other does
 
-  abbrev refusedWith : Outcome → Refusal
+  abbrev refusedWith : Counted → Refusal
   refusedWith (Answer.Refused e, after) = e
   refusedWith (Answer.Done n, after) = NoRoom
 
-  abbrev IsRefused : Outcome → Type 0
+  abbrev IsRefused : Counted → Type 0
   IsRefused (Answer.Refused e, after) = Unit {0}
   IsRefused (Answer.Done n, after) = ⊥
 
@@ -169,18 +186,20 @@ module _ (w limit : ℕ) (schema r : List ℕ) (i : ℕ) where
       → textCall w limit schema r i ≡ Refused e → ⊥
   apart p q = let z : _≡_ {A = ℕ} 0 1 = cc in omega arith
 
-  refused-there : Both → (e : Refusal) → textCall w limit schema r i ≡ Refused e → (out : List ℕ)
-      → readColumn w limit schema r i out ≡ unchanged out e
-  refused-there (refuse u s f) e t out = let same : u ≡ e = cc in f out ∙ ap (unchanged out) same
-  refused-there (answer x s n) e t out = absurd (apart s t)
+  refused-there : Both → (e : Refusal) → textCall w limit schema r i ≡ Refused e → (out counts : List ℕ)
+      → readColumn w limit schema r i out counts ≡ unchangedBoth out counts e
+  refused-there (refuse u s f) e t out counts =
+      let same : u ≡ e = cc in f out counts ∙ ap (unchangedBoth out counts) same
+  refused-there (answer x s n) e t out counts = absurd (apart s t)
 
-  refused-here : Both → (e : Refusal) → ((out : List ℕ) → readColumn w limit schema r i out ≡ unchanged out e)
+  refused-here : Both → (e : Refusal) → ((out counts : List ℕ) → readColumn w limit schema r i out counts ≡ unchangedBoth out counts e)
       → textCall w limit schema r i ≡ Refused e
-  refused-here (refuse u s f) e t = s ∙ ap Refused (ap refusedWith (sym (f []) ∙ t []))
+  refused-here (refuse u s f) e t = s ∙ ap Refused (ap refusedWith (sym (f [] []) ∙ t [] []))
   refused-here (answer x s n) e t =
       let l : List ℕ = listOf (set (replicate (n .columns) Null) i (n .value)) in
-      let full = rw (le-ltb (length l) (length l) (omega arith)) at (n .read l) in
-      absurd (subst IsRefused (sym (t l) ∙ full) tt)
+      let m : List ℕ = set (replicate (n .columns) 0) i (pointsIn r (n .value)) in
+      let full = rw (le-ltb (length l) (length l) (omega arith), le-ltb (length m) (length m) (omega arith)) at (n .read l m) in
+      absurd (subst IsRefused (sym (t l m) ∙ full) tt)
 
   named : Both → (x : TextRange) → textCall w limit schema r i ≡ Part x → Names w limit schema r i x
   named (refuse u s f) x t = absurd (apart t s)

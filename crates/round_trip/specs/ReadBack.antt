@@ -1,4 +1,5 @@
--- What a read of a built row gives: the values it was built of, with their texts as parts of the row. FORMAT 7.1.
+-- What a read of a built row gives: the values it was built of, with their texts as parts of the row, and the counts
+-- that building put. FORMAT 7.1.
 use Prim.Native.Nat.{ℕ, suc, _^_, _<_}
 use mathlib.Core.Bool.{Bool, true, cond}
 use mathlib.Core.List.{List, [], _∷_, map}
@@ -6,7 +7,7 @@ use mathlib.Core.Path.{_≡_}
 use lib.ListN.{length, getD, take}
 use mir.Syntax.{w8}
 use mir.Val.{Fits}
-use Rattle.error.specs.Answer.{placed}
+use Rattle.error.specs.Answer.{placedBoth}
 use Rattle.laws.specs.Bytes.{entryAt}
 use Rattle.row_format.specs.Places.{rankOf, tableStart, slotPlace}
 use Rattle.datatype.specs.declared.DataType.{DataType}
@@ -24,6 +25,7 @@ use Rattle.row_column.specs.Frame.{frameOf}
 use Rattle.row_column.specs.Column.{columnValue}
 use Rattle.row_decode.specs.Read.{isWanted, readCall}
 use Rattle.record_slot.specs.Stored.{isNull}
+use Rattle.row_build.specs.Build.{cellsPoints}
 use Rattle.row_build.specs.Built.{Built}
 
 -- where the stored form of column i stands in a packed row r of columns ts, with offsets of w bytes: at a Varchar's
@@ -43,6 +45,11 @@ abbrev pub valuesBack : ℕ → List DataType → (ℕ → Bool) → List ℕ �
 valuesBack w ts wanted area r i [] = []
 valuesBack w ts wanted area r i (v ∷ vs) =
     cond (wanted i) (valueBack w ts i v (textOf area v) r) Null ∷ valuesBack w ts wanted area r (suc i) vs
+
+-- of counts ns for the columns from i on: "0 for all other columns"
+abbrev pub wantedPoints : (ℕ → Bool) → ℕ → List ℕ → List ℕ
+wantedPoints wanted i [] = []
+wantedPoints wanted i (n ∷ ns) = cond (wanted i) n 0 ∷ wantedPoints wanted (suc i) ns
 
 -- ---- a build that answered Done
 
@@ -65,6 +72,10 @@ module _ {w limit : ℕ} {schema list area out : List ℕ} {n : ℕ} {after : Li
   abbrev pub givenForm : ℕ → List ℕ
   givenForm i = storedForm (typeAt (b .columns) i) (givenValue i) (givenText i)
 
+  -- the counts that it put
+  abbrev pub countsPut : List ℕ
+  countsPut = cellsPoints (b .columns) (b .cells)
+
   pub record ReadsBack : Type 0 where
     -- no refusal by the header, which says packed
     pub frame : frameOf w limit (b .columns) row ≡ Good true
@@ -73,10 +84,14 @@ module _ {w limit : ℕ} {schema list area out : List ℕ} {n : ℕ} {after : Li
     -- and its text, if it has one, is the stored form
     pub text : (i : ℕ) → i < length (b .columns) → hasText (givenValue i) ≡ true
         → textOf row (givenBack i) ≡ givenForm i
-    -- the whole call, for any output and any list of wanted columns: "unknown column numbers ignored; null for an
-    -- unwanted column"
-    pub read : (ws o : List ℕ) → readCall w limit schema row ws o
-        ≡ placed o (listOf (valuesBack w (b .columns) (isWanted ws) area row 0 (b .given)))
+    -- the whole call, for any output, any list of counts and any list of wanted columns: "unknown column numbers
+    -- ignored; null for an unwanted column"
+    pub read : (ws o counts : List ℕ) → readCall w limit schema row ws o counts
+        ≡ placedBoth o counts (listOf (valuesBack w (b .columns) (isWanted ws) area row 0 (b .given)))
+        (wantedPoints (isWanted ws) 0 countsPut)
+    -- which are all of them where all columns are wanted
+    pub all-counts : (ws : List ℕ) → ((i : ℕ) → i < length (b .columns) → isWanted ws i ≡ true)
+        → wantedPoints (isWanted ws) 0 countsPut ≡ countsPut
 
   -- where offsets hold every length up to the limit, and the value list is a list of bytes
   abbrev pub BuiltReadsBack : Type 0

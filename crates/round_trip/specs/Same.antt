@@ -22,9 +22,11 @@ pub record FullRead (w limit : ℕ) (schema r : List ℕ) : Type 0 where
   pub all : (ts : List DataType) → schemaOf w limit schema ≡ ok ts
       → (i : ℕ) → i < length ts → isWanted wanted i ≡ true
   pub out : List ℕ
+  pub counts : List ℕ
   pub size : ℕ
   pub after : List ℕ
-  pub done : readCall w limit schema r wanted out ≡ (Done size, after)
+  pub numbers : List ℕ
+  pub done : readCall w limit schema r wanted out counts ≡ (Done size, (after, numbers))
 
 -- the value list that it answered with
 abbrev pub listRead : {w limit : ℕ} {schema r : List ℕ} → FullRead w limit schema r → List ℕ
@@ -40,7 +42,8 @@ module _ {w limit : ℕ} {schema r : List ℕ} (q : FullRead w limit schema r) w
   abbrev pub SameAsBuilt : Type 0
   SameAsBuilt =
       limit < 256 ^ w → limit < 65536 → ((k : ℕ) → Fits w8 (getD r k 0))
-      → (out : List ℕ) (n : ℕ) (after : List ℕ) → buildCall w limit schema (listRead q) r out ≡ (Done n, after)
+      → (out counts : List ℕ) (n : ℕ) (after numbers : List ℕ)
+      → buildCall w limit schema (listRead q) r out counts ≡ (Done n, (after, numbers))
       → sameCall w limit schema r (take n after) ≡ Is true
 
 -- two such rows, either way round

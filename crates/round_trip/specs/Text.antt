@@ -10,16 +10,18 @@ use mir.Syntax.{w8}
 use mir.Val.{Fits}
 use Rattle.error.specs.declared.Refusal.{Refusal}
 use Rattle.error.specs.declared.Refusal.the-variants.{NoSuchColumn, WrongKind}
-use Rattle.error.specs.Answer.{Outcome, unchanged, placed}
+use Rattle.error.specs.Answer.{Counted, unchangedBoth, placedBoth}
 use Rattle.datatype.specs.Check.{typeAt}
 use Rattle.value.specs.declared.TextRange.{TextRange}
 use Rattle.value.specs.declared.DataValue.{DataValue}
 use Rattle.value.specs.declared.DataValue.the-variants.{Null}
+use Rattle.value.specs.Kinds.{holdsText}
 use Rattle.value.specs.Ranges.{rangeOf}
 use Rattle.value_list.specs.Lists.{listOf}
+use Rattle.stored_form.specs.Points.{pointsIn}
 use Rattle.row_decode.specs.Read.{readCall}
 use Rattle.row_text.specs.declared.ColumnText.the-variants.{Part, Refused}
-use Rattle.row_text.specs.Text.{holdsText, textCall, textPart}
+use Rattle.row_text.specs.Text.{textCall, textPart}
 use Rattle.row_build.specs.Built.{Built}
 use Rattle.round_trip.specs.ReadBack.{row, givenBack, givenForm}
 
@@ -27,23 +29,26 @@ use Rattle.round_trip.specs.ReadBack.{row, givenBack, givenForm}
 
 module _ (w limit : ℕ) (schema r : List ℕ) (i : ℕ) where
   -- a read of column i alone
-  abbrev pub readColumn : List ℕ → Outcome
-  readColumn out = readCall w limit schema r (i ∷ []) out
+  abbrev pub readColumn : List ℕ → List ℕ → Counted
+  readColumn out counts = readCall w limit schema r (i ∷ []) out counts
 
-  -- Such a read answers with `value` for that column, "null for an unwanted column", and the value has the range x. "A
-  -- null [..] gives the empty part".
+  -- Such a read answers with `value` for that column, "null for an unwanted column", and with its count, "0 for all
+  -- other columns"; the value has the range x. "A null [..] gives the empty part".
   pub record Names (x : TextRange) : Type 0 where
     pub columns : ℕ
     pub inside : i < columns
     pub value : DataValue
     pub range : rangeOf value ≡ x
-    pub read : (out : List ℕ) → readColumn out ≡ placed out (listOf (set (replicate columns Null) i value))
+    pub read : (out counts : List ℕ) → readColumn out counts
+        ≡ placedBoth out counts (listOf (set (replicate columns Null) i value))
+        (set (replicate columns 0) i (pointsIn r value))
     pub null-empty : value ≡ Null → textPart r (Part x) ≡ []
 
   -- both refuse alike, whatever room the read has; else the part is the range that the read's record names
   pub record AsRead : Type 0 where
     pub refuses : (e : Refusal)
-        → (textCall w limit schema r i ≡ Refused e) ↔ ((out : List ℕ) → readColumn out ≡ unchanged out e)
+        → (textCall w limit schema r i ≡ Refused e)
+        ↔ ((out counts : List ℕ) → readColumn out counts ≡ unchangedBoth out counts e)
     pub names : (x : TextRange) → textCall w limit schema r i ≡ Part x → Names x
 
   -- "9 and 11 (not Char, Character or Varchar) come after 2": where the text call answers neither of them

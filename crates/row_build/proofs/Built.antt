@@ -1,7 +1,7 @@
 -- What a build that answers Done has done, and which lists build equal rows.
 use Prim.Native.Nat.{ℕ, _^_, _≤_, _<_}
 use mathlib.Core.Path.{_≡_, refl, sym, ap, _∙_, subst}
-use mathlib.Core.Bool.{Bool, true, false, cond}
+use mathlib.Core.Bool.{Bool, true, false, cond, _||_}
 use mathlib.Core.List.{List, map}
 use native.Mathlib.Omega.{arith}
 use borrow.Author.Tests.{ltb-false}
@@ -9,8 +9,9 @@ use lib.Dec.{ltb}
 use lib.ListN.{length, take}
 use lib.Seq.{sets}
 use Rattle.error.specs.declared.Refusal.the-variants.{RowLimit, NoRoom}
+use Rattle.error.specs.declared.Answer.{Answer}
 use Rattle.error.specs.declared.Answer.the-variants as Answer
-use Rattle.error.specs.Answer.{Outcome, unchanged, placed}
+use Rattle.error.specs.Answer.{Outcome, unchanged, placed, Counted, unchangedBoth, placedBoth}
 use Rattle.error.specs.Result.{Result, ok, refused, onResult}
 use Rattle.laws.specs.InnerForall.{Forall₂}
 use Rattle.laws.proofs.Bytes.{part-stored}
@@ -26,17 +27,19 @@ use Rattle.value.specs.declared.DataValue.{DataValue}
 use Rattle.value_list.specs.Lists.{Values, checked}
 use Rattle.value_list.proofs.Lists.{checked-taken}
 use Rattle.row_build.specs.Cells.{cellsFrom}
-use Rattle.row_build.specs.Build.{rowPlaced, buildValues, buildRow}
-use Rattle.row_build.specs.Built.{Built, DoneIsBuilt, EqualRows}
+use Rattle.row_build.specs.Build.{rowPlacedBoth, cellsPoints, buildValues, buildRow}
+use Rattle.row_build.specs.Built.{Built, DoneBuild, DoneIsBuilt, EqualRows}
 use Rattle.row_build.proofs.Cells.{cells-fit}
+use Rattle.row_build.proofs.Counting.{many-points}
 
-abbrev pub IsDone : Outcome → Type 0
-IsDone (Answer.Done n, after) = Unit {0}
-IsDone (Answer.Refused e, after) = ⊥
+-- the answer, beside what was written
+abbrev pub IsDone : {B : Type 0} → Answer × B → Type 0
+IsDone (Answer.Done n, b) = Unit {0}
+IsDone (Answer.Refused e, b) = ⊥
 
-abbrev doneIn : Outcome → ℕ
-doneIn (Answer.Done n, after) = n
-doneIn (Answer.Refused e, after) = 0
+abbrev doneIn : {B : Type 0} → Answer × B → ℕ
+doneIn (Answer.Done n, b) = n
+doneIn (Answer.Refused e, b) = 0
 
 -- what a result x leaves of the output
 pub record Placed (out x : List ℕ) (n : ℕ) (after : List ℕ) : Type 0 where
@@ -45,6 +48,17 @@ pub record Placed (out x : List ℕ) (n : ℕ) (after : List ℕ) : Type 0 where
   pub stored : after ≡ sets out 0 x
   pub part : take n after ≡ x
 
+-- and, with numbers ns, of the list of counts
+pub record PlacedBoth (out counts x ns : List ℕ) (n : ℕ) (after numbers : List ℕ) : Type 0 where
+  pub bytes : Placed out x n after
+  pub enough : length ns ≤ length counts
+  pub put : numbers ≡ sets counts 0 ns
+
+is-placed : (out x : List ℕ) {n : ℕ} {after : List ℕ} → ltb (length out) (length x) ≡ false → n ≡ length x → after ≡ sets out 0 x → Placed out x n after
+is-placed out x k m s =
+    let h : length x ≤ length out = ltb-false (length out) (length x) k in
+    record { size = m; room = h; stored = s; part = rw (s, m) (part-stored out 0 x (omega arith)) }
+
 pub placed-done : (out x : List ℕ) {n : ℕ} {after : List ℕ} → placed out x ≡ (Answer.Done n, after) → Placed out x n after
 placed-done out x {n} {after} e = by-room (ltb (length out) (length x)) refl e
   where
@@ -52,51 +66,74 @@ placed-done out x {n} {after} e = by-room (ltb (length out) (length x)) refl e
         → _≡_ {A = Outcome} (cond t (unchanged out NoRoom) (Answer.Done (length x), sets out 0 x)) (Answer.Done n, after)
         → Placed out x n after
     by-room true k p = absurd (subst IsDone (sym p) tt)
-    by-room false k p =
-        let m : n ≡ length x = sym (ap doneIn p) in
-        let s : after ≡ sets out 0 x = sym (ap (λ (z : Outcome). z .1) p) in
-        let h : length x ≤ length out = ltb-false (length out) (length x) k in
-        record { size = m; room = h; stored = s; part = rw (s, m) (part-stored out 0 x (omega arith)) }
+    by-room false k p = is-placed out x k (sym (ap doneIn p)) (sym (ap (λ (z : Outcome). z .1) p))
 
-module _ (w limit : ℕ) (schema list area out : List ℕ) {n : ℕ} {after : List ℕ} where
+pub placed-both-done : (out counts x ns : List ℕ) {n : ℕ} {after numbers : List ℕ} → placedBoth out counts x ns ≡ (Answer.Done n, (after, numbers)) → PlacedBoth out counts x ns n after numbers
+placed-both-done out counts x ns {n} {after} {numbers} e = by-room (ltb (length out) (length x)) (ltb (length counts) (length ns)) refl refl e
+  where
+    by-room : (t u : Bool) → ltb (length out) (length x) ≡ t → ltb (length counts) (length ns) ≡ u
+        → _≡_ {A = Counted} (cond (t || u) (unchangedBoth out counts NoRoom) (Answer.Done (length x), (sets out 0 x, sets counts 0 ns))) (Answer.Done n, (after, numbers))
+        → PlacedBoth out counts x ns n after numbers
+    by-room true u k l p = absurd (subst IsDone (sym p) tt)
+    by-room false true k l p = absurd (subst IsDone (sym p) tt)
+    by-room false false k l p =
+        record {
+          bytes = is-placed out x k (sym (ap doneIn p)) (sym (ap (λ (z : Counted). z .1 .0) p));
+          enough = ltb-false (length counts) (length ns) l;
+          put = sym (ap (λ (z : Counted). z .1 .1) p);
+        }
+
+module _ (w limit : ℕ) (schema list area out counts : List ℕ) (n : ℕ) (after numbers : List ℕ) where
+  abbrev Goal : Type 0
+  Goal = DoneBuild w limit schema list area out counts n after numbers
+
   of-cells : (ts : List DataType) → schemaOf w limit schema ≡ ok ts → (vs : List DataValue) → checked limit (length ts) (length area) list ≡ ok vs
-      → (q : Result (List Cell)) → cellsFrom 0 ts vs area ≡ q → onResult q (unchanged out) (λ cs. rowPlaced limit out (builtRow w (map shapeOf ts) cs)) ≡ (Answer.Done n, after) → Built w limit schema list area out n after
+      → (q : Result (List Cell)) → cellsFrom 0 ts vs area ≡ q
+      → onResult q (unchangedBoth out counts) (λ cs. rowPlacedBoth limit out counts (builtRow w (map shapeOf ts) cs) (cellsPoints ts cs)) ≡ (Answer.Done n, (after, numbers)) → Goal
   of-cells ts e vs f (refused u) g o = absurd (subst IsDone (sym o) tt)
   of-cells ts e vs f (ok cs) g o = by-limit (ltb limit (length r)) refl o
     where
       r : List ℕ
       r = builtRow w (map shapeOf ts) cs
 
+      many : length (cellsPoints ts cs) ≡ length ts
+      many = many-points ts vs area g (checked-taken limit (length ts) (length area) list f .count)
+
       by-limit : (t : Bool) → ltb limit (length r) ≡ t
-          → cond t (unchanged out RowLimit) (placed out r) ≡ (Answer.Done n, after) → Built w limit schema list area out n after
+          → cond t (unchangedBoth out counts RowLimit) (placedBoth out counts r (cellsPoints ts cs)) ≡ (Answer.Done n, (after, numbers)) → Goal
       by-limit true k p = absurd (subst IsDone (sym p) tt)
       by-limit false k p =
-          let x = placed-done out r p in
+          let q = placed-both-done out counts r (cellsPoints ts cs) p in
+          let x = q .bytes in
           record {
-            columns = ts;
-            schema-good = e;
-            given = vs;
-            list-good = f;
-            cells = cs;
-            cells-good = g;
-            size = x .size;
-            short = rw (x .size) (ltb-false limit (length r) k);
-            room = rw (x .size) (x .room);
-            stored = x .stored;
-            row = x .part;
+            built =
+                record {
+                  columns = ts;
+                  schema-good = e;
+                  given = vs;
+                  list-good = f;
+                  cells = cs;
+                  cells-good = g;
+                  size = x .size;
+                  short = rw (x .size) (ltb-false limit (length r) k);
+                  room = rw (x .size) (x .room);
+                  stored = x .stored;
+                  row = x .part;
+                };
+            counted = record { many = many; enough = rw many at (q .enough); put = q .put };
           }
 
   of-values : (ts : List DataType) → schemaOf w limit schema ≡ ok ts → (q : Values) → checked limit (length ts) (length area) list ≡ q
-      → onResult q (unchanged out) (λ vs. buildValues w limit ts vs area out) ≡ (Answer.Done n, after) → Built w limit schema list area out n after
+      → onResult q (unchangedBoth out counts) (λ vs. buildValues w limit ts vs area out counts) ≡ (Answer.Done n, (after, numbers)) → Goal
   of-values ts e (refused u) f o = absurd (subst IsDone (sym o) tt)
   of-values ts e (ok vs) f o = of-cells ts e vs f (cellsFrom 0 ts vs area) refl o
 
-  of-schema : (q : Parsed) → schemaOf w limit schema ≡ q → onResult q (unchanged out) (λ ts. buildRow w limit ts list area out) ≡ (Answer.Done n, after) → Built w limit schema list area out n after
+  of-schema : (q : Parsed) → schemaOf w limit schema ≡ q → onResult q (unchangedBoth out counts) (λ ts. buildRow w limit ts list area out counts) ≡ (Answer.Done n, (after, numbers)) → Goal
   of-schema (refused u) e o = absurd (subst IsDone (sym o) tt)
   of-schema (ok ts) e o = of-values ts e (checked limit (length ts) (length area) list) refl o
 
-pub built : (w limit : ℕ) (schema list area out : List ℕ) → DoneIsBuilt w limit schema list area out
-built w limit schema list area out n after o = of-schema w limit schema list area out (schemaOf w limit schema) refl o
+pub built : (w limit : ℕ) (schema list area out counts : List ℕ) → DoneIsBuilt w limit schema list area out counts
+built w limit schema list area out counts n after numbers o = of-schema w limit schema list area out counts n after numbers (schemaOf w limit schema) refl o
 
 -- ---- equal rows
 

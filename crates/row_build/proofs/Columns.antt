@@ -14,10 +14,13 @@ use Rattle.value.specs.Ranges.{part}
 use Rattle.value_list.specs.Records.{rangeAt, recordAt as valueRecordAt}
 use Rattle.stored_form.proofs.Lengths.{accepted-inside}
 use Rattle.record_slot.specs.Stored.{isNull}
-use Rattle.record_slot.specs.InnerSteps.{Readable, valueIn, formIn, SlotReady}
+use Rattle.record_slot.specs.InnerSteps.{Readable, valueIn, formIn, SlotReady, Suited}
 use Rattle.record_slot.proofs.Tests.{length-payload}
 use Rattle.record_slot.proofs.Forms.{is-fixed, is-varlen, range-is, varchar-form}
 use Rattle.row_build.specs.InnerSteps.{varlenStored, fixedStored, columnStored, PayloadReady, Storable}
+
+pub storable-suited : {columns i slot entry : ℕ} {t : DataType} {v : DataValue} {area : List ℕ} {end n : ℕ} → Storable columns i slot entry t v area end n → Suited t v area
+storable-suited p = record { match = p .match; suited = p .suited }
 
 module _ {s : List ℕ} {at : ℕ} {list : List ℕ} {from : ℕ} (r : Readable s at list from) where
   abbrev t : DataType

@@ -6,6 +6,7 @@ pub mod Measuring
 pub mod Cells
 pub mod Columns
 pub mod Writing
+pub mod Counting
 pub mod Placing
 pub mod Listing
 pub mod Schemas

@@ -12,7 +12,7 @@ use Rattle.error.specs.declared.Refusal.{Refusal}
 use Rattle.error.specs.declared.Refusal.the-variants.{RowLimit, NoRoom}
 use Rattle.error.specs.declared.Answer.{Answer}
 use Rattle.error.specs.declared.Answer.the-variants as Answer
-use Rattle.error.specs.Answer.{Outcome, unchanged}
+use Rattle.error.specs.Answer.{Counted, unchangedBoth}
 use Rattle.error.specs.Result.{Result, ok, refused, onResult}
 use Rattle.laws.proofs.Bytes.{sets-over}
 use Rattle.laws.proofs.Stores.{sets-append}
@@ -25,11 +25,13 @@ use Rattle.row_layout.specs.InnerLayout.{minimumOf}
 use Rattle.datatype.specs.declared.DataType.{DataType}
 use Rattle.datatype.specs.Types.{shapeOf}
 use Rattle.datatype.specs.Check.{typesIn}
+use Rattle.datatype.proofs.Again.{columns-all}
 use Rattle.row_build.specs.Cells.{cellsFrom}
-use Rattle.row_build.specs.Build.{rowPlaced, buildValues}
-use Rattle.row_build.specs.InnerSteps.{nullRow, valuesIn, Buildable, measured, cellsGiven, cellsIn, rowGiven, Fillable}
+use Rattle.row_build.specs.Build.{rowPlacedBoth, cellsPoints, buildValues}
+use Rattle.row_build.specs.InnerSteps.{nullRow, valuesIn, Buildable, measured, cellsGiven, cellsIn, rowGiven, countsGiven, Fillable}
 use Rattle.row_build.proofs.Nulls.{length-null-row, accepted-nulls}
 use Rattle.row_build.proofs.Cells.{cells-fit}
+use Rattle.row_build.proofs.Counting.{many-points}
 use Rattle.row_build.proofs.Measuring.{counted, IsDone}
 
 -- ---- stored over what is no longer
@@ -52,9 +54,9 @@ all-good m ts (ok cs) e = refl
 all-good m ts (refused u) e = absurd (subst IsDone e tt)
 
 -- the first refusal is the call's
-pub build-refused : (ts : List DataType) (q : Result (List Cell)) (out : List ℕ) (m : ℕ) {e : Refusal} (k : List Cell → Outcome) → Answer.Refused e ≡ measured m ts q → unchanged out e ≡ onResult q (unchanged out) k
-build-refused ts (ok cs) out m k f = absurd (subst IsDone (sym f) tt)
-build-refused ts (refused u) out m k f = ap (λ (a : Answer). (a, out)) f
+pub build-refused : (ts : List DataType) (q : Result (List Cell)) (out counts : List ℕ) (m : ℕ) {e : Refusal} (k : List Cell → Counted) → Answer.Refused e ≡ measured m ts q → unchangedBoth out counts e ≡ onResult q (unchangedBoth out counts) k
+build-refused ts (ok cs) out counts m k f = absurd (subst IsDone (sym f) tt)
+build-refused ts (refused u) out counts m k f = ap (λ (a : Answer). (a, (out, counts))) f
 
 module _ {s : List ℕ} {l : RowLayout} {list area : List ℕ} (b : Buildable s l list area) {n : ℕ} (d : Answer.Done n ≡ measured (minimumOf l true) (typesIn s) (cellsFrom 0 (typesIn s) (valuesIn list) area)) where
   cells-good : cellsFrom 0 (typesIn s) (valuesIn list) area ≡ ok (cellsIn s list area)
@@ -71,32 +73,44 @@ module _ {s : List ℕ} {l : RowLayout} {list area : List ℕ} (b : Buildable s 
   pub least : minimumOf l true ≤ n
   least = let z = ap counted (rw cells-good at d) in omega (arith, z)
 
-  module _ (out : List ℕ) where
-    whole : rowPlaced rowLimit out (rowGiven s list area) ≡ buildValues offsetWidth rowLimit (typesIn s) (valuesIn list) area out
-    whole = sym (ap (λ (q : Result (List Cell)). onResult q (unchanged out) (λ cs. rowPlaced rowLimit out (builtRow offsetWidth (map shapeOf (typesIn s)) cs))) cells-good)
+  many : length (countsGiven s list area) ≡ l .«num_columns»
+  many = many-points (typesIn s) (valuesIn list) area cells-good (b .count) ∙ sym (columns-all (b .accepted))
 
-    pub too-long : rowLimit < n → unchanged out RowLimit ≡ buildValues offsetWidth rowLimit (typesIn s) (valuesIn list) area out
+  module _ (out counts : List ℕ) where
+    abbrev call : Counted
+    call = buildValues offsetWidth rowLimit (typesIn s) (valuesIn list) area out counts
+
+    whole : rowPlacedBoth rowLimit out counts (rowGiven s list area) (countsGiven s list area) ≡ call
+    whole = sym (ap (λ (q : Result (List Cell)). onResult q (unchangedBoth out counts) (λ cs. rowPlacedBoth rowLimit out counts (builtRow offsetWidth (map shapeOf (typesIn s)) cs) (cellsPoints (typesIn s) cs))) cells-good)
+
+    pub too-long : rowLimit < n → unchangedBoth out counts RowLimit ≡ call
     too-long h = rw (length-is, lt-ltb rowLimit n h) at whole
 
     module _ (h : n ≤ rowLimit) where
-      pub no-room : length out < n → unchanged out NoRoom ≡ buildValues offsetWidth rowLimit (typesIn s) (valuesIn list) area out
+      pub no-room : length out < n → unchangedBoth out counts NoRoom ≡ call
       no-room k = rw (length-is, le-ltb rowLimit n h, lt-ltb (length out) n k) at whole
 
-      module _ (k : n ≤ length out) {first : List ℕ} (e : first ≡ sets out 0 (nullRow l)) where
-        least-row : length (nullRow l) ≤ length out
-        least-row = rw length-null-row (omega (arith, least))
+      module _ (k : n ≤ length out) where
+        pub few-counts : length counts < l .«num_columns» → unchangedBoth out counts NoRoom ≡ call
+        few-counts m = rw (length-is, many, le-ltb rowLimit n h, le-ltb (length out) n k, lt-ltb (length counts) (l .«num_columns») m) at whole
 
-        pub fillable : Fillable s l list area first
-        fillable =
-            record {
-              given = b;
-              all = cells-good;
-              nulls = e ∙ sets-again out (nullRow l) least-row ∙ ap (λ (z : List ℕ). sets z 0 (nullRow l)) (sym e) ∙ ap (sets first 0) (accepted-nulls (b .accepted));
-              room = rw (length-is, e, length-sets) k;
-              short = rw length-is h;
-            }
+        module _ {first : List ℕ} (e : first ≡ sets out 0 (nullRow l)) where
+          least-row : length (nullRow l) ≤ length out
+          least-row = rw length-null-row (omega (arith, least))
 
-        pub row-placed : {last : List ℕ} → last ≡ sets first 0 (rowGiven s list area) → (Answer.Done n, last) ≡ buildValues offsetWidth rowLimit (typesIn s) (valuesIn list) area out
-        row-placed f =
-            let same = f ∙ ap (λ (z : List ℕ). sets z 0 (rowGiven s list area)) e ∙ sets-longer out (nullRow l) (rowGiven s list area) least-row (rw (length-null-row, length-is) least) in
-            ap (λ (z : List ℕ). (Answer.Done n, z)) same ∙ rw (length-is, le-ltb rowLimit n h, le-ltb (length out) n k) at whole
+          pub fillable : Fillable s l list area first
+          fillable =
+              record {
+                given = b;
+                all = cells-good;
+                nulls = e ∙ sets-again out (nullRow l) least-row ∙ ap (λ (z : List ℕ). sets z 0 (nullRow l)) (sym e) ∙ ap (sets first 0) (accepted-nulls (b .accepted));
+                room = rw (length-is, e, length-sets) k;
+                short = rw length-is h;
+              }
+
+          pub row-placed : l .«num_columns» ≤ length counts → {last numbers : List ℕ} → last ≡ sets first 0 (rowGiven s list area) → numbers ≡ sets counts 0 (countsGiven s list area)
+              → (Answer.Done n, (last, numbers)) ≡ call
+          row-placed m {last} f g =
+              let same = f ∙ ap (λ (z : List ℕ). sets z 0 (rowGiven s list area)) e ∙ sets-longer out (nullRow l) (rowGiven s list area) least-row (rw (length-null-row, length-is) least) in
+              ap (λ (z : List ℕ). (Answer.Done n, (last, z))) g ∙ ap (λ (z : List ℕ). (Answer.Done n, (z, sets counts 0 (countsGiven s list area)))) same
+              ∙ rw (length-is, many, le-ltb rowLimit n h, le-ltb (length out) n k, le-ltb (length counts) (l .«num_columns») m) at whole

@@ -147,8 +147,8 @@ module _ {s : List ℕ} {l : RowLayout} {list area out₀ : List ℕ} (f : Filla
       varlen-is : isVarlen (g .ty) ≡ true → getD ss i Varlen ≡ Varlen
       varlen-is e = shape-is ∙ rw e
 
-      cell : CellIs (g .ty) (g .value) area (getD cs i none)
-      cell = rw (type-given (f .given) (k .walk) h r, value-given (f .given) (k .walk) h r) (cell-at area ts (valuesIn list) (f .all) (f .given .count) i h)
+      pub write-cell : CellIs (g .ty) (g .value) area (getD cs i none)
+      write-cell = rw (type-given (f .given) (k .walk) h r, value-given (f .given) (k .walk) h r) (cell-at area ts (valuesIn list) (f .all) (f .given .count) i h)
 
       abbrev form : List ℕ
       form = storedForm (g .ty) (g .value) (textOf area (g .value))
@@ -203,7 +203,7 @@ module _ {s : List ℕ} {l : RowLayout} {list area out₀ : List ℕ} (f : Filla
         pub write-more : (res, out') ≡ columnStored i slot entry (g .ty) (g .value) form end out
             → Writing s l list area out₀ out' (i + 1) (g .next-type) (g .next-value) (slot + sizeOf (g .ty)) (entry + cond (isVarlen (g .ty)) offsetWidth 0) res
         write-more o =
-            let p = stepped (getD cs i none) refl cell o in
+            let p = stepped (getD cs i none) refl write-cell o in
             record {
               walk = together-next (f .given) (k .walk) h r;
               slot-is = rw (k .slot-is) (omega (arith, packed-next));
@@ -246,4 +246,4 @@ module _ {s : List ℕ} {l : RowLayout} {list area out₀ : List ℕ} (f : Filla
           by-shape false v = omega (arith, end-small)
 
       pub write-room : isNull (g .value) ≡ false → Storable (l .«num_columns») i slot entry (g .ty) (g .value) area end (length out)
-      write-room = room-for (getD cs i none) refl cell
+      write-room = room-for (getD cs i none) refl write-cell

@@ -7,6 +7,7 @@ use mathlib.Core.Path.{_≡_}
 use lib.ListN.{length, take, replicate}
 use lib.Seq.{sets}
 use Rattle.error.specs.declared.Answer.the-variants.{Done}
+use Rattle.error.specs.Answer.{placed, placedBoth}
 use Rattle.error.specs.Result.{ok}
 use Rattle.row_format.specs.Table.{Cell}
 use Rattle.row_format.specs.Row.{builtRow}
@@ -16,7 +17,7 @@ use Rattle.datatype.specs.Schema.{schemaOf}
 use Rattle.value.specs.declared.DataValue.{DataValue}
 use Rattle.value_list.specs.Lists.{checked}
 use Rattle.row_build.specs.Cells.{cellsFrom}
-use Rattle.row_build.specs.Build.{buildCall, freshCall}
+use Rattle.row_build.specs.Build.{cellsPoints, buildCall, freshRow, freshCall}
 
 -- a build from schema, list and text area into `out`, that answered Done n and left `after` in the output
 pub record Built (w limit : ℕ) (schema list area out : List ℕ) (n : ℕ) (after : List ℕ) : Type 0 where
@@ -37,11 +38,23 @@ pub record Built (w limit : ℕ) (schema list area out : List ℕ) (n : ℕ) (af
   pub stored : after ≡ sets out 0 (builtRow w (map shapeOf columns) cells)
   pub row : take n after ≡ builtRow w (map shapeOf columns) cells
 
+-- and left `numbers` in the list of counts: a number for each column, the code points of its stored text or 0
+pub record CountsPut {w limit : ℕ} {schema list area out : List ℕ} {n : ℕ} {after : List ℕ}
+    (b : Built w limit schema list area out n after) (counts numbers : List ℕ) : Type 0 where
+  pub many : length (cellsPoints (b .columns) (b .cells)) ≡ length (b .columns)
+  pub enough : length (b .columns) ≤ length counts
+  pub put : numbers ≡ sets counts 0 (cellsPoints (b .columns) (b .cells))
+
 -- every build that answers Done
-abbrev pub DoneIsBuilt : (w limit : ℕ) (schema list area out : List ℕ) → Type 0
-DoneIsBuilt w limit schema list area out =
-    (n : ℕ) (after : List ℕ) → buildCall w limit schema list area out ≡ (Done n, after)
-    → Built w limit schema list area out n after
+pub record DoneBuild (w limit : ℕ) (schema list area out counts : List ℕ) (n : ℕ) (after numbers : List ℕ)
+    : Type 0 where
+  pub built : Built w limit schema list area out n after
+  pub counted : CountsPut built counts numbers
+
+abbrev pub DoneIsBuilt : (w limit : ℕ) (schema list area out counts : List ℕ) → Type 0
+DoneIsBuilt w limit schema list area out counts =
+    (n : ℕ) (after numbers : List ℕ) → buildCall w limit schema list area out counts ≡ (Done n, (after, numbers))
+    → DoneBuild w limit schema list area out counts n after numbers
 
 -- Two builds under one schema, with offsets that hold every length up to the limit: their rows are equal exactly if
 -- every column has the same stored form in both, or is null in both.
@@ -51,8 +64,13 @@ abbrev pub EqualRows : {w limit : ℕ} {schema list area out : List ℕ} {n : �
 EqualRows {w} {limit} {n = n} {after = after} {n' = n'} {after' = after'} b b' =
     limit < 256 ^ w → (take n after ≡ take n' after') ↔ (b .cells ≡ b' .cells)
 
--- a fresh row is built of as many nulls as there are columns, each a record of the one byte 0
+-- a fresh row is built of as many nulls as there are columns, each a record of the one byte 0; building puts as many
+-- zeros in the list of counts
+pub record OfNulls (w limit : ℕ) (schema out : List ℕ) (columns : List DataType) : Type 0 where
+  pub fresh : freshCall w limit schema out ≡ placed out (freshRow w columns)
+  pub built : (counts : List ℕ) → buildCall w limit schema (replicate (length columns) 0) [] out counts
+      ≡ placedBoth out counts (freshRow w columns) (replicate (length columns) 0)
+
 abbrev pub FreshIsBuilt : (w limit : ℕ) (schema out : List ℕ) → Type 0
 FreshIsBuilt w limit schema out =
-    (columns : List DataType) → schemaOf w limit schema ≡ ok columns
-    → freshCall w limit schema out ≡ buildCall w limit schema (replicate (length columns) 0) [] out
+    (columns : List DataType) → schemaOf w limit schema ≡ ok columns → OfNulls w limit schema out columns

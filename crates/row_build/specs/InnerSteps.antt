@@ -29,7 +29,7 @@ use Rattle.stored_form.specs.Write.{accepted as holds, storedForm}
 use Rattle.record_slot.specs.Stored.{isNull}
 use Rattle.record_slot.specs.InnerSteps.{payloadAdded}
 use Rattle.row_build.specs.Cells.{cellsFrom}
-use Rattle.row_build.specs.Build.{freshRow}
+use Rattle.row_build.specs.Build.{cellsPoints, freshRow}
 
 -- the bytes of a row of nulls, by its layout: header, bits that are set and spare ones that are clear, zeros
 abbrev pub nullBits : ℕ → List ℕ
@@ -117,6 +117,9 @@ cellsIn s list area = cellsGiven (cellsFrom 0 (typesIn s) (valuesIn list) area)
 
 abbrev pub rowGiven : List ℕ → List ℕ → List ℕ → List ℕ
 rowGiven s list area = builtRow offsetWidth (map shapeOf (typesIn s)) (cellsIn s list area)
+
+abbrev pub countsGiven : List ℕ → List ℕ → List ℕ → List ℕ
+countsGiven s list area = cellsPoints (typesIn s) (cellsIn s list area)
 
 -- the row of nulls stands in the output, which has room for the row of the cells
 pub record Fillable (s : List ℕ) (l : RowLayout) (list area out : List ℕ) : Type 0 where

@@ -28,7 +28,7 @@ ghost use Rattle.record_slot.specs.Stored.{isNull};
 ghost use Rattle.row_build.specs.Cells.{cellsFrom};
 ghost use Rattle.row_build.specs.Build.{buildValues, buildRow, buildCall, freshCall};
 ghost use Rattle.record_slot.specs.InnerSteps.{Readable, valueIn, formIn, SlotReady};
-ghost use Rattle.row_build.specs.InnerSteps.{nullBits, nullRow, valuesIn, Buildable, measured, Lengthed, fixedStored, varlenStored, columnStored, PayloadReady, BitReady, Storable, rowGiven, Fillable};
+ghost use Rattle.row_build.specs.InnerSteps.{nullBits, nullRow, valuesIn, Buildable, measured, Lengthed, fixedStored, varlenStored, columnStored, PayloadReady, BitReady, Storable, rowGiven, countsGiven, Fillable};
 
 // n bits that are set, and clear ones up to the end of the last byte.
 fn write_null_bits(out: &mut [u8], at: usize, n: usize)
@@ -215,11 +215,22 @@ fn write_column(
     end
 }
 
-// All columns, over the row of nulls.
-fn write_columns(schema: &[u8], layout: RowLayout, values: &[u8], text: &[u8], out: &mut [u8])
-    requires { ⌜ Fillable (now schema) layout (now values) (now text) (now out) ⌝ }
-    ensures { λ _. ⌜ now (out .exit)
-        ≡ sets (now (out .entry)) 0 (rowGiven (now (schema .entry)) (now (values .entry)) (now (text .entry))) ⌝ }
+// All columns, over the row of nulls, and the counts of their code points.
+fn write_columns(
+    schema: &[u8],
+    layout: RowLayout,
+    values: &[u8],
+    text: &[u8],
+    out: &mut [u8],
+    counts: &mut [u32],
+)
+    requires { ⌜ Fillable (now schema) layout (now values) (now text) (now out)
+        × (length (typesIn (now schema)) ≤ length (now counts)) ⌝ }
+    ensures { λ _. ⌜ (now (out .exit)
+        ≡ sets (now (out .entry)) 0 (rowGiven (now (schema .entry)) (now (values .entry)) (now (text .entry))))
+        × (now (counts .exit)
+        ≡ sets (now (counts .entry)) 0
+        (countsGiven (now (schema .entry)) (now (values .entry)) (now (text .entry)))) ⌝ }
 {
     let mut column = 0;
     let mut at = 0;
@@ -242,6 +253,8 @@ fn write_columns(schema: &[u8], layout: RowLayout, values: &[u8], text: &[u8], o
             entry,
             end,
         );
+        let points = record_slot::points_at(schema, at, values, from, text);
+        counts[column] = points;
         slot += record_slot::slot_size(schema, at);
         entry += record_slot::entry_size(value::held_kind(schema[at]));
         at = record_slot::after_column(schema, at);
@@ -257,15 +270,16 @@ fn place_row(
     values: &[u8],
     text: &[u8],
     out: &mut [u8],
+    counts: &mut [u32],
     n: usize,
 ) -> Answer
     requires { ⌜ Buildable (now schema) layout (now values) (now text)
         × (Done n
         ≡ measured (minimumOf layout true) (typesIn (now schema))
         (cellsFrom 0 (typesIn (now schema)) (valuesIn (now values)) (now text))) ⌝ }
-    ensures { λ r. ⌜ (r, now (out .exit))
+    ensures { λ r. ⌜ (r, (now (out .exit), now (counts .exit)))
         ≡ buildValues offsetWidth rowLimit (typesIn (now (schema .entry))) (valuesIn (now (values .entry)))
-        (now (text .entry)) (now (out .entry)) ⌝ }
+        (now (text .entry)) (now (out .entry)) (now (counts .entry)) ⌝ }
 {
     if RowLayout::ROW_LIMIT < n {
         return Answer::Refused(Refusal::RowLimit);
@@ -273,21 +287,31 @@ fn place_row(
     if out.len() < n {
         return Answer::Refused(Refusal::NoRoom);
     }
+    if counts.len() < layout.num_columns {
+        return Answer::Refused(Refusal::NoRoom);
+    }
     write_nulls(layout, out);
-    write_columns(schema, layout, values, text, out);
+    write_columns(schema, layout, values, text, out, counts);
     Answer::Done(n)
 }
 
 // One pass tests the list and its values. A refusal is asked again of the list, since 10 comes before 11 and 12 of
 // every column.
-fn build_row(schema: &[u8], layout: RowLayout, values: &[u8], text: &[u8], out: &mut [u8]) -> Answer
+fn build_row(
+    schema: &[u8],
+    layout: RowLayout,
+    values: &[u8],
+    text: &[u8],
+    out: &mut [u8],
+    counts: &mut [u32],
+) -> Answer
     requires { ⌜ Accepted (now schema) layout ⌝ }
-    ensures { λ r. ⌜ (r, now (out .exit))
+    ensures { λ r. ⌜ (r, (now (out .exit), now (counts .exit)))
         ≡ buildRow offsetWidth rowLimit (typesIn (now (schema .entry))) (now (values .entry)) (now (text .entry))
-        (now (out .entry)) ⌝ }
+        (now (out .entry)) (now (counts .entry)) ⌝ }
 {
     match row_length(schema, layout, values, text) {
-        Answer::Done(n) => place_row(schema, layout, values, text, out, n),
+        Answer::Done(n) => place_row(schema, layout, values, text, out, counts, n),
         Answer::Refused(e) => {
             match value_list::check_values(values, layout.num_columns, text.len()) {
                 ListCheck::Refused(first) => Answer::Refused(first),
@@ -297,19 +321,21 @@ fn build_row(schema: &[u8], layout: RowLayout, values: &[u8], text: &[u8], out: 
     }
 }
 
-// The row of a value list, whose texts are in the text area.
+// The row of a value list, whose texts are in the text area; and for each column the code points of its text, as
+// stored, 0 where there is none.
 pub fn serialize_nullable_typed_row(
     schema: &[u8],
     values: &[u8],
     text: &[u8],
     out: &mut [u8],
+    counts: &mut [u32],
 ) -> Answer
-    ensures { λ r. ⌜ (r, now (out .exit))
+    ensures { λ r. ⌜ (r, (now (out .exit), now (counts .exit)))
         ≡ buildCall offsetWidth rowLimit (now (schema .entry)) (now (values .entry)) (now (text .entry))
-        (now (out .entry)) ⌝ }
+        (now (out .entry)) (now (counts .entry)) ⌝ }
 {
     match datatype::check_schema(schema) {
         SchemaCheck::Refused(e) => Answer::Refused(e),
-        SchemaCheck::Good(layout) => build_row(schema, layout, values, text, out),
+        SchemaCheck::Good(layout) => build_row(schema, layout, values, text, out, counts),
     }
 }

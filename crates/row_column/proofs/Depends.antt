@@ -1,18 +1,19 @@
 -- A column's reading depends on the header, its bit, its slot or its offsets and range, and on nothing else.
 use Prim.Native.Nat.{ℕ, zero, suc, _+_, _*_, _-_, _/_, _%_, _≤_, _<_}
 use mathlib.Core.Path.{_≡_, refl, sym, ap, _∙_}
-use mathlib.Core.Bool.{Bool, false, false≢true}
+use mathlib.Core.Bool.{Bool, false, cond, false≢true}
 use mathlib.Core.List.{List, map}
+use native.Mathlib.Nat.{min-le-left}
 use native.Mathlib.Omega.{arith}
 use borrow.Author.Tests.{le-ltb, eq-eqb}
 use lib.Dec.{eqb}
-use lib.ListN.{length, getD, take, drop}
+use lib.ListN.{length, getD, take, drop, length-take}
 use lib.Seq.{take-take, take-add, drop-at, length-take-le, getD-drop}
 use Rattle.laws.specs.Bits.{bitOf}
 use Rattle.laws.specs.Bytes.{fromLe, fromTable, entryAt, splice}
 use Rattle.laws.proofs.Bytes.{same-length-splice, splice-outside}
 use Rattle.laws.proofs.Parts.{part-same}
-use Rattle.laws.proofs.Truths.{cases}
+use Rattle.laws.proofs.Truths.{cases, by-cond}
 use Rattle.row_format.specs.Places.{varlens, rankOf, bitmapStart, tableStart, slotPlace, minimum}
 use Rattle.row_format.specs.Table.{firstOffset, rangeEnd}
 use Rattle.row_format.proofs.Table.{first-zero, first-some, first-none}
@@ -22,7 +23,14 @@ use Rattle.row_layout.specs.Range.{varlenRange}
 use Rattle.datatype.specs.declared.DataType.{DataType}
 use Rattle.datatype.specs.Types.{sizeOf, isVarlen, shapeOf}
 use Rattle.datatype.specs.Check.{typeAt}
+use Rattle.value.specs.declared.DataValue.the-variants.{Null}
+use Rattle.value.specs.Ranges.{part, textOf}
+use Rattle.stored_form.specs.declared.SlotRead.{SlotRead}
+use Rattle.stored_form.specs.declared.SlotRead.the-variants as Slot
 use Rattle.stored_form.specs.Read.{readSlot}
+use Rattle.stored_form.proofs.Within.{OfRange, slot-range}
+use Rattle.row_column.specs.declared.ColumnRead.{ColumnRead}
+use Rattle.row_column.specs.declared.ColumnRead.the-variants as Read
 use Rattle.row_column.specs.Frame.{columnCount, varlenField, isPacked, frameOf}
 use Rattle.row_column.specs.Column.{slotValue, varlenValue, columnValue}
 use Rattle.row_column.specs.Depends.{Zeros, bitOfColumn, SameRange, SameVarchar, SameFor, InOffset, LookedAtVarchar, own, higher, range, LookedAt, bit, slot, varchar}
@@ -110,6 +118,53 @@ column-depends w p ts i r r' s =
     (λ f. same-varchar w (tableStart (length ts)) (varlens (map shapeOf ts)) (rankOf (map shapeOf ts) i) r r' t i
     (s .varchar clear f))
     (λ f. rw size (ap (λ (bs : List ℕ). slotValue i (readSlot t at bs)) (s .slot clear f)))))
+
+-- ---- a column's text
+
+module _ (r r' : List ℕ) where
+  -- what was read has the same text in both rows
+  abbrev pub SameText : ColumnRead → Type 0
+  SameText (Read.Value v) = textOf r v ≡ textOf r' v
+  SameText (Read.Refused e) = Unit {0}
+
+  of-slot : (i : ℕ) (x : SlotRead) → OfRange (λ q. part r q ≡ part r' q) x → SameText (slotValue i x)
+  of-slot i (Slot.Value v) h = h
+  of-slot i Slot.NoValue h = tt
+
+  -- the first m of n bytes that are the same
+  same-front : (a m n : ℕ) → m ≤ n → take n (drop a r) ≡ take n (drop a r') → take m (drop a r) ≡ take m (drop a r')
+  same-front a m n h e =
+      sym (take-take m n (drop a r) h) ∙ ap (take m) e ∙ take-take m n (drop a r') h
+
+  slot-text : (t : DataType) (i a n : ℕ) → take n (drop a r) ≡ take n (drop a r')
+      → SameText (slotValue i (readSlot t a (take n (drop a r))))
+  slot-text t i a n e =
+      let bs : List ℕ = take n (drop a r) in
+      of-slot i (readSlot t a bs)
+      (slot-range (λ q. part r q ≡ part r' q) refl a bs (same-front a (length bs) n (rw length-take (min-le-left n (length (drop a r)))) e) t)
+
+  range-text : (t : DataType) (i : ℕ) (q : VarlenRange)
+      → ((a e : ℕ) → q ≡ Range.Bytes a e → take (e - a) (drop a r) ≡ take (e - a) (drop a r'))
+      → SameText (varlenValue t i r q)
+  range-text t i Range.Null h = refl
+  range-text t i (Range.Bytes a e) h = slot-text t i a (e - a) (h a e refl)
+  range-text t i Range.Outside h = tt
+
+  pub text-depends : (w : ℕ) (p : Bool) (ts : List DataType) (i : ℕ) → SameFor w p ts i r r' → SameText (columnValue w p ts i r)
+  text-depends w p ts i s =
+      let t : DataType = typeAt ts i in
+      let at : ℕ = slotPlace w p (map shapeOf ts) i in
+      let q : VarlenRange = varlenRange w (tableStart (length ts)) (varlens (map shapeOf ts)) (rankOf (map shapeOf ts) i) r in
+      let size : at + sizeOf t - at ≡ sizeOf t = omega arith in
+      by-cond SameText (eqb (bitOfColumn i r) 1) (Read.Value Null) (cond (isVarlen t) (varlenValue t i r q) (slotValue i (readSlot t at (take (at + sizeOf t - at) (drop at r)))))
+      (λ e. refl)
+      (λ e.
+      let clear = eqb-no (bitOfColumn i r) 1 e in
+      by-cond SameText (isVarlen t) (varlenValue t i r q) (slotValue i (readSlot t at (take (at + sizeOf t - at) (drop at r))))
+      (λ f.
+      let v = s .varchar clear f in
+      range-text t i q (λ a e g. v .some (bytes-some w (tableStart (length ts)) (varlens (map shapeOf ts)) (rankOf (map shapeOf ts) i) r r' g) .range a e g))
+      (λ f. slot-text t i at (at + sizeOf t - at) (rw size (s .slot clear f))))
 
 -- ---- the header
 

@@ -1,20 +1,30 @@
--- A read depends on the header and on what its wanted columns depend on, and on no other byte of the row.
+-- A read depends on the header and on what its wanted columns depend on, and on no other byte of the row; its counts as
+-- its values.
 use Prim.Native.Nat.{ℕ, zero, suc, _+_, _≤_}
 use mathlib.Core.Path.{_≡_, refl, ap, ap₂, _∙_}
-use mathlib.Core.Bool.{Bool, true, false}
-use mathlib.Core.List.{List, map}
+use mathlib.Core.Bool.{Bool, true, false, cond}
+use mathlib.Core.List.{List, _∷_, map}
 use native.Mathlib.Omega.{arith}
 use lib.ListN.{length, take}
-use Rattle.error.specs.Answer.{unchanged}
+use Rattle.error.specs.Answer.{unchangedBoth, placedBoth}
+use Rattle.error.specs.Result.{ok, refused}
 use Rattle.row_format.specs.Places.{minimum}
 use Rattle.datatype.specs.declared.DataType.{DataType}
 use Rattle.datatype.specs.Types.{shapeOf}
+use Rattle.text.specs.Check.{points}
+use Rattle.value.specs.declared.DataValue.{DataValue}
+use Rattle.value.specs.Kinds.{isTextValue}
+use Rattle.value.specs.Ranges.{textOf}
+use Rattle.value_list.specs.Lists.{Values, listOf}
+use Rattle.stored_form.specs.Points.{pointsIn}
 use Rattle.row_column.specs.declared.Frame.{Frame}
 use Rattle.row_column.specs.declared.Frame.the-variants as Frame
 use Rattle.row_column.specs.declared.ColumnRead.{ColumnRead}
+use Rattle.row_column.specs.declared.ColumnRead.the-variants as Read
+use Rattle.row_column.specs.Column.{columnValue}
 use Rattle.row_column.specs.Frame.{isPacked, frameOf, onFrame}
 use Rattle.row_column.proofs.Framing.{same-good}
-use Rattle.row_column.proofs.Depends.{column-depends, frame-depends}
+use Rattle.row_column.proofs.Depends.{column-depends, SameText, text-depends, frame-depends}
 use Rattle.row_decode.specs.Read.{isWanted, wantedValue, onColumn, readFrom, handOut, readRow}
 use Rattle.row_decode.specs.Depends.{SameWanted}
 
@@ -30,13 +40,48 @@ columns-depend w p ts wanted r r' s (suc n) i e =
     ap₂ onColumn (same-wanted (wanted i) (λ a. column-depends w p ts i r r' (s i (omega arith) a)))
     (columns-depend w p ts wanted r r' s n (suc i) (omega arith))
 
-pub read-depends : (w limit : ℕ) (ts : List DataType) (r r' ws out : List ℕ) → take 4 r ≡ take 4 r'
+-- ---- the counts of what was read
+
+module _ (r r' : List ℕ) where
+  abbrev SameCounts : Values → Type 0
+  SameCounts (ok vs) = map (pointsIn r) vs ≡ map (pointsIn r') vs
+  SameCounts (refused e) = Unit {0}
+
+  text-counted : (v : DataValue) → textOf r v ≡ textOf r' v → pointsIn r v ≡ pointsIn r' v
+  text-counted v e = ap (λ (x : List ℕ). cond (isTextValue v) (points x) 0) e
+
+  on-counted : (c : ColumnRead) (rest : Values) → SameText r r' c → SameCounts rest → SameCounts (onColumn c rest)
+  on-counted (Read.Value v) (ok vs) h k = ap₂ (λ (n : ℕ) (ns : List ℕ). n ∷ ns) (text-counted v h) k
+  on-counted (Read.Value v) (refused e) h k = tt
+  on-counted (Read.Refused e) rest h k = tt
+
+  wanted-text : (wanted : Bool) (c : ColumnRead) → (wanted ≡ true → SameText r r' c) → SameText r r' (wantedValue wanted c)
+  wanted-text true c h = h refl
+  wanted-text false c h = refl
+
+  counts-depend : (w : ℕ) (p : Bool) (ts : List DataType) (wanted : ℕ → Bool) → SameWanted w p ts wanted r r'
+      → (n i : ℕ) → i + n ≡ length ts → SameCounts (readFrom w p ts wanted r i n)
+  counts-depend w p ts wanted s zero i e = refl
+  counts-depend w p ts wanted s (suc n) i e =
+      on-counted (wantedValue (wanted i) (columnValue w p ts i r)) (readFrom w p ts wanted r (suc i) n)
+      (wanted-text (wanted i) (columnValue w p ts i r) (λ a. text-depends r r' w p ts i (s i (omega arith) a)))
+      (counts-depend w p ts wanted s n (suc i) (omega arith))
+
+  handed-same : (out counts : List ℕ) (vs : Values) → SameCounts vs → handOut out counts r vs ≡ handOut out counts r' vs
+  handed-same out counts (ok vs) e = ap (placedBoth out counts (listOf vs)) e
+  handed-same out counts (refused e) h = refl
+
+-- the answer, the values and the counts
+pub read-depends : (w limit : ℕ) (ts : List DataType) (r r' ws out counts : List ℕ) → take 4 r ≡ take 4 r'
     → length r ≤ limit → length r' ≤ limit
     → minimum w (isPacked r) (map shapeOf ts) ≤ length r → minimum w (isPacked r) (map shapeOf ts) ≤ length r'
     → ((p : Bool) → frameOf w limit ts r ≡ Frame.Good p → SameWanted w p ts (isWanted ws) r r')
-    → readRow w limit ts r ws out ≡ readRow w limit ts r' ws out
-read-depends w limit ts r r' ws out e a a' m m' s =
-    same-good (frameOf w limit ts r) (unchanged out)
-    (λ p g. ap (handOut out) (columns-depend w p ts (isWanted ws) r r' (s p g) (length ts) 0 (omega arith)))
-    ∙ ap (λ (f : Frame). onFrame f (unchanged out) (λ p. handOut out (readFrom w p ts (isWanted ws) r' 0 (length ts))))
+    → readRow w limit ts r ws out counts ≡ readRow w limit ts r' ws out counts
+read-depends w limit ts r r' ws out counts e a a' m m' s =
+    same-good (frameOf w limit ts r) (unchangedBoth out counts)
+    (λ p g.
+    handed-same r r' out counts (readFrom w p ts (isWanted ws) r 0 (length ts))
+    (counts-depend r r' w p ts (isWanted ws) (s p g) (length ts) 0 (omega arith))
+    ∙ ap (handOut out counts r') (columns-depend w p ts (isWanted ws) r r' (s p g) (length ts) 0 (omega arith)))
+    ∙ ap (λ (f : Frame). onFrame f (unchangedBoth out counts) (λ p. handOut out counts r' (readFrom w p ts (isWanted ws) r' 0 (length ts))))
     (frame-depends w limit ts r r' e a a' m m')

@@ -1,10 +1,10 @@
 -- From the buffer to the output, and from the marks to the wanted columns.
 use Prim.Native.Nat.{ℕ, _+_, _≤_, _<_}
-use mathlib.Core.Path.{_≡_, refl, ap}
+use mathlib.Core.Path.{_≡_, refl, ap, _∙_}
 use mathlib.Core.Bool.{Bool}
-use mathlib.Core.List.{List, [], _∷_}
+use mathlib.Core.List.{List, [], _∷_, map}
 use native.Mathlib.Omega.{arith}
-use lib.ListN.{length, take}
+use lib.ListN.{length, take, replicate, length-map}
 use lib.Seq.{sets, length-sets}
 use Rattle.error.specs.declared.Answer.{Answer}
 use Rattle.error.specs.Result.{ok, refused}
@@ -15,30 +15,45 @@ use Rattle.datatype.specs.declared.DataType.{DataType}
 use Rattle.datatype.specs.Types.{shapeOf}
 use Rattle.datatype.specs.Check.{typesIn}
 use Rattle.value_list.specs.Lists.{Values, listOf}
+use Rattle.stored_form.specs.Points.{pointsIn}
 use Rattle.row_column.specs.InnerWalk.{walkedColumn}
 use Rattle.datatype.proofs.Again.{columns-all}
 use Rattle.datatype.specs.InnerCheck.{Accepted}
-use Rattle.row_decode.specs.Read.{wantedValue, onColumn, handOut}
+use Rattle.row_decode.specs.Read.{isWanted, wantedValue, onColumn, handOut}
 use Rattle.row_decode.specs.InnerWalk.{walkedRead}
-use Rattle.row_decode.specs.InnerMarks.{Filled, Held, copiedOut}
+use Rattle.row_decode.specs.InnerMarks.{marked, isMarked, Filled, Held, copiedOut}
+use Rattle.row_decode.proofs.Marking.{marks-tell}
 
-module _ (buf after : List ℕ) (res : Answer) where
-  pub filled-held : (vs : Values) → Filled vs buf res after → Held res after
-  filled-held (ok vs) f = rw (f .0, f .1 .0, length-sets) (f .1 .1)
+module _ (r : List ℕ) (columns : ℕ) (buf points buf' points' : List ℕ) (res : Answer) where
+  pub filled-held : (vs : Values) → Filled r columns vs buf points res buf' points' → Held res columns buf' points'
+  filled-held (ok vs) f = rw (f .done, f .written, f .counted, length-sets buf, length-sets points) (f .room, f .numbers)
   filled-held (refused e) f = rw f tt
 
-  pub filled-out : (vs : Values) → Filled vs buf res after → (out : List ℕ) → copiedOut res after out ≡ handOut out vs
-  filled-out (ok vs) f out =
-      let e : take (length (listOf vs)) (sets buf 0 (listOf vs)) ≡ listOf vs = part-stored buf 0 (listOf vs) (omega (arith, f .1 .1)) in
-      rw (f .0, f .1 .0, e)
-  filled-out (refused e) f out = rw f
+  pub filled-out : (vs : Values) → Filled r columns vs buf points res buf' points' → (out counts : List ℕ)
+      → copiedOut res columns buf' points' out counts ≡ handOut out counts r vs
+  filled-out (ok vs) f out counts =
+      let n : length (map (pointsIn r) vs) ≡ columns = length-map vs (pointsIn r) ∙ f .many in
+      let e : take (length (listOf vs)) (sets buf 0 (listOf vs)) ≡ listOf vs = part-stored buf 0 (listOf vs) (omega (arith, f .room)) in
+      let g : take (length (map (pointsIn r) vs)) (sets points 0 (map (pointsIn r) vs)) ≡ map (pointsIn r) vs =
+      part-stored points 0 (map (pointsIn r) vs) (omega (arith, n, f .numbers)) in
+      rw (f .done, f .written, f .counted, e, ← n, g)
+  filled-out (refused e) f out counts = rw f
 
 -- only the flags of the columns matter
-pub same-flags : (l : RowLayout) (p : Bool) (r : List ℕ) (f g : ℕ → Bool) (m : ℕ) → ((i : ℕ) → i < m → f i ≡ g i)
+same-flags : (l : RowLayout) (p : Bool) (r : List ℕ) (f g : ℕ → Bool) (m : ℕ) → ((i : ℕ) → i < m → f i ≡ g i)
     → (b : RowLayout) (ts : List DataType) → b .«num_columns» + length ts ≤ m → walkedRead l p f r b ts ≡ walkedRead l p g r b ts
 same-flags l p r f g m e b [] h = refl
 same-flags l p r f g m e b (t ∷ ts) h =
     rw (e (b .«num_columns») (omega arith)) (ap (onColumn (wantedValue (g (b .«num_columns»)) (walkedColumn l p b t r))) (same-flags l p r f g m e (withColumn b (shapeOf t)) ts (omega arith)))
 
-pub few-columns : {s : List ℕ} {l : RowLayout} → Accepted s l → noColumns .«num_columns» + length (typesIn s) ≤ 256
+few-columns : {s : List ℕ} {l : RowLayout} → Accepted s l → noColumns .«num_columns» + length (typesIn s) ≤ 256
 few-columns a = omega (arith, columns-all a, a .bounded .few)
+
+-- the marks of the wanted columns in a list of 256
+pub wanted-out : {s : List ℕ} {l : RowLayout} → Accepted s l → (p : Bool) (r out counts marks w : List ℕ)
+    → marks ≡ marked (replicate 256 0) w
+    → handOut out counts r (walkedRead l p (isMarked marks) r noColumns (typesIn s))
+    ≡ handOut out counts r (walkedRead l p (isWanted w) r noColumns (typesIn s))
+wanted-out {s} {l} a p r out counts marks w e =
+    ap (handOut out counts r)
+    (same-flags l p r (isMarked marks) (isWanted w) 256 (λ i h. rw e (marks-tell 256 w i h)) noColumns (typesIn s) (few-columns a))

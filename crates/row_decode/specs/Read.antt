@@ -1,16 +1,18 @@
 -- 01, Read: "1, 2, 4, 3 (four bytes), 5, 6, 3 (minimum), then 7 and 8 by rising column, 14". "A read answers with
--- such a list whose text area is the row itself." FORMAT 7.1.
+-- such a list whose text area is the row itself." 02, request 1: "reading and building put that count for each text
+-- built or wanted". FORMAT 7.1.
 use Prim.Native.Nat.{ℕ, zero, suc}
 use mathlib.Core.Bool.{Bool, true, false, cond}
-use mathlib.Core.List.{List, [], _∷_}
+use mathlib.Core.List.{List, [], _∷_, map}
 use lib.Dec.{eqb}
 use lib.ListN.{length}
-use Rattle.error.specs.Answer.{Outcome, unchanged, placed}
+use Rattle.error.specs.Answer.{Counted, unchangedBoth, placedBoth}
 use Rattle.error.specs.Result.{ok, refused, onResult, before}
 use Rattle.datatype.specs.declared.DataType.{DataType}
 use Rattle.datatype.specs.Schema.{schemaOf}
 use Rattle.value.specs.declared.DataValue.the-variants.{Null}
 use Rattle.value_list.specs.Lists.{Values, listOf}
+use Rattle.stored_form.specs.Points.{pointsIn}
 use Rattle.row_column.specs.declared.ColumnRead.{ColumnRead}
 use Rattle.row_column.specs.declared.ColumnRead.the-variants.{Value, Refused}
 use Rattle.row_column.specs.Frame.{frameOf, onFrame}
@@ -37,17 +39,17 @@ readFrom w p ts wanted r i zero = ok []
 readFrom w p ts wanted r i (suc n) =
     onColumn (wantedValue (wanted i) (columnValue w p ts i r)) (readFrom w p ts wanted r (suc i) n)
 
--- ---- the whole call: the answer, and the bytes of `out` afterwards
+-- ---- the whole call: the answer, the bytes of `out` and the numbers of `counts` afterwards
 
-abbrev pub handOut : List ℕ → Values → Outcome
-handOut out (ok vs) = placed out (listOf vs)
-handOut out (refused e) = unchanged out e
+abbrev pub handOut : List ℕ → List ℕ → List ℕ → Values → Counted
+handOut out counts r (ok vs) = placedBoth out counts (listOf vs) (map (pointsIn r) vs)
+handOut out counts r (refused e) = unchangedBoth out counts e
 
-abbrev pub readRow : ℕ → ℕ → List DataType → List ℕ → List ℕ → List ℕ → Outcome
-readRow w limit ts r ws out =
-    onFrame (frameOf w limit ts r) (unchanged out)
-    (λ p. handOut out (readFrom w p ts (isWanted ws) r 0 (length ts)))
+abbrev pub readRow : ℕ → ℕ → List DataType → List ℕ → List ℕ → List ℕ → List ℕ → Counted
+readRow w limit ts r ws out counts =
+    onFrame (frameOf w limit ts r) (unchangedBoth out counts)
+    (λ p. handOut out counts r (readFrom w p ts (isWanted ws) r 0 (length ts)))
 
-abbrev pub readCall : ℕ → ℕ → List ℕ → List ℕ → List ℕ → List ℕ → Outcome
-readCall w limit schema r ws out = onResult (schemaOf w limit schema) (unchanged out)
-    (λ ts. readRow w limit ts r ws out)
+abbrev pub readCall : ℕ → ℕ → List ℕ → List ℕ → List ℕ → List ℕ → List ℕ → Counted
+readCall w limit schema r ws out counts =
+    onResult (schemaOf w limit schema) (unchangedBoth out counts) (λ ts. readRow w limit ts r ws out counts)

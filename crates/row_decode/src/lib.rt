@@ -1,16 +1,20 @@
 // row.rs, `RowDecoder::decode` after `only`: the values of the wanted columns of a row, as a value list in the lent
-// output. The records are written to a local buffer first, so that a refusal finds the output as it was.
+// output, and the code points of their texts in a lent list. Both are written to local arrays first, so that a refusal
+// finds the lent ones as they were.
 use datatype::SchemaCheck;
 use error::Answer;
 use error::Refusal;
 use row_column::Frame;
 use row_layout::RowLayout;
+use slot_record::Recorded;
 ghost use mathlib.Core.Path.{_≡_};
 ghost use Prim.Native.Nat.{_≤_};
 ghost use lib.ListN.{length, set};
+ghost use lib.Seq.{sets};
 ghost use Rattle.row_format.specs.Places.{offsetWidth, rowLimit};
 ghost use Rattle.row_layout.specs.InnerLayout.{noColumns};
 ghost use Rattle.row_column.specs.InnerWalk.{walkedColumn, Framed};
+ghost use Rattle.stored_form.specs.Points.{pointsIn};
 ghost use Rattle.column_decode.specs.InnerColumn.{stepped, DecodeAt};
 ghost use Rattle.row_decode.specs.Read.{isWanted, wantedValue, handOut, readRow, readCall};
 ghost use Rattle.row_decode.specs.InnerWalk.{walkedRead};
@@ -37,10 +41,30 @@ fn mark_wanted(marks: &mut [u8], wanted: &[u16])
     }
 }
 
-// The n bytes of a result, copied from the buffer.
-fn hand_out(answer: Answer, buf: &[u8], out: &mut [u8]) -> Answer
-    requires { ⌜ Held answer (now buf) ⌝ }
-    ensures { λ r. ⌜ (r, now (out .exit)) ≡ copiedOut answer (now (buf .entry)) (now (out .entry)) ⌝ }
+// The first numbers of a list.
+fn copy_numbers(counts: &mut [u32], points: &[u32])
+    requires { ⌜ length (now points) ≤ length (now counts) ⌝ }
+    ensures { λ _. ⌜ now (counts .exit) ≡ sets (now (counts .entry)) 0 (now (points .entry)) ⌝ }
+{
+    let mut i = 0;
+    while i < points.len() {
+        counts[i] = points[i];
+        i += 1;
+    }
+}
+
+// The n bytes of a result, copied from the buffer, and a count for each column.
+fn hand_out(
+    answer: Answer,
+    columns: usize,
+    buf: &[u8],
+    points: &[u32],
+    out: &mut [u8],
+    counts: &mut [u32],
+) -> Answer
+    requires { ⌜ Held answer columns (now buf) (now points) ⌝ }
+    ensures { λ r. ⌜ (r, (now (out .exit), now (counts .exit)))
+        ≡ copiedOut answer columns (now (buf .entry)) (now (points .entry)) (now (out .entry)) (now (counts .entry)) ⌝ }
 {
     match answer {
         Answer::Refused(e) => Answer::Refused(e),
@@ -48,7 +72,11 @@ fn hand_out(answer: Answer, buf: &[u8], out: &mut [u8]) -> Answer
             if out.len() < n {
                 return Answer::Refused(Refusal::NoRoom);
             }
+            if counts.len() < columns {
+                return Answer::Refused(Refusal::NoRoom);
+            }
             endian::copy(out, 0, &buf[..n]);
+            copy_numbers(counts, &points[..columns]);
             Answer::Done(n)
         }
     }
@@ -65,26 +93,26 @@ fn decode_column(
     marks: &[u8],
     buf: &mut [u8],
     end: usize,
-) -> Answer
+) -> Recorded
     requires { ⌜ DecodeAt (now schema) at layout packed before (now row) (now buf) end × (length (now marks) ≡ 256) ⌝ }
     ensures { λ r. ⌜ (r, now (buf .exit))
-        ≡ stepped (now (buf .entry)) end
+        ≡ stepped (now (buf .entry)) end (pointsIn (now (row .entry)))
         (wantedValue (isMarked (now (marks .entry)) (before .«num_columns»))
         (walkedColumn layout packed before (typeAt (typesIn (now (schema .entry))) (before .«num_columns»))
         (now (row .entry)))) ⌝ }
 {
     let i = before.num_columns;
     if marks[i] != 1 {
-        return Answer::Done(record_encode::write_null(buf, end));
+        return Recorded::Done(record_encode::write_null(buf, end), 0);
     }
     if null_bitmap::column_bit_is_set(row, i) {
-        return Answer::Done(record_encode::write_null(buf, end));
+        return Recorded::Done(record_encode::write_null(buf, end), 0);
     }
     column_decode::decode_present(schema, at, layout, packed, before, row, buf, end)
 }
 
-// The records of all columns, at the front of the buffer. The schema was checked, so that no record of it is refused
-// here.
+// The records of all columns, at the front of the buffer, and their counts. The schema was checked, so that no record
+// of it is refused here.
 fn decode_columns(
     schema: &[u8],
     layout: RowLayout,
@@ -92,21 +120,25 @@ fn decode_columns(
     row: &[u8],
     marks: &[u8],
     buf: &mut [u8],
+    points: &mut [u32],
 ) -> Answer
-    requires { ⌜ Decodable (now schema) layout packed (now row) (now marks) (now buf) ⌝ }
-    ensures { λ r. ⌜ Filled
+    requires { ⌜ Decodable (now schema) layout packed (now row) (now marks) (now buf) (now points) ⌝ }
+    ensures { λ r. ⌜ Filled (now (row .entry)) (layout .«num_columns»)
         (walkedRead layout packed (isMarked (now (marks .entry))) (now (row .entry)) noColumns
-        (typesIn (now (schema .entry)))) (now (buf .entry)) r (now (buf .exit)) ⌝ }
+        (typesIn (now (schema .entry)))) (now (buf .entry)) (now (points .entry)) r (now (buf .exit))
+        (now (points .exit)) ⌝ }
 {
     let mut before = RowLayout::new();
     let mut at = 0;
     let mut end = 0;
     while at < schema.len() {
         match decode_column(schema, at, layout, packed, before, row, marks, buf, end) {
-            Answer::Refused(e) => {
+            Recorded::Refused(e) => {
                 return Answer::Refused(e);
             }
-            Answer::Done(n) => {
+            Recorded::Done(n, count) => {
+                let i = before.num_columns;
+                points[i] = count;
                 let step = datatype::next_column(schema, at, before);
                 before = step.before;
                 at = step.at;
@@ -117,6 +149,30 @@ fn decode_columns(
     Answer::Done(end)
 }
 
+// For the arrays of 14 columns the compiler calls no function: it clears up to 256 bytes in place.
+fn decode_small(
+    schema: &[u8],
+    layout: RowLayout,
+    packed: bool,
+    row: &[u8],
+    marks: &[u8],
+    out: &mut [u8],
+    counts: &mut [u32],
+) -> Answer
+    requires { ⌜ Framed (now schema) layout packed (now row)
+        × ((length (now marks) ≡ 256) × (layout .«num_columns» ≤ 14)) ⌝ }
+    ensures { λ r. ⌜ (r, (now (out .exit), now (counts .exit)))
+        ≡ handOut (now (out .entry)) (now (counts .entry)) (now (row .entry))
+        (walkedRead layout packed (isMarked (now (marks .entry))) (now (row .entry)) noColumns
+        (typesIn (now (schema .entry)))) ⌝ }
+{
+    let mut buf = [0; 252];
+    let mut points = [0; 14];
+    let answer = decode_columns(schema, layout, packed, row, marks, &mut buf, &mut points);
+    let columns = layout.num_columns;
+    hand_out(answer, columns, &buf, &points, out, counts)
+}
+
 fn decode_short(
     schema: &[u8],
     layout: RowLayout,
@@ -124,17 +180,20 @@ fn decode_short(
     row: &[u8],
     marks: &[u8],
     out: &mut [u8],
+    counts: &mut [u32],
 ) -> Answer
     requires { ⌜ Framed (now schema) layout packed (now row)
         × ((length (now marks) ≡ 256) × (layout .«num_columns» ≤ 32)) ⌝ }
-    ensures { λ r. ⌜ (r, now (out .exit))
-        ≡ handOut (now (out .entry))
+    ensures { λ r. ⌜ (r, (now (out .exit), now (counts .exit)))
+        ≡ handOut (now (out .entry)) (now (counts .entry)) (now (row .entry))
         (walkedRead layout packed (isMarked (now (marks .entry))) (now (row .entry)) noColumns
         (typesIn (now (schema .entry)))) ⌝ }
 {
     let mut buf = [0; 576];
-    let answer = decode_columns(schema, layout, packed, row, marks, &mut buf);
-    hand_out(answer, &buf, out)
+    let mut points = [0; 32];
+    let answer = decode_columns(schema, layout, packed, row, marks, &mut buf, &mut points);
+    let columns = layout.num_columns;
+    hand_out(answer, columns, &buf, &points, out, counts)
 }
 
 fn decode_long(
@@ -144,20 +203,23 @@ fn decode_long(
     row: &[u8],
     marks: &[u8],
     out: &mut [u8],
+    counts: &mut [u32],
 ) -> Answer
     requires { ⌜ Framed (now schema) layout packed (now row)
         × ((length (now marks) ≡ 256) × (layout .«num_columns» ≤ 256)) ⌝ }
-    ensures { λ r. ⌜ (r, now (out .exit))
-        ≡ handOut (now (out .entry))
+    ensures { λ r. ⌜ (r, (now (out .exit), now (counts .exit)))
+        ≡ handOut (now (out .entry)) (now (counts .entry)) (now (row .entry))
         (walkedRead layout packed (isMarked (now (marks .entry))) (now (row .entry)) noColumns
         (typesIn (now (schema .entry)))) ⌝ }
 {
     let mut buf = [0; 4608];
-    let answer = decode_columns(schema, layout, packed, row, marks, &mut buf);
-    hand_out(answer, &buf, out)
+    let mut points = [0; 256];
+    let answer = decode_columns(schema, layout, packed, row, marks, &mut buf, &mut points);
+    let columns = layout.num_columns;
+    hand_out(answer, columns, &buf, &points, out, counts)
 }
 
-// The row's header is good. Up to 32 columns a small buffer does.
+// The row's header is good. For few columns small arrays do.
 fn decode_values(
     schema: &[u8],
     layout: RowLayout,
@@ -165,19 +227,23 @@ fn decode_values(
     row: &[u8],
     wanted: &[u16],
     out: &mut [u8],
+    counts: &mut [u32],
 ) -> Answer
     requires { ⌜ Framed (now schema) layout packed (now row) ⌝ }
-    ensures { λ r. ⌜ (r, now (out .exit))
-        ≡ handOut (now (out .entry))
+    ensures { λ r. ⌜ (r, (now (out .exit), now (counts .exit)))
+        ≡ handOut (now (out .entry)) (now (counts .entry)) (now (row .entry))
         (walkedRead layout packed (isWanted (now (wanted .entry))) (now (row .entry)) noColumns
         (typesIn (now (schema .entry)))) ⌝ }
 {
     let mut marks = [0; RowLayout::COLUMN_LIMIT];
     mark_wanted(&mut marks, wanted);
-    if layout.num_columns <= 32 {
-        return decode_short(schema, layout, packed, row, &marks, out);
+    if layout.num_columns <= 14 {
+        return decode_small(schema, layout, packed, row, &marks, out, counts);
     }
-    decode_long(schema, layout, packed, row, &marks, out)
+    if layout.num_columns <= 32 {
+        return decode_short(schema, layout, packed, row, &marks, out, counts);
+    }
+    decode_long(schema, layout, packed, row, &marks, out, counts)
 }
 
 fn decode_row(
@@ -186,27 +252,34 @@ fn decode_row(
     row: &[u8],
     wanted: &[u16],
     out: &mut [u8],
+    counts: &mut [u32],
 ) -> Answer
     requires { ⌜ Accepted (now schema) layout ⌝ }
-    ensures { λ r. ⌜ (r, now (out .exit))
+    ensures { λ r. ⌜ (r, (now (out .exit), now (counts .exit)))
         ≡ readRow offsetWidth rowLimit (typesIn (now (schema .entry))) (now (row .entry)) (now (wanted .entry))
-        (now (out .entry)) ⌝ }
+        (now (out .entry)) (now (counts .entry)) ⌝ }
 {
     match row_column::check_frame(layout, row) {
         Frame::Refused(e) => Answer::Refused(e),
-        Frame::Good(packed) => decode_values(schema, layout, packed, row, wanted, out),
+        Frame::Good(packed) => decode_values(schema, layout, packed, row, wanted, out, counts),
     }
 }
 
 // The wanted columns of a row, by their numbers in any order; unknown numbers are ignored, and the other columns read
-// as null.
-pub fn decode(schema: &[u8], row: &[u8], wanted: &[u16], out: &mut [u8]) -> Answer
-    ensures { λ r. ⌜ (r, now (out .exit))
+// as null. A count for each column: the code points of a wanted text, else 0.
+pub fn decode(
+    schema: &[u8],
+    row: &[u8],
+    wanted: &[u16],
+    out: &mut [u8],
+    counts: &mut [u32],
+) -> Answer
+    ensures { λ r. ⌜ (r, (now (out .exit), now (counts .exit)))
         ≡ readCall offsetWidth rowLimit (now (schema .entry)) (now (row .entry)) (now (wanted .entry))
-        (now (out .entry)) ⌝ }
+        (now (out .entry)) (now (counts .entry)) ⌝ }
 {
     match datatype::check_schema(schema) {
         SchemaCheck::Refused(e) => Answer::Refused(e),
-        SchemaCheck::Good(layout) => decode_row(schema, layout, row, wanted, out),
+        SchemaCheck::Good(layout) => decode_row(schema, layout, row, wanted, out, counts),
     }
 }

@@ -1,15 +1,15 @@
 -- 01, "A further call (added) answers with a column's text". FORMAT 7.3.
 use Prim.Native.Nat.{ℕ, _+_, _≤_}
-use mathlib.Core.Bool.{Bool, true, cond}
+use mathlib.Core.Bool.{cond}
 use mathlib.Core.List.{List, []}
-use lib.Dec.{eqb, leb}
+use lib.Dec.{leb}
 use lib.ListN.{length}
 use Rattle.error.specs.declared.Refusal.the-variants.{NoSuchColumn, WrongKind}
 use Rattle.error.specs.Result.{onResult}
 use Rattle.datatype.specs.declared.DataType.{DataType}
 use Rattle.datatype.specs.Schema.{schemaOf}
 use Rattle.datatype.specs.Check.{typeAt}
-use Rattle.value.specs.Kinds.{valueKind}
+use Rattle.value.specs.Kinds.{holdsText}
 use Rattle.value.specs.Ranges.{rangeOf, part}
 use Rattle.row_column.specs.declared.ColumnRead.{ColumnRead}
 use Rattle.row_column.specs.declared.ColumnRead.the-variants as Column
@@ -17,10 +17,6 @@ use Rattle.row_column.specs.Frame.{frameOf, onFrame}
 use Rattle.row_column.specs.Column.{columnValue}
 use Rattle.row_text.specs.declared.ColumnText.{ColumnText}
 use Rattle.row_text.specs.declared.ColumnText.the-variants.{Part, Refused}
-
--- "Char, Character or Varchar"
-abbrev pub holdsText : DataType → Bool
-holdsText t = cond (eqb (valueKind t) 8) true (eqb (valueKind t) 9)
 
 -- the range of a column that was read; a null's is empty and stands at 0
 abbrev pub textRead : ColumnRead → ColumnText

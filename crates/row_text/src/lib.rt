@@ -14,7 +14,8 @@ ghost use Rattle.row_format.specs.Places.{offsetWidth, rowLimit};
 ghost use Rattle.datatype.specs.Check.{typesIn};
 ghost use Rattle.datatype.specs.InnerCheck.{Accepted};
 ghost use Rattle.row_column.specs.InnerWalk.{Found, InRow};
-ghost use Rattle.row_text.specs.Text.{holdsText, textRead, textInRow, textOfColumn, textCall, textPart, PartIn};
+ghost use Rattle.value.specs.Kinds.{holdsText};
+ghost use Rattle.row_text.specs.Text.{textRead, textInRow, textOfColumn, textCall, textPart, PartIn};
 
 pub enum ColumnText {
     // Where the text stands in the row; for a null an empty range at 0.

@@ -1,15 +1,26 @@
--- For the proofs: what reading a slot leaves in a value list, its record at a place, or the refusal 8 of column i.
+-- For the proofs: what reading a slot leaves in a value list, its record at a place with the code points n of its text,
+-- or the refusal 8 of column i.
 use Prim.Native.Nat.{ℕ, _+_}
-use mathlib.Core.List.{List}
+use mathlib.Core.Bool.{cond}
+use mathlib.Core.List.{List, _∷_}
 use lib.ListN.{length}
 use lib.Seq.{sets}
 use Rattle.error.specs.declared.Refusal.the-variants.{NoValue as NoValueOf}
-use Rattle.error.specs.declared.Answer.the-variants.{Done, Refused}
-use Rattle.error.specs.Answer.{Outcome}
-use Rattle.value_list.specs.Records.{recordOf}
+use Rattle.text.specs.Rfc3629.{isText}
+use Rattle.text.specs.Check.{points}
+use Rattle.value_list.specs.Records.{rangeBody, recordOf}
 use Rattle.stored_form.specs.declared.SlotRead.{SlotRead}
 use Rattle.stored_form.specs.declared.SlotRead.the-variants.{Value, NoValue}
+use Rattle.stored_form.specs.Read.{whole}
+use Rattle.slot_record.specs.declared.Recorded.{Recorded}
+use Rattle.slot_record.specs.declared.Recorded.the-variants.{Done, Refused}
 
-abbrev pub recorded : List ℕ → ℕ → ℕ → SlotRead → Outcome
-recorded out at i (Value v) = (Done (at + length (recordOf v)), sets out at (recordOf v))
-recorded out at i NoValue = (Refused (NoValueOf i), out)
+abbrev pub recorded : List ℕ → ℕ → ℕ → ℕ → SlotRead → Recorded × List ℕ
+recorded out at i n (Value v) = (Done (at + length (recordOf v)) n, sets out at (recordOf v))
+recorded out at i n NoValue = (Refused (NoValueOf i), out)
+
+-- the text bs, which stands at `start` of a row, as a value of kind k
+abbrev pub textRecorded : List ℕ → ℕ → ℕ → ℕ → ℕ → List ℕ → Recorded × List ℕ
+textRecorded out at i k start bs =
+    cond (isText bs) (Done (at + 5) (points bs), sets out at (k ∷ rangeBody (whole start bs)))
+    (Refused (NoValueOf i), out)

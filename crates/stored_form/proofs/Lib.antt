@@ -4,3 +4,4 @@ pub mod Anywhere
 pub mod Matched
 pub mod Numbers
 pub mod ReadBack
+pub mod Points

@@ -1,4 +1,5 @@
 pub mod Number
 pub mod Write
 pub mod Read
+pub mod Points
 pub mod ReadBack

@@ -65,7 +65,7 @@ points-append x y m n e f = points-before x y m e ∙ ap (plus m) f
 -- ---- texts
 
 -- text has a number of code points
-counted : (x : Option ℕ) → isGiven x ≡ true → (n : ℕ) × (x ≡ some n)
+pub counted : (x : Option ℕ) → isGiven x ≡ true → (n : ℕ) × (x ≡ some n)
 counted none e = absurd (false≢true e)
 counted (some n) e = (n, refl)
 
@@ -76,10 +76,10 @@ text-append x y e f =
     ap isGiven (points-append x y (m .0) (n .0) (m .1) (n .1))
 
 -- n blanks are n characters
-points-blanks : (n : ℕ) → codePoints (replicate n 0x20) ≡ some n
+pub blank-points : (n : ℕ) → codePoints (replicate n 0x20) ≡ some n
 unfolding octets
-points-blanks zero = refl
-points-blanks (suc n) = begin-form 0x20 (octets (replicate n 0x20)) ∙ ap more (points-blanks n)
+blank-points zero = refl
+blank-points (suc n) = begin-form 0x20 (octets (replicate n 0x20)) ∙ ap more (blank-points n)
 
 pub blanks : (n : ℕ) → isText (replicate n 0x20) ≡ true
-blanks n = ap isGiven (points-blanks n)
+blanks n = ap isGiven (blank-points n)

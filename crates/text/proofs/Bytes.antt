@@ -1,5 +1,5 @@
 -- Text is bytes that pass the test at every index: what the functions of the crate go by.
-use Prim.Native.Nat.{ℕ, zero, suc, _+_, _-_, _≤_}
+use Prim.Native.Nat.{ℕ, zero, suc, _+_, _-_, _≤_, _<_}
 use mathlib.Core.Path.{_≡_, refl, sym, ap, _∙_}
 use mathlib.Core.Bool.{Bool, true, false, not, _&&_, _||_, false≢true}
 use mathlib.Core.List.{List, [], _∷_, _++_}
@@ -135,5 +135,15 @@ module _ (n : ℕ) (s copy : List ℕ) (e : copy ≡ paste (replicate (suc (suc 
       ap (λ (l : List ℕ). getD l j 0) (e ∙ ap (λ (l : List ℕ). padded (l ++ rest)) (take-length s))
       ∙ getD-append-zeros (padded s) rest (λ k. getD-drop (3 + length s) zeros k 0 ∙ getD-zeros (suc (suc (suc n))) (3 + length s + k)) j
 
-  pub copied : (i : ℕ) → followsAt copy i ≡ followsAt (padded s) i
+  pub copied-at : (i : ℕ) → getD copy (3 + i) 0 ≡ getD s i 0
+  copied-at i = let q : 3 + i ≡ suc (suc (suc i)) = omega arith in copied-byte (3 + i) ∙ rw q
+
+  copied : (i : ℕ) → followsAt copy i ≡ followsAt (padded s) i
   copied i = rw (copied-byte i, copied-byte (i + 1), copied-byte (i + 2), copied-byte (i + 3))
+
+  -- x tests the copy up to the byte after the text's last
+  pub copied-text : {x : Bool} {end : ℕ} → (x ≡ true) ↔ Each (followsAt copy) 0 end → length s < end → x ≡ isText s
+  copied-text f h =
+      same
+      (λ g. follows-text s (λ i l m. sym (copied i) ∙ f .0 g i l (omega arith)))
+      (λ g. f .1 (λ i l m. copied i ∙ text-follows s g i))

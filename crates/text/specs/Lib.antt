@@ -1,5 +1,7 @@
 pub mod Rfc3629
+pub mod Check
 pub mod Characters
 pub mod InnerEach
 pub mod InnerFollow
 pub mod InnerCharacters
+pub mod InnerTails

@@ -1,6 +1,6 @@
 -- 01, "Schema and value bytes": "Value kinds", and `data_value_matches_type`. FORMAT 4.1, 4.4.
 use Prim.Native.Nat.{ℕ}
-use mathlib.Core.Bool.{Bool}
+use mathlib.Core.Bool.{Bool, true, cond}
 use lib.Dec.{eqb}
 use Rattle.datatype.specs.declared.DataType.{DataType}
 use Rattle.datatype.specs.declared.DataType.the-variants as T
@@ -47,3 +47,13 @@ valueKind T.Timestamp = 13
 -- 11: "value kind does not match the column's type"; null, which every row may hold, matches none
 abbrev pub matches : DataType → DataValue → Bool
 matches t v = eqb (kindOf v) (valueKind t)
+
+-- "Char, Character or Varchar": the kinds of text, and the types and the values that have one; a Bit is no text
+abbrev pub isTextKind : ℕ → Bool
+isTextKind k = cond (eqb k 8) true (eqb k 9)
+
+abbrev pub holdsText : DataType → Bool
+holdsText t = isTextKind (valueKind t)
+
+abbrev pub isTextValue : DataValue → Bool
+isTextValue v = isTextKind (kindOf v)

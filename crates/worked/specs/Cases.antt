@@ -9,7 +9,7 @@ use lib.ListN.{replicate}
 use Rattle.error.specs.declared.Answer.{Answer}
 use Rattle.error.specs.declared.Answer.the-variants.{Done, Refused}
 use Rattle.error.specs.Refusal.{numberOf as numberFor, placeOf}
-use Rattle.error.specs.Answer.{Outcome}
+use Rattle.error.specs.Answer.{Outcome, Counted}
 use Rattle.error.specs.Result.{ok, refused}
 use Rattle.laws.specs.Bits.{bitValue}
 use Rattle.laws.specs.Bytes.{toLe}
@@ -69,13 +69,18 @@ answered (Refused e) = numberFor e ∷ placeOf e ∷ []
 abbrev pub outcome : Outcome → List ℕ
 outcome o = answered (o .0) ++ o .1
 
+-- without the numbers of the list of counts, which specs/Widths is about
+abbrev pub withoutCounts : Counted → List ℕ
+withoutCounts o = answered (o .0) ++ o .1 .0
+
 abbrev pub lent : List ℕ
 lent = replicate 10 0xAA
 
 -- a read of column 1 into the lent bytes, where the row has a Bool and a column of the kind with the slot's bytes
 abbrev pub readColumn : ℕ → List ℕ → List ℕ
 readColumn kind slot =
-    outcome (readCall offsetWidth rowLimit (8 ∷ kind ∷ []) (2 ∷ 0 ∷ 0 ∷ 0x80 ∷ 0 ∷ 1 ∷ slot) (1 ∷ []) lent)
+    withoutCounts
+    (readCall offsetWidth rowLimit (8 ∷ kind ∷ []) (2 ∷ 0 ∷ 0 ∷ 0x80 ∷ 0 ∷ 1 ∷ slot) (1 ∷ []) lent (replicate 2 0))
 
 abbrev pub time : ℤ → List ℕ
 time z = readColumn 13 (toLe 8 (ofZ w64 z))
@@ -115,9 +120,9 @@ table =
     }
     ∷ record {
       computed =
-          outcome
+          withoutCounts
           (buildCall offsetWidth rowLimit schema
-          (2 ∷ 1 ∷ 0 ∷ 0 ∷ 0 ∷ 9 ∷ 0 ∷ 0 ∷ 2 ∷ 0 ∷ 0 ∷ []) (0x41 ∷ 0x42 ∷ []) (replicate 16 0xAA));
+          (2 ∷ 1 ∷ 0 ∷ 0 ∷ 0 ∷ 9 ∷ 0 ∷ 0 ∷ 2 ∷ 0 ∷ 0 ∷ []) (0x41 ∷ 0x42 ∷ []) (replicate 16 0xAA) (replicate 3 0));
       stated = 0 ∷ 15 ∷ row2;
     }
     -- 3. "Column 1 of it set to empty: 13 bytes, offset 0D 00."
@@ -180,7 +185,8 @@ table =
     }
     -- 11, which is not marked. "Row 2 with offset 0 and bitmap 04: column 1 reads as null; an edit gives 15."
     ∷ record {
-      computed = outcome (readCall offsetWidth rowLimit schema row11 (1 ∷ []) (replicate 4 0xAA));
+      computed =
+          withoutCounts (readCall offsetWidth rowLimit schema row11 (1 ∷ []) (replicate 4 0xAA) (replicate 3 0));
       stated = 0 ∷ 3 ∷ 0 ∷ 0 ∷ 0 ∷ 0xAA ∷ [];
     }
     ∷ record {

@@ -4,6 +4,7 @@ use datatype::SchemaCheck;
 use error::Answer;
 use error::Refusal;
 use libc::STDOUT_FILENO;
+use text::TextCheck;
 
 fn say(words: &[u8]) {
     io::write_all(STDOUT_FILENO, words);
@@ -11,10 +12,13 @@ fn say(words: &[u8]) {
 
 fn say_text(name: &[u8], s: &[u8]) {
     say(name);
-    if text::is_valid(s) {
-        say(b": valid\n");
-    } else {
-        say(b": not valid\n");
+    match text::check(s) {
+        TextCheck::Valid(points) => {
+            say(b": valid, code points ");
+            io::print_decimal(STDOUT_FILENO, points as u64);
+            say(b"\n");
+        }
+        TextCheck::Invalid => say(b": not valid\n"),
     }
 }
 
@@ -65,8 +69,9 @@ fn say_schema(name: &[u8], schema: &[u8]) {
 
 fn say_build(name: &[u8], schema: &[u8], values: &[u8], text: &[u8]) {
     let mut out = [0u8; 65536];
+    let mut counts = [0u32; 256];
     say(name);
-    match row_build::serialize_nullable_typed_row(schema, values, text, &mut out) {
+    match row_build::serialize_nullable_typed_row(schema, values, text, &mut out, &mut counts) {
         Answer::Done(n) => {
             say(b": bytes ");
             io::print_decimal(STDOUT_FILENO, n as u64);

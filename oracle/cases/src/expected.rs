@@ -109,6 +109,28 @@ fn record(value: &Option<DataValue>, row: &[u8], layout: &Layout, place: Place) 
     record
 }
 
+/// The code points of each text that the Rust read, by std, of the bytes that are
+/// stored; 0 for every other column.
+pub fn points(columns: &RustColumns, row: &[u8], values: &[Option<DataValue>]) -> Vec<u32> {
+    let layout = Layout::of_row(columns.types, row);
+    let of =
+        |(value, place): (&Option<DataValue>, &Place)| match record(value, row, &layout, *place) {
+            Record::Char(range) | Record::Varchar(range) => {
+                let text = std::str::from_utf8(&row[range.start..range.end()]).expect("a text");
+                text.chars().count() as u32
+            }
+            _ => 0,
+        };
+    values.iter().zip(&layout.places).map(of).collect()
+}
+
+/// The code points of each text of a row that the Rust built.
+pub fn built_points(columns: &RustColumns, row: &[u8]) -> Vec<u32> {
+    let all: Vec<u16> = (0..columns.types.len() as u16).collect();
+    let values = read(columns, row, &all).expect("a built row reads");
+    points(columns, row, &values)
+}
+
 /// The part of the row that is a column's text, the empty one for null, or the
 /// refusal.
 pub fn text(columns: &RustColumns, row: &[u8], column: usize) -> Result<TextRange, Refusal> {

@@ -3,7 +3,7 @@
 //! is lent for writing all the same, so that a fault is no undefined behaviour
 //! here, and is seen.
 
-use model::{FlagAnswer, RowAnswer, TextAnswer};
+use model::{CheckAnswer, FlagAnswer, RowAnswer, TextAnswer};
 // Links the library.
 use rook_row as _;
 
@@ -29,6 +29,12 @@ pub struct Text {
     pub length: usize,
 }
 
+#[repr(C)]
+pub struct Check {
+    pub valid: u32,
+    pub points: usize,
+}
+
 unsafe extern "C" {
     pub fn rook_row_fresh(
         schema: *const u8,
@@ -46,6 +52,8 @@ unsafe extern "C" {
         text_length: usize,
         out: *mut u8,
         out_length: usize,
+        counts: *mut u32,
+        counts_length: usize,
     ) -> Row;
 
     pub fn rook_row_read(
@@ -57,6 +65,8 @@ unsafe extern "C" {
         wanted_length: usize,
         out: *mut u8,
         out_length: usize,
+        counts: *mut u32,
+        counts_length: usize,
     ) -> Row;
 
     pub fn rook_row_set(
@@ -122,7 +132,7 @@ unsafe extern "C" {
 
     pub fn rook_row_is_null(row: *const u8, row_length: usize, column: usize) -> Flag;
 
-    pub fn rook_text_valid(text: *const u8, text_length: usize) -> u32;
+    pub fn rook_text_check(text: *const u8, text_length: usize) -> Check;
 }
 
 /// The row of nulls, in `out`.
@@ -138,8 +148,14 @@ pub fn fresh(schema: &mut [u8], out: &mut [u8]) -> RowAnswer {
     })
 }
 
-/// The row of a value list, in `out`.
-pub fn build(schema: &mut [u8], values: &mut [u8], text: &mut [u8], out: &mut [u8]) -> RowAnswer {
+/// The row of a value list, in `out`, and the code points of its texts, in `counts`.
+pub fn build(
+    schema: &mut [u8],
+    values: &mut [u8],
+    text: &mut [u8],
+    out: &mut [u8],
+    counts: &mut [u32],
+) -> RowAnswer {
     // SAFETY: as above.
     row(unsafe {
         rook_row_build(
@@ -151,12 +167,21 @@ pub fn build(schema: &mut [u8], values: &mut [u8], text: &mut [u8], out: &mut [u
             text.len(),
             out.as_mut_ptr(),
             out.len(),
+            counts.as_mut_ptr(),
+            counts.len(),
         )
     })
 }
 
-/// The wanted columns of a row, as a value list in `out`.
-pub fn read(schema: &mut [u8], bytes: &mut [u8], wanted: &mut [u16], out: &mut [u8]) -> RowAnswer {
+/// The wanted columns of a row, as a value list in `out`, and the code points of
+/// their texts, in `counts`.
+pub fn read(
+    schema: &mut [u8],
+    bytes: &mut [u8],
+    wanted: &mut [u16],
+    out: &mut [u8],
+    counts: &mut [u32],
+) -> RowAnswer {
     // SAFETY: as above.
     row(unsafe {
         rook_row_read(
@@ -168,6 +193,8 @@ pub fn read(schema: &mut [u8], bytes: &mut [u8], wanted: &mut [u16], out: &mut [
             wanted.len(),
             out.as_mut_ptr(),
             out.len(),
+            counts.as_mut_ptr(),
+            counts.len(),
         )
     })
 }
@@ -259,10 +286,14 @@ pub fn is_null(row: &mut [u8], column: usize) -> FlagAnswer {
     flag(unsafe { rook_row_is_null(row.as_mut_ptr(), row.len(), column) })
 }
 
-/// Whether bytes are text: 1 or 0.
-pub fn text_valid(text: &mut [u8]) -> u32 {
+/// Whether bytes are text, and its code points.
+pub fn text_check(text: &mut [u8]) -> CheckAnswer {
     // SAFETY: as above.
-    unsafe { rook_text_valid(text.as_mut_ptr(), text.len()) }
+    let answer = unsafe { rook_text_check(text.as_mut_ptr(), text.len()) };
+    CheckAnswer {
+        valid: answer.valid,
+        points: answer.points,
+    }
 }
 
 fn row(answer: Row) -> RowAnswer {

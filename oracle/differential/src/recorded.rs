@@ -92,7 +92,7 @@ impl Record {
 
 fn text(rng: &mut Rng) -> Option<Record> {
     let (_, text) = text::text(rng);
-    let answer = vec![u8::from(text::rust(&text))];
+    let answer = vec![u8::from(text::rust(&text).is_some())];
     (text.len() <= LONGEST).then(|| Record {
         kind: TEXT,
         inputs: vec![text],

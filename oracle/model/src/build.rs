@@ -4,7 +4,7 @@ use crate::layout::PACKED;
 use crate::schema::{self, Type};
 use crate::stored;
 use crate::value::{self, Value, two_bytes};
-use crate::{LIMIT, Refusal, RowAnswer, put};
+use crate::{LIMIT, Refusal, RowAnswer, put, put_both};
 
 /// Writes the row of nulls.
 pub fn fresh(schema: &[u8], buf: &mut [u8]) -> RowAnswer {
@@ -17,12 +17,25 @@ fn fresh_into(schema: &[u8], buf: &mut [u8]) -> Result<usize, Refusal> {
 }
 
 /// Writes the row of a value list: 1, 2, 10, then 11 and 12 by rising column,
-/// 13, 14.
-pub fn build(schema: &[u8], values: &[u8], text: &[u8], out: &mut [u8]) -> RowAnswer {
-    RowAnswer::of(build_into(schema, values, text, out), 0)
+/// 13, 14. The code points of each text, as it is stored, go to `counts`, 0 for
+/// every other column.
+pub fn build(
+    schema: &[u8],
+    values: &[u8],
+    text: &[u8],
+    out: &mut [u8],
+    counts: &mut [u32],
+) -> RowAnswer {
+    RowAnswer::of(build_into(schema, values, text, out, counts), 0)
 }
 
-fn build_into(schema: &[u8], values: &[u8], text: &[u8], out: &mut [u8]) -> Result<usize, Refusal> {
+fn build_into(
+    schema: &[u8],
+    values: &[u8],
+    text: &[u8],
+    out: &mut [u8],
+    counts: &mut [u32],
+) -> Result<usize, Refusal> {
     let types = schema::check(schema)?;
     let values = value::check_list(values, types.len(), text.len()).map_err(|place| (10, place))?;
     let mut cells = Vec::new();
@@ -36,7 +49,13 @@ fn build_into(schema: &[u8], values: &[u8], text: &[u8], out: &mut [u8]) -> Resu
     if row.len() > LIMIT {
         return Err((13, 0));
     }
-    put(&row, out)
+    let mut points = vec![0; types.len()];
+    for (column, cell) in cells.iter().enumerate() {
+        if let Some(stored) = cell {
+            points[column] = stored::points(types[column], stored);
+        }
+    }
+    put_both(&row, out, &points, counts)
 }
 
 /// The stored form of a value for a column, or 11 or 12. Null is of no

@@ -1,16 +1,17 @@
-//! The calls of document 01 ("01" in all files here) as plain, slow code: a
-//! schema is a list of types, a value list a list of values, a row a
-//! concatenation. Written from 01 alone, to compare faster code with.
+//! The calls of document 01 ("01" in all files here), as the requests of document
+//! 02 changed them, as plain, slow code: a schema is a list of types, a value list
+//! a list of values, a row a concatenation. Written from these alone, to compare
+//! faster code with.
 //!
 //! - `schema`: schema bytes to a list of types, refusals 1 and 2;
 //! - `value`: value lists to a list of values, refusal 10, matching;
 //! - `stored`: a value's stored form: which suit, written, read, the same;
-//! - `text`: which text is valid;
+//! - `text`: which text is valid, and its code points;
 //! - `layout`: where the parts of a row are;
 //! - `read`, `build`, `edit`: the calls.
 //!
-//! An output buffer is changed by a call that answers 0 and by no other, and
-//! then only where the result stands.
+//! An output buffer or a list of counts is changed by a call that answers 0 and by
+//! no other, and then only where the result stands.
 
 #![forbid(unsafe_code)]
 
@@ -26,7 +27,7 @@ pub mod value;
 pub use build::{build, fresh};
 pub use edit::{set, set_null};
 pub use read::{is_null, read, same_content, text};
-pub use text::text_valid;
+pub use text::text_check;
 
 /// The most bytes of a row and of a text area.
 pub const LIMIT: usize = 65_535;
@@ -93,6 +94,14 @@ pub struct TextAnswer {
     pub length: usize,
 }
 
+/// The answer of the text check: 1 and the text's code points, or 0 and 0 for bytes
+/// that are no text.
+#[derive(Debug, Clone, Copy, PartialEq, Eq)]
+pub struct CheckAnswer {
+    pub valid: u32,
+    pub points: usize,
+}
+
 /// Puts a result at the start of an output; 14 if it has no room.
 fn put(result: &[u8], out: &mut [u8]) -> Result<usize, Refusal> {
     if result.len() > out.len() {
@@ -100,4 +109,20 @@ fn put(result: &[u8], out: &mut [u8]) -> Result<usize, Refusal> {
     }
     out[..result.len()].copy_from_slice(result);
     Ok(result.len())
+}
+
+/// Puts a result at the start of an output and a number for each column at the
+/// start of a list; 14, and neither is changed, if one of them has no room.
+fn put_both(
+    result: &[u8],
+    out: &mut [u8],
+    points: &[u32],
+    counts: &mut [u32],
+) -> Result<usize, Refusal> {
+    if counts.len() < points.len() {
+        return Err((14, 0));
+    }
+    let length = put(result, out)?;
+    counts[..points.len()].copy_from_slice(points);
+    Ok(length)
 }

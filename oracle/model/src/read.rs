@@ -4,20 +4,38 @@ use crate::layout::{BITMAP, Layout, PACKED, Place, end_of, null_bit, number_at, 
 use crate::schema::{self, Type};
 use crate::stored;
 use crate::value::{self, Value};
-use crate::{FlagAnswer, LIMIT, Refusal, RowAnswer, TextAnswer, put};
+use crate::{FlagAnswer, LIMIT, Refusal, RowAnswer, TextAnswer, put_both};
 
 /// Reads the wanted columns as a value list whose text area is the row. Numbers
-/// of no column are ignored; an unwanted column is null.
-pub fn read(schema: &[u8], row: &[u8], wanted: &[u16], out: &mut [u8]) -> RowAnswer {
-    RowAnswer::of(read_into(schema, row, wanted, out), 0)
+/// of no column are ignored; an unwanted column is null. The code points of each
+/// text read go to `counts`, 0 for every other column.
+pub fn read(
+    schema: &[u8],
+    row: &[u8],
+    wanted: &[u16],
+    out: &mut [u8],
+    counts: &mut [u32],
+) -> RowAnswer {
+    RowAnswer::of(read_into(schema, row, wanted, out, counts), 0)
 }
 
-fn read_into(schema: &[u8], row: &[u8], wanted: &[u16], out: &mut [u8]) -> Result<usize, Refusal> {
+fn read_into(
+    schema: &[u8],
+    row: &[u8],
+    wanted: &[u16],
+    out: &mut [u8],
+    counts: &mut [u32],
+) -> Result<usize, Refusal> {
     let types = schema::check(schema)?;
-    let values = columns(&types, row, |column| {
-        wanted.iter().any(|&number| usize::from(number) == column)
-    })?;
-    put(&value::list(&values), out)
+    let is_wanted = |column| wanted.iter().any(|&number| usize::from(number) == column);
+    let values = columns(&types, row, is_wanted)?;
+    let mut points = vec![0; types.len()];
+    for column in 0..types.len() {
+        if let Some(text) = stored::text_of(&values[column], row) {
+            points[column] = stored::points(types[column], text);
+        }
+    }
+    put_both(&value::list(&values), out, &points, counts)
 }
 
 /// The wanted columns' values, null for the others: 4, 3, 5, 6, 3, then 7 and 8

@@ -2,7 +2,7 @@
 //! bytes read as, and which values are the same.
 
 use crate::schema::Type;
-use crate::text::text_valid;
+use crate::text::{code_points, is_text};
 use crate::value::{Range, Value, array};
 
 /// Days from 1970-01-01.
@@ -32,7 +32,7 @@ pub fn suits(ty: Type, value: &Value, area: &[u8]) -> bool {
             },
         ) => given == scale && digits(unscaled).len() <= usize::from(precision),
         (Type::Char(n) | Type::Character(n) | Type::Varchar(n), _) => {
-            text_of(value, area).is_some_and(|text| text.len() <= n && text_valid(text))
+            text_of(value, area).is_some_and(|text| text.len() <= n && is_text(text))
         }
         // Exactly the bytes that n bits fill; spare bits may be set.
         (Type::Bit(n), _) => text_of(value, area).is_some_and(|bytes| bytes.len() == n.div_ceil(8)),
@@ -52,6 +52,16 @@ pub fn text_of<'a>(value: &Value, area: &'a [u8]) -> Option<&'a [u8]> {
         Value::Char(range) | Value::Varchar(range) | Value::Bit(range) => range.of(area),
         _ => None,
     }
+}
+
+/// The code points of a column's stored bytes, a Char's blanks with them; 0 if the
+/// type is none of text.
+pub fn points(ty: Type, stored: &[u8]) -> u32 {
+    if !matches!(ty, Type::Char(_) | Type::Character(_) | Type::Varchar(_)) {
+        return 0;
+    }
+    let points = code_points(stored).expect("text of a column");
+    points.try_into().expect("as many as a row has bytes")
 }
 
 /// The stored form of a value that suits the type.
@@ -133,11 +143,9 @@ pub fn read(ty: Type, bytes: &[u8], start: usize) -> Option<Value> {
         }
         // True for any non-zero byte.
         Type::Bool => Some(Value::Bool(u8::from(bytes[0] != 0))),
-        Type::Char(_) | Type::Character(_) => text_valid(bytes).then_some(Value::Char(range)),
+        Type::Char(_) | Type::Character(_) => is_text(bytes).then_some(Value::Char(range)),
         // A text longer than n is no value of the type.
-        Type::Varchar(n) => {
-            (bytes.len() <= n && text_valid(bytes)).then_some(Value::Varchar(range))
-        }
+        Type::Varchar(n) => (bytes.len() <= n && is_text(bytes)).then_some(Value::Varchar(range)),
         Type::Date => {
             let days = i32::from_le_bytes(array(bytes));
             DATES.contains(&days).then_some(Value::Date(days))

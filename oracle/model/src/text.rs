@@ -1,15 +1,32 @@
-//! Which text is valid: RFC 3629, section 4, rule by rule.
+//! Which text is valid, and of how many code points: RFC 3629, section 4, rule by
+//! rule.
 
-/// UTF8-octets = *( UTF8-char )
-pub fn text_valid(text: &[u8]) -> bool {
+use crate::CheckAnswer;
+
+/// Whether the bytes are text, and its code points.
+pub fn text_check(text: &[u8]) -> CheckAnswer {
+    let points = code_points(text);
+    CheckAnswer {
+        valid: u32::from(points.is_some()),
+        points: points.unwrap_or(0),
+    }
+}
+
+/// The code points of a text, one for each UTF8-char; `None` for bytes that are no
+/// text. UTF8-octets = *( UTF8-char )
+pub fn code_points(text: &[u8]) -> Option<usize> {
     let mut rest = text;
+    let mut points = 0;
     while !rest.is_empty() {
-        let Some(length) = char_length(rest) else {
-            return false;
-        };
+        let length = char_length(rest)?;
+        points += 1;
         rest = &rest[length..];
     }
-    true
+    Some(points)
+}
+
+pub fn is_text(bytes: &[u8]) -> bool {
+    code_points(bytes).is_some()
 }
 
 /// The bytes of the character that begins here; `None` if none does.

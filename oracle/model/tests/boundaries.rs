@@ -7,7 +7,7 @@ use model::LIMIT;
 use model::edit::sound;
 use model::schema::{Type, check};
 use model::stored;
-use model::text_valid;
+use model::text::code_points;
 use model::value::Value;
 
 /// Builds a row of one column and reads it back: the stored bytes, what is read,
@@ -591,21 +591,19 @@ fn text_by_the_grammar() {
         let longer = |text: &Vec<u8>| ends.map(|end| [&text[..], &[end]].concat());
         texts = texts.iter().flat_map(longer).collect();
         for text in &texts {
-            assert_eq!(
-                text_valid(text),
-                std::str::from_utf8(text).is_ok(),
-                "{text:X?}"
-            );
+            let wanted = std::str::from_utf8(text).ok();
+            let wanted = wanted.map(|text| text.chars().count());
+            assert_eq!(code_points(text), wanted, "{text:X?}");
         }
     }
     // The examples of RFC 3629, section 7.
-    for text in [
-        "41 E2 89 A2 CE 91 2E",
-        "ED 95 9C EA B5 AD EC 96 B4",
-        "E6 97 A5 E6 9C AC E8 AA 9E",
-        "EF BB BF F0 A3 8E B4",
+    for (text, points) in [
+        ("41 E2 89 A2 CE 91 2E", 4),
+        ("ED 95 9C EA B5 AD EC 96 B4", 3),
+        ("E6 97 A5 E6 9C AC E8 AA 9E", 3),
+        ("EF BB BF F0 A3 8E B4", 2),
     ] {
-        assert!(text_valid(&hex(text)));
+        assert_eq!(code_points(&hex(text)), Some(points));
     }
-    assert!(text_valid(b""));
+    assert_eq!(code_points(b""), Some(0));
 }

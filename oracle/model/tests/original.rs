@@ -19,7 +19,7 @@ use cases::row::zero_null_slots;
 use cases::rust;
 use cases::schema::{read_schema, write_schema};
 use cases::value::ValueList;
-use common::{FILL, ROOM};
+use common::{FILL, NUMBER, ROOM};
 use model::RowAnswer;
 use rookdb::types::value::DataValue;
 use std::collections::BTreeMap;
@@ -149,9 +149,13 @@ fn text_check(rng: &mut Rng) -> Result<Vec<u32>, String> {
         1 => rng.bytes(length),
         _ => text::invalid(rng, fault, length).unwrap_or_default(),
     };
-    let valid = std::str::from_utf8(&bytes).is_ok();
-    same(model::text_valid(&bytes), valid, || hex(&bytes))?;
-    Ok(vec![u32::from(valid)])
+    let text = std::str::from_utf8(&bytes).ok();
+    let wanted = model::CheckAnswer {
+        valid: u32::from(text.is_some()),
+        points: text.map_or(0, |text| text.chars().count()),
+    };
+    same(model::text_check(&bytes), wanted, || hex(&bytes))?;
+    Ok(vec![wanted.valid])
 }
 
 fn schema_check(rng: &mut Rng) -> Result<Vec<u32>, String> {
@@ -176,15 +180,15 @@ fn schema_check(rng: &mut Rng) -> Result<Vec<u32>, String> {
 /// Runs a call with much room, with just enough and with a byte too little; the
 /// answer with much room and its result.
 fn with_rooms(
-    call: impl Fn(&mut [u8]) -> RowAnswer,
+    mut call: impl FnMut(&mut [u8]) -> RowAnswer,
     numbers: &mut Vec<u32>,
 ) -> (RowAnswer, Vec<u8>) {
-    let (answer, result) = common::with_output(ROOM, &call);
+    let (answer, result) = common::with_output(ROOM, &mut call);
     numbers.push(answer.number);
-    let exact = common::with_output(result.len(), &call);
+    let exact = common::with_output(result.len(), &mut call);
     assert_eq!(exact, (answer, result.clone()));
     if let (0, Some(short)) = (answer.number, result.len().checked_sub(1)) {
-        let (answer, _) = common::with_output(short, &call);
+        let (answer, _) = common::with_output(short, &mut call);
         assert_eq!(answer, common::refused(14, 0, 0));
         numbers.push(14);
     }
@@ -216,7 +220,8 @@ fn build(rng: &mut Rng) -> Result<Vec<u32>, String> {
     let (sort, list) = list::any_list(rng, &types);
     let bytes = write_schema(&types);
     let values = &list.values;
-    let call = |out: &mut [u8]| model::build(&bytes, &values.bytes, &values.text, out);
+    let mut counts = vec![NUMBER; types.len()];
+    let call = |out: &mut [u8]| model::build(&bytes, &values.bytes, &values.text, out, &mut counts);
     let mut numbers = Vec::new();
     let (answer, row) = with_rooms(call, &mut numbers);
     let input = || {
@@ -226,6 +231,9 @@ fn build(rng: &mut Rng) -> Result<Vec<u32>, String> {
     let model = result_of(answer, row);
     let columns = RustColumns::of(&types).unwrap();
     same(&model, &expected::build(&columns, values), input)?;
+    if let Ok(row) = &model {
+        same(counts, expected::built_points(&columns, row), input)?;
+    }
     if let Expected::Refused(refusal) = list.expected {
         same(&model, &Err((refusal.number, refusal.place)), input)?;
     }
@@ -269,7 +277,9 @@ fn read_of(
 ) -> Result<Vec<u32>, String> {
     let bytes = write_schema(types);
     let mut numbers = Vec::new();
-    let (answer, list) = with_rooms(|out| model::read(&bytes, row, wanted, out), &mut numbers);
+    let mut counts = vec![NUMBER; types.len()];
+    let call = |out: &mut [u8]| model::read(&bytes, row, wanted, out, &mut counts);
+    let (answer, list) = with_rooms(call, &mut numbers);
     let input = || {
         format!(
             "{sort:?} {types:?}\n  row {}\n  wanted {wanted:?}",
@@ -279,7 +289,10 @@ fn read_of(
     let columns = RustColumns::of(types).unwrap();
     let wanted = expected::read(&columns, row, wanted);
     match (result_of(answer, list), wanted) {
-        (Ok(list), Ok(values)) => same(list, expected::list(&columns, row, &values), input)?,
+        (Ok(list), Ok(values)) => {
+            same(list, expected::list(&columns, row, &values), input)?;
+            same(counts, expected::points(&columns, row, &values), input)?;
+        }
         (model, wanted) => {
             let model = model.map(|_| ()).map_err(Refusal::of);
             same(model, wanted.map(|_| ()), input)?;
@@ -390,8 +403,7 @@ fn whole_history(rng: &mut Rng) -> Result<Vec<u32>, String> {
     same(&row, &wanted.row, input)?;
     zero_null_slots(&types, &mut row);
     if let Some(list) = ValueList::of_rust(&wanted.sheet) {
-        let call = |out: &mut [u8]| model::build(&bytes, &list.bytes, &list.text, out);
-        let (answer, built) = common::with_output(ROOM, call);
+        let (answer, built) = common::build_in(&bytes, &list.bytes, &list.text, ROOM);
         same((answer.number, &built), (0, &row), input)?;
     }
     let payloads = wanted.sheet.iter().map(|value| match value {

@@ -8,7 +8,7 @@ use cases::expected::{self, Refusal};
 use cases::history::Call;
 use cases::schema::write_schema;
 use cases::value::{Record, TextRange, ValueList};
-use common::{FILL, done, refused, with_output};
+use common::{FILL, done, refused, with_counts};
 
 /// A letter and the two bytes of another.
 const BYTES: [u8; 3] = [b'A', 0xC3, 0xA9];
@@ -53,7 +53,9 @@ fn rows(types: &[ColumnType], past: usize) -> Vec<Vec<u8>> {
 
 fn reads(types: &[ColumnType], row: &[u8], wanted: &[u16]) {
     let schema = write_schema(types);
-    let (answer, list) = with_output(99, |out| model::read(&schema, row, wanted, out));
+    let (answer, list, counts) = with_counts(99, types.len(), |out, counts| {
+        model::read(&schema, row, wanted, out, counts)
+    });
     let input = || format!("{types:?} {row:X?} {wanted:?}");
     let columns = RustColumns::of(types).unwrap();
     match expected::read(&columns, row, wanted) {
@@ -61,6 +63,8 @@ fn reads(types: &[ColumnType], row: &[u8], wanted: &[u16]) {
             assert_eq!(answer, done(list.len()), "{}", input());
             let wanted = expected::list(&columns, row, &values);
             assert_eq!(list, wanted, "{} {values:?}", input());
+            let points = expected::points(&columns, row, &values);
+            assert_eq!(counts, points, "{} {values:?}", input());
         }
         Err(refusal) => {
             let model = Refusal::of((answer.number, answer.place));

@@ -5,7 +5,7 @@ mod common;
 use common::*;
 use model::schema::{Type, check};
 use model::stored;
-use model::text_valid;
+use model::text::is_text;
 use model::value::Value;
 
 #[test]
@@ -94,10 +94,10 @@ fn case_8_date() {
 
 #[test]
 fn case_9_text() {
-    assert!(!text_valid(&hex("ED A0 80")));
-    assert!(!text_valid(&hex("C0 80")));
-    assert!(!text_valid(&hex("F4 90 80 80")));
-    assert!(text_valid(&hex("F4 8F BF BF")));
+    assert!(!is_text(&hex("ED A0 80")));
+    assert!(!is_text(&hex("C0 80")));
+    assert!(!is_text(&hex("F4 90 80 80")));
+    assert!(is_text(&hex("F4 8F BF BF")));
 }
 
 #[test]

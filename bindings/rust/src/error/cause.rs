@@ -234,7 +234,7 @@ mod tests {
             let error = Error::new(refusal, call);
             assert_eq!((error.number(), error.place()), (31, 7));
             let message =
-                "the library refuses at 7 for a reason that rook_row 0.2.0 does not know (31)";
+                "the library refuses at 7 for a reason that rook_row 0.3.0 does not know (31)";
             assert_eq!(alloc::format!("{error}"), message);
         }
     }

@@ -54,15 +54,16 @@ impl Plan {
         RECORD * (self.numbers.len() + 1) + columns
     }
 
-    /// Reads these columns of a row of the schema that they are of, with `list` for memory.
+    /// Reads these columns of a row of the schema that they are of, with `list` and `counts` for memory.
     #[inline]
     fn read<'r, 'a>(
         &'r self,
         schema: &Schema,
         row: &'a [u8],
         list: &'r mut [u8],
+        counts: &mut [u32],
     ) -> Result<Records<'r, 'a>, Refusal> {
-        super::read(schema.as_bytes(), row, &self.numbers, list)?;
+        super::read(schema.as_bytes(), row, &self.numbers, list, counts)?;
         let steps = &self.steps;
         Ok(Records { steps, list, row })
     }
@@ -98,14 +99,15 @@ impl Wanted {
         self.plan.room(self.schema.len())
     }
 
-    /// Reads these columns of a row, with `list` for memory.
+    /// Reads these columns of a row, with `list` for memory; the code points of texts go to `counts`.
     #[inline]
     pub(crate) fn read<'r, 'a>(
         &'r self,
         row: &'a [u8],
         list: &'r mut [u8],
+        counts: &mut [u32],
     ) -> Result<Records<'r, 'a>, Refusal> {
-        self.plan.read(&self.schema, row, list)
+        self.plan.read(&self.schema, row, list, counts)
     }
 }
 
@@ -206,25 +208,37 @@ impl<'a> Records<'_, 'a> {
     }
 }
 
-/// Reads all columns of a row.
-pub(crate) fn read_all<'a>(schema: &Schema, row: &'a [u8]) -> Result<Vec<Value<'a>>, Refusal> {
+/// Reads all columns of a row; the code points of its texts go to `counts`.
+pub(crate) fn read_all<'a>(
+    schema: &Schema,
+    row: &'a [u8],
+    counts: &mut [u32],
+) -> Result<Vec<Value<'a>>, Refusal> {
     let mut list = vec![0; schema.plan().room(schema.len())];
-    let records = schema.plan().read(schema, row, &mut list)?;
+    let records = schema.plan().read(schema, row, &mut list, counts)?;
     let mut values = Vec::with_capacity(records.left(Cursor::default()));
     records.fold(Cursor::default(), (), |(), value| values.push(value));
     Ok(values)
 }
 
-/// Reads one column of a row.
+/// The code points of all texts of a row go to `counts`; its values are not handed out.
+pub(crate) fn count_all(schema: &Schema, row: &[u8], counts: &mut [u32]) -> Result<(), Refusal> {
+    let mut list = vec![0; schema.plan().room(schema.len())];
+    schema.plan().read(schema, row, &mut list, counts)?;
+    Ok(())
+}
+
+/// Reads one column of a row; the code points of its text go to `counts`.
 pub(crate) fn read_one<'a>(
     schema: &Schema,
     row: &'a [u8],
     column: usize,
+    counts: &mut [u32],
 ) -> Result<Value<'a>, Refusal> {
     // A null for each other column, and a record by its greatest length.
     let mut list = [0; 256 + RECORD];
     let number = u16::try_from(column).unwrap_or(u16::MAX);
-    super::read(schema.as_bytes(), row, &[number], &mut list)?;
+    super::read(schema.as_bytes(), row, &[number], &mut list, counts)?;
     let bits = schema.data_type(column).map_or(0, bits_of);
     let list = list.get(column..).unwrap_or_default();
     Ok(match known(list) {

@@ -1,3 +1,6 @@
+use Rattle.datatype.specs.Check.{typeAt, typesIn}
+use Rattle.column_decode.proofs.Counts.{other-no-text, column-uncounted}
+use Rattle.value.specs.Kinds.{holdsText}
 use borrow.Author.Needs.{needs}
 use Rattle.column_decode.proofs.decode_body.Statement.{statement}
 use denote.Ref.{now}
@@ -104,7 +107,14 @@ same-length-4 : tie.Need-same-length-4
 same-length-4 c = search needs
 
 returns-4 : tie.Need-returns-4
-returns-4 c = c .before .before .decode-value .ensures
+returns-4 c =
+    let entry = c .before .before .before .before .before .before .before .before .before in
+    let a = entry .args in
+    let k = c .before .before .before .before .match .rest in
+    let other = other-no-text (now (a .schema)) (a .at) (k .0 .0 .1, (k .0 .1, k .1)) (entry .pre .0 .good) in
+    c .before .before .decode-value .ensures
+    ∙ column-uncounted (now (a .buf)) (a .end) (a .layout) (a .packed) (a .before) (typeAt (typesIn (now (a .schema))) (a .before .«num_columns»)) (now (a .row))
+    (ap holdsText (sym (entry .pre .0 .typed)) ∙ other)
 
 pub decode-body-spec : {M : Type 1} → statement M
 decode-body-spec =

@@ -1,3 +1,6 @@
+use Rattle.column_decode.proofs.Counts.{count-char}
+use Rattle.stored_form.specs.Points.{pointsIn}
+use Rattle.text.specs.Check.{points}
 use borrow.Author.Needs.{needs}
 use Rattle.column_decode.proofs.decode_char.Statement.{statement}
 use denote.Ref.{now}
@@ -40,9 +43,15 @@ same-length c = search needs
 
 returns : tie.Need-returns
 returns c =
-    let a = c .before .before .before .before .before .before .before .before .args in
+    let entry = c .before .before .before .before .before .before .before .before in
+    let a = entry .args in
     let start = c .before .before .before .before .before .fixed-data-start .result + c .before .before .before .before .slot-start .result in
-    rw (← c .before .before .before .before .slot-start .ensures, ← c .before .before .before .before .before .fixed-data-start .ensures) (c .before .before .char-record .ensures ∙ slot-stepped (now (a .buf)) (a .end) (a .before .«num_columns») (readSlot (Char (a .n)) start (take (start + a .n - start) (drop start (now (a .row))))))
+    let h = rw (← c .before .before .before .before .slot-start .ensures, ← c .before .before .before .before .before .fixed-data-start .ensures) at (entry .pre .0 .slot refl) in
+    let bs = take (start + a .n - start) (drop start (now (a .row))) in
+    rw (← c .before .before .before .before .slot-start .ensures, ← c .before .before .before .before .before .fixed-data-start .ensures)
+    (c .before .before .char-record .ensures
+    ∙ slot-stepped (now (a .buf)) (a .end) (a .before .«num_columns») (points bs) (pointsIn (now (a .row))) (readSlot (Char (a .n)) start bs)
+    (count-char (now (a .row)) start (start + a .n) (omega arith) h (a .n)))
 
 pub decode-char-spec : {M : Type 1} → statement M
 decode-char-spec =

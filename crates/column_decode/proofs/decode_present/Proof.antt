@@ -1,3 +1,5 @@
+use Rattle.stored_form.specs.Points.{pointsIn}
+use Rattle.column_decode.proofs.Counts.{count-plain}
 use borrow.Author.Needs.{needs}
 use Rattle.column_decode.proofs.decode_present.Statement.{statement}
 use denote.Ref.{now}
@@ -65,7 +67,9 @@ returns c =
     let entry = c .before .before .before .before .before .before .before .before .before .before .before .before .before in
     let a = entry .args in
     let start = c .before .before .before .before .before .before .fixed-data-start .result + c .before .before .before .before .before .slot-start .result in
-    c .before .before .plain-record .ensures start ∙ slot-stepped (now (a .buf)) (a .end) (a .before .«num_columns») (readSlot (plainType (columnKind (getD (now (a .schema)) (a .at) 0))) start (take (start + c .before .before .before .before .before .before .before .before .plain-size .result - start) (drop start (now (a .row))))) ∙ ap (stepped (now (a .buf)) (a .end)) (plain-column (now (entry .args .schema)) (entry .args .at) (entry .args .layout) (entry .args .packed) (entry .args .before) (now (entry .args .row)) (entry .pre .0 .typed) (c .before .before .before .before .before .before .before .if1 .taken) (c .before .before .before .before .before .before .before .before .plain-size .ensures .0) (ap₂ _+_ (c .before .before .before .before .before .before .fixed-data-start .ensures) (c .before .before .before .before .before .slot-start .ensures)) (entry .pre .1))
+    c .before .before .plain-record .ensures start ∙ slot-stepped (now (a .buf)) (a .end) (a .before .«num_columns») 0 (pointsIn (now (a .row))) (readSlot (plainType (columnKind (getD (now (a .schema)) (a .at) 0))) start (take (start + c .before .before .before .before .before .before .before .before .plain-size .result - start) (drop start (now (a .row)))))
+    (count-plain (now (a .row)) (getD (now (a .schema)) (a .at) 0) start (take (start + c .before .before .before .before .before .before .before .before .plain-size .result - start) (drop start (now (a .row)))) (λ e. c .before .before .before .before .before .before .before .if1 .taken (c .before .before .before .before .before .before .before .before .plain-size .ensures .0 ∙ e)))
+    ∙ ap (stepped (now (a .buf)) (a .end) (pointsIn (now (a .row)))) (plain-column (now (entry .args .schema)) (entry .args .at) (entry .args .layout) (entry .args .packed) (entry .args .before) (now (entry .args .row)) (entry .pre .0 .typed) (c .before .before .before .before .before .before .before .if1 .taken) (c .before .before .before .before .before .before .before .before .plain-size .ensures .0) (ap₂ _+_ (c .before .before .before .before .before .before .fixed-data-start .ensures) (c .before .before .before .before .before .slot-start .ensures)) (entry .pre .1))
 
 decode-body-requires : tie.Need-decode-body-requires
 decode-body-requires c κs = search needs

@@ -5,7 +5,7 @@ use denote.Ref.{now}
 use lib.ListN.{length}
 use Rattle.datatype.specs.declared.DataType.{DataType}
 use Rattle.row_column.specs.InnerWalk.{walkedColumn, Reachable}
-use Rattle.column_decode.specs.InnerColumn.{stepped}
+use Rattle.column_decode.specs.InnerColumn.{stepped, noPoints}
 use Rattle.column_decode.proofs.Present.{wider}
 use Rattle.column_decode.proofs.Present.{type-read}
 use Rattle.column_decode.proofs.decode_value.Tie as tie
@@ -43,7 +43,7 @@ returns-2 : tie.Need-returns-2
 returns-2 c =
     let entry = c .before .before .before .before .before .before .before .before .before .before .before .before in
     let a = entry .args in
-    c .before .before .write-column .ensures ∙ ap (stepped (now (a .buf)) (a .end)) (c .before .before .before .before .read-column .ensures .0 ∙ ap (λ (t : DataType). walkedColumn (a .layout) (a .packed) (a .before) t (now (a .row))) (type-read (c .before .before .before .before .before .before .before .before .record-at .ensures) (c .before .before .before .before .before .before .ty .given .1) (entry .pre .typed)))
+    c .before .before .write-column .ensures ∙ ap (stepped (now (a .buf)) (a .end) noPoints) (c .before .before .before .before .read-column .ensures .0 ∙ ap (λ (t : DataType). walkedColumn (a .layout) (a .packed) (a .before) t (now (a .row))) (type-read (c .before .before .before .before .before .before .before .before .record-at .ensures) (c .before .before .before .before .before .before .ty .given .1) (entry .pre .typed)))
 
 pub decode-value-spec : {M : Type 1} → statement M
 decode-value-spec =

@@ -1,3 +1,6 @@
+use Rattle.column_decode.proofs.Counts.{count-varchar}
+use Rattle.stored_form.specs.Points.{pointsIn}
+use Rattle.text.specs.Check.{points}
 use borrow.Author.Needs.{needs}
 use Rattle.column_decode.proofs.decode_varchar.Statement.{statement}
 use mathlib.Core.Path.{_∙_}
@@ -45,7 +48,12 @@ returns-2 : tie.Need-returns-2
 returns-2 c =
     let a = c .before .before .before .before .before .before .before .before .before .before .args in
     let part = c .before .before .before .before .before .start .given .0 in
-    rw (← c .before .before .before .before .before .before .before .varlen-range .ensures .0, c .before .before .before .before .before .start .given .1) (c .before .before .varchar-record .ensures ∙ slot-stepped (now (a .buf)) (a .end) (a .i) (readSlot (Varchar (a .n)) (part .0) (take (part .1 .0 - part .0) (drop (part .0) (now (a .row))))))
+    let bs = take (part .1 .0 - part .0) (drop (part .0) (now (a .row))) in
+    let i = rw (c .before .before .before .before .before .start .given .1) at (c .before .before .before .before .before .before .before .varlen-range .ensures .1) in
+    rw (← c .before .before .before .before .before .before .before .varlen-range .ensures .0, c .before .before .before .before .before .start .given .1)
+    (c .before .before .varchar-record .ensures
+    ∙ slot-stepped (now (a .buf)) (a .end) (a .i) (points bs) (pointsIn (now (a .row))) (readSlot (Varchar (a .n)) (part .0) bs)
+    (count-varchar (now (a .row)) (part .0) (part .1 .0) (i .0) (i .1) (a .n)))
 
 returns-3 : tie.Need-returns-3
 returns-3 c = rw (← c .before .before .varlen-range .ensures .0, c .enum-told2 .given .1)

@@ -6,6 +6,8 @@ use Rattle.datatype.specs.Schema.{schemaOf}
 use Rattle.row_format.specs.Places.{offsetWidth, rowLimit}
 use denote.Ref.{now}
 use mathlib.Core.Path.{sym, _∙_}
+use Rattle.datatype.proofs.check_schema.Reads as check-schema-reads
+use Rattle.row_build.proofs.build_row.Reads as build-row-reads
 
 check-schema-requires : tie.Need-check-schema-requires
 check-schema-requires c κs = search needs
@@ -17,16 +19,19 @@ enum-known-layout : tie.Need-enum-known-layout
 enum-known-layout c = search needs
 
 build-row-requires : tie.Need-build-row-requires
-build-row-requires c κs = accepted (now (c .before .before .before .before .before .before .before .before .before .args .schema)) (sym (c .before .before .before .before .check-schema .ensures .0) ∙ c .before .before .layout .given .1) ((rw (c .before .before .layout .given .1) at (c .before .before .before .before .check-schema .ensures .1)) .bounded)
+build-row-requires c κs = accepted (now (c .before .before .before .before .before .before .before .before .before .before .before .args .schema)) (sym (c .before .before .before .before .before .check-schema .ensures .0) ∙ c .before .before .before .layout .given .1) ((rw (c .before .before .before .layout .given .1) at (c .before .before .before .before .before .check-schema .ensures .1)) .bounded)
 
 returns : tie.Need-returns
-returns c = on-refused (schemaOf offsetWidth rowLimit (now (c .before .before .before .before .before .before .before .before .args .schema))) _ _ (sym (c .before .before .before .check-schema .ensures .0) ∙ c .before .e .given .1)
+returns c = on-refused (schemaOf offsetWidth rowLimit (now (c .before .before .before .before .before .before .before .before .before .args .schema))) _ _ (sym (c .before .before .before .check-schema .ensures .0) ∙ c .before .e .given .1)
 
 same-length : tie.Need-same-length
 same-length c = search needs
 
+same-length-2 : tie.Need-same-length-2
+same-length-2 c = search needs
+
 returns-2 : tie.Need-returns-2
-returns-2 c = c .before .before .build-row .ensures ∙ on-good (now (c .before .before .before .before .before .before .before .before .before .before .before .before .args .schema)) (sym (c .before .before .before .before .before .before .before .check-schema .ensures .0) ∙ c .before .before .before .before .before .layout .given .1) _ _
+returns-2 c = c .before .before .before .before .build-row .ensures ∙ on-good (now (c .before .before .before .before .before .before .before .before .before .before .before .before .before .before .before .before .args .schema)) (sym (c .before .before .before .before .before .before .before .before .before .before .check-schema .ensures .0) ∙ c .before .before .before .before .before .before .before .before .layout .given .1) _ _
 
 pub serialize-nullable-typed-row-spec : {M : Type 1} → statement M
 serialize-nullable-typed-row-spec =
@@ -38,4 +43,5 @@ serialize-nullable-typed-row-spec =
     build-row-requires
     returns
     same-length
+    same-length-2
     returns-2)

@@ -1,18 +1,20 @@
-use Rattle.datatype.specs.Check.{typesIn}
-use Rattle.error.specs.Answer.{unchanged}
-use Rattle.row_decode.proofs.Walk.{read-walked}
-use lib.ListN.{length}
-use Rattle.row_decode.specs.Read.{isWanted, readFrom, handOut}
-use Rattle.row_format.specs.Places.{offsetWidth, rowLimit}
-use Rattle.row_column.proofs.Framing.{framed, frame-refused, frame-good}
-use denote.Ref.{now}
 use mathlib.Core.Path.{sym, ap, _∙_}
+use denote.Ref.{now}
+use Rattle.row_column.proofs.Framing.{framed, frame-refused, frame-good}
+use Rattle.row_format.specs.Places.{offsetWidth, rowLimit}
+use Rattle.row_decode.specs.Read.{isWanted, readFrom, handOut}
+use lib.ListN.{length}
+use Rattle.row_decode.proofs.Walk.{read-walked}
+use Rattle.error.specs.Answer.{unchangedBoth}
+use Rattle.datatype.specs.Check.{typesIn}
 use borrow.Author.Needs.{needs}
 use Rattle.row_decode.proofs.decode_row.Statement.{statement}
 use Rattle.row_decode.proofs.decode_row.Tie as tie
+use Rattle.row_column.proofs.check_frame.Reads as check-frame-reads
+use Rattle.row_decode.proofs.decode_values.Reads as decode-values-reads
 
 check-frame-requires : tie.Need-check-frame-requires
-check-frame-requires c κs = c .before .before .before .before .pre .bounded
+check-frame-requires c κs = search needs
 
 enum-known-e : tie.Need-enum-known-e
 enum-known-e c = search needs
@@ -21,31 +23,33 @@ enum-known-packed : tie.Need-enum-known-packed
 enum-known-packed c = search needs
 
 decode-values-requires : tie.Need-decode-values-requires
-decode-values-requires c κs = framed (c .before .before .before .before .before .before .before .before .before .pre) (sym (c .before .before .before .before .check-frame .ensures) ∙ c .before .before .packed .given .1)
+decode-values-requires c κs = framed (c .before .before .before .before .before .before .before .before .before .before .before .pre) (sym (c .before .before .before .before .before .check-frame .ensures) ∙ c .before .before .before .packed .given .1)
 
 returns : tie.Need-returns
 returns c =
-    let entry = c .before .before .before .before .before .before .before .before in
+    let entry = c .before .before .before .before .before .before .before .before .before in
     let a = entry .args in
     frame-refused rowLimit (typesIn (now (a .schema))) (now (a .row))
-    (entry .pre .layout) (unchanged (now (a .out))) _
+    (entry .pre .layout) (unchangedBoth (now (a .out)) (now (a .counts))) _
     (sym (c .before .before .before .check-frame .ensures) ∙ c .before .e .given .1)
 
 same-length : tie.Need-same-length
 same-length c = search needs
 
+same-length-2 : tie.Need-same-length-2
+same-length-2 c = search needs
+
 returns-2 : tie.Need-returns-2
 returns-2 c =
-    let entry = c .before .before .before .before .before .before .before .before .before .before .before .before in
+    let entry = c .before .before .before .before .before .before .before .before .before .before .before .before .before .before .before .before in
     let a = entry .args in
     let ts = typesIn (now (a .schema)) in
     let known = entry .pre .layout in
-    c .before .before .decode-values .ensures
-    ∙ ap (handOut (now (a .out))) (read-walked _ ts (isWanted (now (a .wanted))) (now (a .row)) known)
-    ∙ frame-good rowLimit ts (now (a .row)) known (unchanged (now (a .out)))
-    (λ p. handOut (now (a .out)) (readFrom offsetWidth p ts (isWanted (now (a .wanted))) (now (a .row)) 0
-    (length ts))) (sym (c .before .before .before .before .before .before .before .check-frame .ensures)
-    ∙ c .before .before .before .before .before .packed .given .1)
+    c .before .before .before .before .decode-values .ensures
+    ∙ ap (handOut (now (a .out)) (now (a .counts)) (now (a .row))) (read-walked _ ts (isWanted (now (a .wanted))) (now (a .row)) known)
+    ∙ frame-good rowLimit ts (now (a .row)) known (unchangedBoth (now (a .out)) (now (a .counts)))
+    (λ p. handOut (now (a .out)) (now (a .counts)) (now (a .row)) (readFrom offsetWidth p ts (isWanted (now (a .wanted))) (now (a .row)) 0
+    (length ts))) (sym (c .before .before .before .before .before .before .before .before .before .before .check-frame .ensures) ∙ c .before .before .before .before .before .before .before .before .packed .given .1)
 
 pub decode-row-spec : {M : Type 1} → statement M
 decode-row-spec =
@@ -57,4 +61,5 @@ decode-row-spec =
     decode-values-requires
     returns
     same-length
+    same-length-2
     returns-2)

@@ -1,7 +1,7 @@
 //! The exported calls, each with what it is lent and what the judge says of it.
 
 use super::handle::{self, Handle};
-use super::judge::{Told, told};
+use super::judge::{Told, checked, told};
 use super::slots::{Given, Role};
 use super::{Attack, Call, Lent};
 use crate::memory::Part;
@@ -24,25 +24,48 @@ impl Attack {
         self.run(Call::Fresh, lent, port, |[out]| judge(schema, out))
     }
 
-    pub(super) fn build(&mut self, schema: &[u8], values: &[u8], text: &[u8], out: &[u8]) -> Told {
+    pub(super) fn build(
+        &mut self,
+        schema: &[u8],
+        values: &[u8],
+        text: &[u8],
+        out: &[u8],
+        counts: &[u8],
+    ) -> Told {
         let judge = self.judge.build;
         let lent = Lent {
             inputs: list_inputs(schema, values, text),
-            outputs: [(Role::Output, out)],
+            outputs: [(Role::Output, out), (Role::Counts, counts)],
             numbers: [0, 0],
         };
-        let port = |[s, v, t]: [Part; 3], [o]: [Part; 1]| unsafe {
+        let port = |[s, v, t]: [Part; 3], [o, c]: [Part; 2]| unsafe {
             let answer = port::rook_row_build(
-                s.pointer, s.length, v.pointer, v.length, t.pointer, t.length, o.pointer, o.length,
+                s.pointer,
+                s.length,
+                v.pointer,
+                v.length,
+                t.pointer,
+                t.length,
+                o.pointer,
+                o.length,
+                c.pointer.cast(),
+                c.length / 4,
             );
             told!(answer, length)
         };
-        self.run(Call::Build, lent, port, |[out]| {
-            judge(schema, values, text, out)
+        self.run(Call::Build, lent, port, |[out, counts]| {
+            on_numbers(counts, |counts| judge(schema, values, text, out, counts))
         })
     }
 
-    pub(super) fn read(&mut self, schema: &[u8], row: &[u8], wanted: &[u16], out: &[u8]) -> Told {
+    pub(super) fn read(
+        &mut self,
+        schema: &[u8],
+        row: &[u8],
+        wanted: &[u16],
+        out: &[u8],
+        counts: &[u8],
+    ) -> Told {
         let judge = self.judge.read;
         let bytes: Vec<u8> = wanted.iter().flat_map(|n| n.to_le_bytes()).collect();
         let lent = Lent {
@@ -51,25 +74,26 @@ impl Attack {
                 (Role::Row, row),
                 (Role::Wanted, &bytes),
             ],
-            outputs: [(Role::Output, out)],
+            outputs: [(Role::Output, out), (Role::Counts, counts)],
             numbers: [0, 0],
         };
-        let port = |[s, r, w]: [Part; 3], [o]: [Part; 1]| unsafe {
-            let numbers = w.pointer.cast();
+        let port = |[s, r, w]: [Part; 3], [o, c]: [Part; 2]| unsafe {
             let answer = port::rook_row_read(
                 s.pointer,
                 s.length,
                 r.pointer,
                 r.length,
-                numbers,
+                w.pointer.cast(),
                 w.length / 2,
                 o.pointer,
                 o.length,
+                c.pointer.cast(),
+                c.length / 4,
             );
             told!(answer, length)
         };
-        self.run(Call::Read, lent, port, |[out]| {
-            judge(schema, row, wanted, out)
+        self.run(Call::Read, lent, port, |[out, counts]| {
+            on_numbers(counts, |counts| judge(schema, row, wanted, out, counts))
         })
     }
 
@@ -222,22 +246,18 @@ impl Attack {
         self.run(Call::IsNull, lent, port, |[]| judge(row, column))
     }
 
-    pub(super) fn text_valid(&mut self, text: &[u8]) -> Told {
-        let judge = self.judge.text_valid;
-        let flag = |flag: usize| Told {
-            number: 0,
-            place: 0,
-            handed: [flag, 0],
-        };
+    pub(super) fn text_check(&mut self, text: &[u8]) -> Told {
+        let judge = self.judge.text_check;
         let lent = Lent {
             inputs: [(Role::Text, text)],
             outputs: [],
             numbers: [0, 0],
         };
         let port = |[t]: [Part; 1], []: [Part; 0]| unsafe {
-            flag(port::rook_text_valid(t.pointer, t.length) as usize)
+            let answer = port::rook_text_check(t.pointer, t.length);
+            checked(answer.valid, answer.points)
         };
-        self.run(Call::TextValid, lent, port, |[]| flag(judge(text).into()))
+        self.run(Call::TextCheck, lent, port, |[]| judge(text))
     }
 }
 
@@ -248,4 +268,15 @@ fn list_inputs<'a>(schema: &'a [u8], values: &'a [u8], text: &'a [u8]) -> [Given
         (Role::Values, values),
         (Role::Text, text),
     ]
+}
+
+/// The judge's call on the numbers that these bytes are, low byte first.
+fn on_numbers(bytes: &mut [u8], call: impl FnOnce(&mut [u32]) -> Told) -> Told {
+    let (numbers, _) = bytes.as_chunks_mut();
+    let mut list: Vec<u32> = numbers.iter().map(|n| u32::from_le_bytes(*n)).collect();
+    let told = call(&mut list);
+    for (bytes, number) in numbers.iter_mut().zip(list) {
+        *bytes = number.to_le_bytes();
+    }
+    told
 }

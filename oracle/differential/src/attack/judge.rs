@@ -1,7 +1,7 @@
 //! Who says what is wanted: the model, or the model with a fault.
 
-/// An answer: number, place and what is handed out, which is a length, a flag, or
-/// the start and the length of a text.
+/// An answer: number, place and what is handed out, which is a length, a flag, the
+/// start and the length of a text, or whether bytes are text and its code points.
 #[derive(Debug, Clone, Copy, PartialEq, Eq)]
 pub struct Told {
     pub number: u32,
@@ -9,18 +9,20 @@ pub struct Told {
     pub handed: [usize; 2],
 }
 
+pub type Build = fn(&[u8], &[u8], &[u8], &mut [u8], &mut [u32]) -> Told;
+pub type Read = fn(&[u8], &[u8], &[u16], &mut [u8], &mut [u32]) -> Told;
 pub type Edit = fn(&[u8], &mut [u8], usize, usize, &[u8], &[u8]) -> Told;
 
 pub struct Judge {
     pub fresh: fn(&[u8], &mut [u8]) -> Told,
-    pub build: fn(&[u8], &[u8], &[u8], &mut [u8]) -> Told,
-    pub read: fn(&[u8], &[u8], &[u16], &mut [u8]) -> Told,
+    pub build: Build,
+    pub read: Read,
     pub set: Edit,
     pub set_null: fn(&[u8], &mut [u8], usize, usize) -> Told,
     pub text: fn(&[u8], &[u8], usize) -> Told,
     pub same_content: fn(&[u8], &[u8], &[u8]) -> Told,
     pub is_null: fn(&[u8], usize) -> Told,
-    pub text_valid: fn(&[u8]) -> bool,
+    pub text_check: fn(&[u8]) -> Told,
 }
 
 /// An answer of the port or of a judge, by the fields that it hands out.
@@ -36,14 +38,25 @@ macro_rules! told {
 }
 pub(super) use told;
 
+/// The answer of a text check, which refuses nothing.
+pub fn checked(valid: u32, points: usize) -> Told {
+    Told {
+        number: 0,
+        place: 0,
+        handed: [valid as usize, points],
+    }
+}
+
 macro_rules! judge {
     ($model:ident) => {
         Judge {
             fresh: |schema, out| told!($model::fresh(schema, out), length),
-            build: |schema, values, text, out| {
-                told!($model::build(schema, values, text, out), length)
+            build: |schema, values, text, out, counts| {
+                told!($model::build(schema, values, text, out, counts), length)
             },
-            read: |schema, row, wanted, out| told!($model::read(schema, row, wanted, out), length),
+            read: |schema, row, wanted, out, counts| {
+                told!($model::read(schema, row, wanted, out, counts), length)
+            },
             set: |schema, buffer, length, column, values, text| {
                 told!(
                     $model::set(schema, buffer, length, column, values, text),
@@ -56,7 +69,10 @@ macro_rules! judge {
             text: |schema, row, column| told!($model::text(schema, row, column), start, length),
             same_content: |schema, a, b| told!($model::same_content(schema, a, b), flag),
             is_null: |row, column| told!($model::is_null(row, column), flag),
-            text_valid: |text| $model::text_valid(text),
+            text_check: |text| {
+                let answer = $model::text_check(text);
+                checked(answer.valid, answer.points)
+            },
         }
     };
 }

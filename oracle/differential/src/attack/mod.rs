@@ -1,6 +1,6 @@
 //! The exported calls, on slices that end at unreadable pages, compared with the
-//! model alone: number, place, what is handed out, every byte of every lent slice
-//! and handle and the marks beside it. `rounds` makes the inputs, `calls` has a
+//! model alone: number, place, what is handed out, every byte of every lent slice,
+//! list of counts and handle and the marks beside it. `rounds` makes the inputs, `calls` has a
 //! method for each call.
 
 mod calls;
@@ -27,7 +27,7 @@ pub enum Call {
     Text,
     SameContent,
     IsNull,
-    TextValid,
+    TextCheck,
 }
 
 impl Call {
@@ -42,7 +42,7 @@ impl Call {
         Call::Text,
         Call::SameContent,
         Call::IsNull,
-        Call::TextValid,
+        Call::TextCheck,
     ];
 
     pub fn name(self) -> &'static str {
@@ -57,7 +57,7 @@ impl Call {
             Call::Text => "rook_row_text",
             Call::SameContent => "rook_row_same_content",
             Call::IsNull => "rook_row_is_null",
-            Call::TextValid => "rook_text_valid",
+            Call::TextCheck => "rook_text_check",
         }
     }
 }
@@ -158,7 +158,7 @@ impl Attack {
         self.counts.calls += 1;
         self.counts.long += u64::from(long);
         let number = match call {
-            Call::TextValid => told.handed[0],
+            Call::TextCheck => told.handed[0],
             _ => told.number as usize,
         };
         match self.counts.answers[call as usize].get_mut(number) {

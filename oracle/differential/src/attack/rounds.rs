@@ -1,9 +1,10 @@
 //! The inputs of the attack. A round takes what the generators of the comparison
 //! make for one schema, good, bad and at the limits, and calls on it many times,
-//! as it is, damaged, and with outputs of every room.
+//! as it is, damaged, and with outputs and lists of counts of every room.
 
 use super::handle::Handle;
 use super::judge::Told;
+use super::slots::MOST_COUNTS;
 use super::{Attack, Call};
 use crate::compare::{build, rows, text};
 use cases::LIMIT;
@@ -53,8 +54,23 @@ const TRIED: [Call; 18] = [
     Call::SameContent,
     Call::SameContent,
     Call::IsNull,
-    Call::TextValid,
+    Call::TextCheck,
 ];
+
+/// The columns of a schema, by its bytes and their number.
+struct Columns {
+    schema: Vec<u8>,
+    number: usize,
+}
+
+impl Columns {
+    fn of(types: &[ColumnType]) -> Self {
+        Columns {
+            schema: write_schema(types),
+            number: types.len(),
+        }
+    }
+}
 
 /// What the calls of a round begin with.
 struct Given {
@@ -64,8 +80,8 @@ struct Given {
     wanted: [Vec<u16>; 3],
     /// Columns, and value lists for them.
     sets: Vec<(usize, ValueList)>,
-    /// Schemas, and value lists for them.
-    builds: [(Vec<u8>, ValueList); 2],
+    /// Columns, and value lists for them.
+    builds: [(Columns, ValueList); 2],
     schemas: [Vec<u8>; 2],
     texts: [Vec<u8>; 2],
     /// The row that edits are made on, in a buffer.
@@ -92,8 +108,8 @@ impl Given {
             wanted: [(); 3].map(|()| any_wanted(rng, types.len()).1),
             sets,
             builds: [
-                (write_schema(&types), own),
-                (write_schema(&other.types), other.list),
+                (Columns::of(&types), own),
+                (Columns::of(&other.types), other.list),
             ],
             schemas: [any_schema(rng).1.bytes, schema.clone()],
             texts: [(); 2].map(|()| text::text(rng).1),
@@ -247,21 +263,28 @@ impl Attack {
                 };
                 self.is_null(&row, column)
             }
-            Call::TextValid => {
+            Call::TextCheck => {
                 let text = &given.texts[rng.below(2)];
                 let text = self.varied(rng, text, 2);
-                self.text_valid(&text)
+                self.text_check(&text)
             }
         }
     }
 
     fn build_step(&mut self, rng: &mut Rng, given: &Given, last: usize) -> Told {
-        let (schema, list) = &given.builds[rng.below(2)];
-        let schema = self.varied(rng, schema, 24);
+        let (columns, list) = &given.builds[rng.below(2)];
+        let schema = self.varied(rng, &columns.schema, 24);
         let values = self.varied(rng, &list.bytes, 4);
         let text = self.varied(rng, &list.text, 8);
         let room = room(rng, last, last + 600);
-        self.build(&schema, &values, &text, noise(rng, room))
+        let out = noise(rng, room);
+        self.build(
+            &schema,
+            &values,
+            &text,
+            out,
+            any_counts(rng, columns.number),
+        )
     }
 
     fn read_step(&mut self, rng: &mut Rng, given: &Given, last: usize) -> Told {
@@ -274,7 +297,14 @@ impl Attack {
             number => &given.wanted[number],
         };
         let room = room(rng, last, 18 * given.types.len());
-        self.read(&schema, &row, wanted, noise(rng, room))
+        let out = noise(rng, room);
+        self.read(
+            &schema,
+            &row,
+            wanted,
+            out,
+            any_counts(rng, given.types.len()),
+        )
     }
 
     /// What an edit is made on, whether it is the row that the edits before left,
@@ -341,6 +371,20 @@ impl Attack {
         }
         told
     }
+}
+
+/// A list of numbers of four bytes for so many columns: mostly one for each, too few
+/// now and then, or more.
+fn any_counts(rng: &mut Rng, columns: usize) -> &'static [u8] {
+    let numbers = match rng.below(16) {
+        0 => 0,
+        1 => columns.saturating_sub(1),
+        2 => rng.below(columns + 1),
+        3 => rng.between(columns, MOST_COUNTS),
+        4..=6 => columns + rng.between(1, 4),
+        _ => columns,
+    };
+    noise(rng, 4 * numbers)
 }
 
 /// A handle of this length, with anything in the place of the layout.

@@ -8,6 +8,9 @@ use cases::LIMIT;
 /// with much room.
 const LONGEST: usize = 3 * LIMIT;
 
+/// No list of counts has more numbers.
+pub const MOST_COUNTS: usize = 600;
+
 /// What a lent slice is to a call; a call is given one of each at most.
 #[derive(Debug, Clone, Copy, PartialEq, Eq)]
 pub enum Role {
@@ -21,11 +24,13 @@ pub enum Role {
     Wanted,
     /// What a call writes its result to, or the buffer that it edits.
     Output,
+    /// Numbers of 32 bits that a call writes.
+    Counts,
     Handle,
 }
 
 impl Role {
-    const ALL: [Role; 8] = [
+    const ALL: [Role; 9] = [
         Role::Schema,
         Role::Row,
         Role::OtherRow,
@@ -33,12 +38,14 @@ impl Role {
         Role::Text,
         Role::Wanted,
         Role::Output,
+        Role::Counts,
         Role::Handle,
     ];
 
     fn shape(self) -> Shape {
         let (size, alignment) = match self {
             Role::Wanted => (LONGEST, align_of::<u16>()),
+            Role::Counts => (4 * MOST_COUNTS, align_of::<u32>()),
             Role::Handle => (size_of::<Handle>(), align_of::<usize>()),
             _ => (LONGEST, 1),
         };
@@ -47,7 +54,7 @@ impl Role {
 
     fn lending(self) -> Lending {
         match self {
-            Role::Output | Role::Handle => Lending::ToWrite,
+            Role::Output | Role::Counts | Role::Handle => Lending::ToWrite,
             _ => Lending::ToRead,
         }
     }

@@ -2,7 +2,8 @@
 //! and for one fresh row against `Row::new` then `serialize`, in one run on the
 //! same values. The Rust hands back a vector of its own and `Row::new` takes one
 //! of the columns; ours, the raw call, writes to a buffer that is lent. The
-//! `Builder` of the bindings makes the value list too; it keeps its memory.
+//! `Builder` of the bindings makes the value list too; it keeps its memory. Ours
+//! counts the code points of texts too.
 
 use cases::column::of_rust_types;
 use cases::rust;
@@ -21,10 +22,14 @@ type Values = (Vec<Option<DataValue>>, ValueList);
 fn bench_build(types: &[DataType], rows: &[Values]) -> [f64; 3] {
     let schema = write_schema(&of_rust_types(types));
     let mut out = vec![0; 65_535];
+    let mut counts = vec![0; types.len()];
+    let mut raw = |list: &ValueList, out: &mut [u8]| {
+        rook_row::raw::build(&schema, &list.bytes, &list.text, out, &mut counts)
+    };
     let built: Vec<_> = rows
         .iter()
         .map(|(values, list)| {
-            let length = rook_row::raw::build(&schema, &list.bytes, &list.text, &mut out);
+            let length = raw(list, &mut out);
             let row = rust::build(types, values).ok().expect("a row");
             assert_eq!(out[..length.expect("a row")], row);
             row
@@ -40,7 +45,7 @@ fn bench_build(types: &[DataType], rows: &[Values]) -> [f64; 3] {
                 black_box(serialize_nullable_typed_row(types, values).expect("a row"));
             }),
             time(rows, |(_, list)| {
-                let length = rook_row::raw::build(&schema, &list.bytes, &list.text, &mut out);
+                let length = raw(list, &mut out);
                 black_box((length.expect("a row"), &out));
             }),
             time(&values, |values| {

@@ -1,9 +1,10 @@
 //! Building, against `serialize_nullable_typed_row`: rows byte for byte and errors
-//! by variant on 01's domain. The model judges all of it: number, place, length
-//! and every lent byte.
+//! by variant on 01's domain; code points by `chars` of what is stored. The model
+//! judges all of it: number, place, length and every lent byte.
 
-use super::rows::{self, apart, apart_from_rust, counted, fitting, handed};
-use crate::lent::{After, any_output, called, written};
+use super::rows::{self, Counted, apart, apart_from_rust, counted};
+use super::rows::{counted_in, fitting, handed_counts};
+use crate::lent::{After, any_counts, any_output, called_with, written_with};
 use crate::{Compared, hex, port};
 use cases::LIMIT;
 use cases::column::{ColumnType, RustColumns};
@@ -120,38 +121,44 @@ struct Lent<'a> {
     schema: &'a [u8],
     list: &'a ValueList,
     output: Vec<u8>,
+    counts: Vec<u32>,
 }
 
 impl Lent<'_> {
     fn port(&self) -> After<RowAnswer> {
         let inputs = [self.schema, &self.list.bytes, &self.list.text];
-        called(&self.output, inputs, |[schema, values, text], out| {
-            port::build(schema, values, text, out)
-        })
+        let call = |[schema, values, text]: [&mut [u8]; 3], out: &mut [u8], counts: &mut [u32]| {
+            port::build(schema, values, text, out, counts)
+        };
+        called_with(&self.output, &self.counts, inputs, call)
     }
 
     fn model(&self) -> After<RowAnswer> {
-        written(&self.output, |out| {
-            model::build(self.schema, &self.list.bytes, &self.list.text, out)
+        let (values, text) = (&self.list.bytes, &self.list.text);
+        written_with(&self.output, &self.counts, |out, counts| {
+            model::build(self.schema, values, text, out, counts)
         })
     }
 
-    /// The row of the Rust, or the refusal.
-    fn told(&self) -> Option<Result<Vec<u8>, Refusal>> {
+    /// The row of the Rust and the counts of its texts, or the refusal.
+    fn told(&self) -> Option<Result<Counted, Refusal>> {
         rows::by_rust(self.schema, |columns| {
             let row = expected::build(columns, self.list).map_err(Refusal::of)?;
-            fitting(row, &self.output)
+            let points = expected::built_points(columns, &row);
+            let row = fitting(row, &self.output)?;
+            Ok((row, counted_in(&points, &self.counts)?))
         })
     }
 
     fn input(&self) -> String {
         format!(
-            "schema {}, values {}, text of {} bytes {}, {} bytes of output",
+            "schema {}, values {}, text of {} bytes {}, {} bytes of output, {} numbers",
             hex(self.schema),
             hex(&self.list.bytes),
             self.list.text.len(),
             hex(&self.list.text),
-            self.output.len()
+            self.output.len(),
+            self.counts.len()
         )
     }
 
@@ -161,7 +168,8 @@ impl Lent<'_> {
         let difference = apart("model", &port, &self.model(), || self.input());
         (
             port.answer,
-            difference.or_else(|| apart_from_rust(&handed(&port), &self.told(), || self.input())),
+            difference
+                .or_else(|| apart_from_rust(&handed_counts(&port), &self.told(), || self.input())),
         )
     }
 
@@ -192,7 +200,8 @@ impl Lent<'_> {
 
 /// An output for the result, with room or not; for a refusal of any length.
 fn output_for(rng: &mut Rng, schema: &[u8], list: &ValueList) -> (String, Vec<u8>) {
-    let answer = model::build(schema, &list.bytes, &list.text, &mut [0; LIMIT]);
+    let (out, counts) = (&mut [0; LIMIT], &mut [0; 256]);
+    let answer = model::build(schema, &list.bytes, &list.text, out, counts);
     if answer.number == 0 {
         let (room, output) = any_output(rng, answer.length);
         return (format!("output {room:?}"), output);
@@ -209,10 +218,13 @@ pub fn compare(rng: &mut Rng) -> Compared {
     let Given { sort, types, list } = any_given(rng);
     let (schema_sort, schema) = rows::any_schema_for(rng, &types);
     let (room, output) = output_for(rng, &schema, &list);
+    let columns = rows::columns(&schema).map_or(3, |types| types.len());
+    let (numbers, counts) = any_counts(rng, columns);
     let lent = Lent {
         schema: &schema,
         list: &list,
         output,
+        counts,
     };
     let (answer, difference) = lent.compare();
     let number = answer.number;
@@ -221,6 +233,7 @@ pub fn compare(rng: &mut Rng) -> Compared {
             schema_sort,
             sort,
             room,
+            format!("counts {numbers:?}"),
             format!("answer {number}"),
             lent.judge(number).to_string(),
             match (answer.length, list.text.len()) {
@@ -249,6 +262,7 @@ mod tests {
             schema: &write_schema(types),
             list,
             output: vec![0xAA; room],
+            counts: vec![7; types.len()],
         };
         let (answer, difference) = lent.compare();
         assert_eq!(difference, None);

@@ -281,7 +281,7 @@ pub fn compare_with(calls: &Calls, rng: &mut Rng) -> Compared {
         let built = called(
             &vec![0; length],
             [&schema, &list.bytes, &list.text],
-            |[schema, list, text], out| port::build(schema, list, text, out),
+            |[schema, list, text], out| port::build(schema, list, text, out, &mut [0; 256]),
         );
         difference = difference.or_else(|| apart("port", &Ok(left), &handed(&built), input));
     }

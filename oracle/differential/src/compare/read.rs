@@ -1,9 +1,10 @@
 //! Reading chosen columns, against `RowDecoder::decode` after `only`: values,
-//! nulls and errors by variant on 01's domain. The model judges all of it:
-//! number, place, length and every lent byte.
+//! nulls and errors by variant on 01's domain; code points by `chars` of what is
+//! stored. The model judges all of it: number, place, length and every lent byte.
 
-use super::rows::{self, Given, apart, apart_from_rust, counted, fitting, handed};
-use crate::lent::{After, Room, any_output, called, numbers, written};
+use super::rows::{self, Counted, Given, apart, apart_from_rust, counted};
+use super::rows::{counted_in, fitting, handed_counts};
+use crate::lent::{After, Room, any_counts, any_output, called_with, numbers, written_with};
 use crate::{Compared, hex, port};
 use cases::expected::{self, Refusal};
 use cases::generate::row::any_row;
@@ -23,44 +24,56 @@ struct Lent<'a> {
     row: &'a [u8],
     wanted: &'a [u16],
     output: Vec<u8>,
+    counts: Vec<u32>,
 }
 
 /// An output, and whether the list of this read has room in it.
 fn output_for(rng: &mut Rng, schema: &[u8], row: &[u8], wanted: &[u16]) -> (Room, Vec<u8>) {
-    let needed = model::read(schema, row, wanted, &mut [0; LONGEST]).length;
+    let needed = model::read(schema, row, wanted, &mut [0; LONGEST], &mut [0; 256]).length;
     any_output(rng, needed)
+}
+
+/// A list of counts, and whether it has a number for each column of the schema.
+fn counts_for(rng: &mut Rng, schema: &[u8]) -> (Room, Vec<u32>) {
+    let columns = rows::columns(schema).map_or(3, |types| types.len());
+    any_counts(rng, columns)
 }
 
 impl Lent<'_> {
     fn port(&self) -> After<RowAnswer> {
         let wanted: Vec<u8> = self.wanted.iter().flat_map(|n| n.to_le_bytes()).collect();
         let inputs = [self.schema, self.row, &wanted];
-        called(&self.output, inputs, |[schema, row, wanted], out| {
-            port::read(schema, row, numbers(wanted), out)
-        })
+        let call = |[schema, row, wanted]: [&mut [u8]; 3], out: &mut [u8], counts: &mut [u32]| {
+            port::read(schema, row, numbers(wanted), out, counts)
+        };
+        called_with(&self.output, &self.counts, inputs, call)
     }
 
     fn model(&self) -> After<RowAnswer> {
-        written(&self.output, |out| {
-            model::read(self.schema, self.row, self.wanted, out)
+        written_with(&self.output, &self.counts, |out, counts| {
+            model::read(self.schema, self.row, self.wanted, out, counts)
         })
     }
 
-    /// The value list of what the Rust reads, or the refusal.
-    fn told(&self) -> Option<Result<Vec<u8>, Refusal>> {
+    /// The value list of what the Rust reads and the counts of its texts, or the
+    /// refusal.
+    fn told(&self) -> Option<Result<Counted, Refusal>> {
         rows::by_rust(self.schema, |columns| {
             let values = expected::read(columns, self.row, self.wanted)?;
-            fitting(expected::list(columns, self.row, &values), &self.output)
+            let list = fitting(expected::list(columns, self.row, &values), &self.output)?;
+            let points = expected::points(columns, self.row, &values);
+            Ok((list, counted_in(&points, &self.counts)?))
         })
     }
 
     fn input(&self) -> String {
         format!(
-            "schema {}, row {}, wanted {:?}, {} bytes of output",
+            "schema {}, row {}, wanted {:?}, {} bytes of output, {} numbers",
             hex(self.schema),
             hex(self.row),
             self.wanted,
-            self.output.len()
+            self.output.len(),
+            self.counts.len()
         )
     }
 
@@ -70,7 +83,8 @@ impl Lent<'_> {
         let difference = apart("model", &port, &self.model(), || self.input());
         (
             port.answer.number,
-            difference.or_else(|| apart_from_rust(&handed(&port), &self.told(), || self.input())),
+            difference
+                .or_else(|| apart_from_rust(&handed_counts(&port), &self.told(), || self.input())),
         )
     }
 
@@ -91,16 +105,19 @@ pub fn compare(rng: &mut Rng) -> Compared {
     } = rows::any_given(rng);
     let (wanted_sort, wanted) = any_wanted(rng, types.len());
     let (room, output) = output_for(rng, &schema, &row, &wanted);
+    let (numbers, counts) = counts_for(rng, &schema);
     let lent = Lent {
         schema: &schema,
         row: &row,
         wanted: &wanted,
         output,
+        counts,
     };
     let (number, difference) = lent.compare();
     sorts.extend([
         format!("wanted {wanted_sort:?}"),
         format!("output {room:?}"),
+        format!("counts {numbers:?}"),
         format!("answer {number}"),
         lent.judge(number).to_string(),
     ]);
@@ -119,11 +136,13 @@ pub fn every_subset(rng: &mut Rng) -> Compared {
     let mut difference = None;
     for wanted in subsets(columns) {
         let (_, output) = output_for(rng, &schema, &row, &wanted);
+        let (_, counts) = any_counts(rng, columns);
         let lent = Lent {
             schema: &schema,
             row: &row,
             wanted: &wanted,
             output,
+            counts,
         };
         difference = difference.or(lent.compare().1);
     }

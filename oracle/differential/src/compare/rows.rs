@@ -159,6 +159,21 @@ pub fn fitting(bytes: Vec<u8>, output: &[u8]) -> Result<Vec<u8>, Refusal> {
     fits.then_some(bytes).ok_or(Refusal::Number(14, 0))
 }
 
+/// What a call that counts code points leaves: the bytes that it handed back, and
+/// the whole list of counts.
+pub type Counted = (Vec<u8>, Vec<u32>);
+
+/// As `handed`, with the list of counts.
+pub fn handed_counts(after: &After<RowAnswer>) -> Result<Counted, Refusal> {
+    Ok((handed(after)?, after.counts.clone()))
+}
+
+/// The lent list with these counts at its front: 14 if it has fewer numbers.
+pub fn counted_in(points: &[u32], counts: &[u32]) -> Result<Vec<u32>, Refusal> {
+    let rest = counts.get(points.len()..).ok_or(Refusal::Number(14, 0))?;
+    Ok([points, rest].concat())
+}
+
 /// Each sort once.
 pub fn counted(sorts: Vec<String>) -> Vec<(String, u64)> {
     sorts.into_iter().map(|sort| (sort, 1)).collect()

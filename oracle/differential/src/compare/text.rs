@@ -1,9 +1,11 @@
-//! The text check against `std::str::from_utf8`, by which the Rust decides.
+//! The text check against `std::str::from_utf8`, by which the Rust decides, and
+//! `chars`.
 
 use crate::lent::{asked, told};
 use crate::{Compared, hex, port};
 use cases::generate::text::{Fault, Sort, invalid, valid};
 use cases::rng::Rng;
+use model::CheckAnswer;
 
 #[derive(Debug, Clone, Copy)]
 pub enum Kind {
@@ -43,13 +45,19 @@ pub fn text(rng: &mut Rng) -> (Kind, Vec<u8>) {
     }
 }
 
-pub fn rust(text: &[u8]) -> bool {
-    std::str::from_utf8(text).is_ok()
+/// The code points of a text.
+pub fn rust(text: &[u8]) -> Option<usize> {
+    let text = std::str::from_utf8(text).ok()?;
+    Some(text.chars().count())
 }
 
 pub fn compare(rng: &mut Rng) -> Compared {
     let (kind, text) = text(rng);
-    let port = asked([&text], |[text]| port::text_valid(text));
-    let wanted = told(u32::from(rust(&text)));
+    let port = asked([&text], |[text]| port::text_check(text));
+    let points = rust(&text);
+    let wanted = told(CheckAnswer {
+        valid: u32::from(points.is_some()),
+        points: points.unwrap_or(0),
+    });
     Compared::new(kind, port, wanted, || format!("text {}", hex(&text)))
 }

@@ -50,6 +50,7 @@ fn left(handed: &Handed, output: &[u8]) -> After<ValueProbe> {
     After {
         answer: ValueProbe { number, length },
         output,
+        counts: vec![],
         kept: true,
     }
 }

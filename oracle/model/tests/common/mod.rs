@@ -103,12 +103,36 @@ pub fn with_output(room: usize, call: impl FnOnce(&mut [u8]) -> RowAnswer) -> (R
     (answer, out)
 }
 
+/// What is in a lent list of numbers before a call.
+pub const NUMBER: u32 = 0xA5A5_A5A5;
+
+/// Runs a call on an output of this room and a list of so many numbers, which is
+/// handed back whole. A refusal leaves it as it was.
+pub fn with_counts(
+    room: usize,
+    numbers: usize,
+    call: impl FnOnce(&mut [u8], &mut [u32]) -> RowAnswer,
+) -> (RowAnswer, Vec<u8>, Vec<u32>) {
+    let mut counts = vec![NUMBER; numbers];
+    let (answer, result) = with_output(room, |out| call(out, &mut counts));
+    if answer.number != 0 {
+        assert!(counts.iter().all(|&count| count == NUMBER));
+    }
+    (answer, result, counts)
+}
+
+/// As many numbers as the columns of any schema.
+pub const NUMBERS: usize = 256;
+
 pub fn fresh(schema: &[u8], room: usize) -> (RowAnswer, Vec<u8>) {
     with_output(room, |out| model::fresh(schema, out))
 }
 
 pub fn build_in(schema: &[u8], list: &[u8], text: &[u8], room: usize) -> (RowAnswer, Vec<u8>) {
-    with_output(room, |out| model::build(schema, list, text, out))
+    let (answer, row, _) = with_counts(room, NUMBERS, |out, counts| {
+        model::build(schema, list, text, out, counts)
+    });
+    (answer, row)
 }
 
 pub fn build(schema: &[u8], values: &[Value], text: &[u8]) -> (RowAnswer, Vec<u8>) {
@@ -123,7 +147,10 @@ pub fn built(schema: &[u8], values: &[Value], text: &[u8]) -> Vec<u8> {
 }
 
 pub fn read_in(schema: &[u8], row: &[u8], wanted: &[u16], room: usize) -> (RowAnswer, Vec<u8>) {
-    with_output(room, |out| model::read(schema, row, wanted, out))
+    let (answer, list, _) = with_counts(room, NUMBERS, |out, counts| {
+        model::read(schema, row, wanted, out, counts)
+    });
+    (answer, list)
 }
 
 /// A read of the first 256 columns: the answer without its length, the values.
