@@ -1,5 +1,5 @@
 /* Every call once, from C, and a refusal of each. The columns are Int, Varchar(5), SmallInt; where code points are
- * counted, Char(5), Varchar(5), Bit(3), Int. */
+ * counted, Char(5), Varchar(5), Bit(3), Int; where a list is printed, those of platform occupations. */
 #include <stdio.h>
 
 #include "rook_row.h"
@@ -121,6 +121,40 @@ static void show_handle_edits(void) {
     show_handle(handle);
 }
 
+/* A row list: platform 3, unit T41, arrival 0; platform 10, no unit, arrival 1 microsecond. Neither has a departure. */
+static uint8_t occupations[] = {
+    0x1D, 0,                                        /* the first row has 29 bytes */
+    4, 0, 2, 0x80, 8, 25, 0, 26, 0,                 /* its header, bitmap and offsets */
+    0, 0, 0, 0, 0, 0, 0, 0, 0, 0, 0, 0, 0, 0, 0, 0, /* slots: arrival and departure */
+    '3', 'T', '4', '1',                             /* texts */
+    0x1B, 0,                                        /* the second row has 27 */
+    4, 0, 2, 0x80, 10, 25, 0, 0, 0,                 /* bits 1 and 3: no unit, no departure */
+    1, 0, 0, 0, 0, 0, 0, 0, 0, 0, 0, 0, 0, 0, 0, 0, /* one microsecond */
+    '1', '0'};
+
+/* The lines of the list's first bytes in `room` bytes, or why it refused. */
+static void show_print(const char *call, size_t list_length, size_t room) {
+    uint8_t lines[80];
+    rook_row_answer answer = rook_occupations_print(occupations, list_length, lines, room);
+    if (answer.number != 0)
+        printf("%-28srefused with %u at %zu, length %zu\n", call, answer.number, answer.place, answer.length);
+    else
+        printf("%-28s%zu bytes\n%.*s", call, answer.length, (int)answer.length, (const char *)lines);
+}
+
+/* The printed list. */
+static void show_occupations(void) {
+    size_t n = sizeof occupations;
+    show_print("print two occupations", n, 80);
+    show_print("print, a byte short", n, 60);
+    show_print("print, the list cut", n - 1, 80);
+    show_print("print, no rows", 0, 0);
+    occupations[28] = '"';
+    show_print("print, a quote in the unit", n, 80);
+    occupations[18] = 0x7F; /* an arrival past 9999 */
+    show_print("print, and a bad arrival", n, 80);
+}
+
 int main(void) {
     size_t n = sizeof schema;
     uint8_t list[54];
@@ -150,6 +184,7 @@ int main(void) {
 
     show_handle_edits();
     show_points();
+    show_occupations();
 
     uint32_t version = rook_row_version();
     printf("%-28s%u.%u.%u\n", "version of the library", version >> 16, version >> 8 & 255, version & 255);

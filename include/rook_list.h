@@ -1,5 +1,5 @@
-/* Schemas and value lists, written and read record by record. Header only: nothing here calls the library, which
- * rook_row.h describes.
+/* Schemas and value lists, written and read record by record, and row lists, written row by row. Header only: nothing
+ * here calls the library, which rook_row.h describes.
  *
  * A list is written into lent memory. What does not fit is counted and not written: after the last record
  * `rook_list_fits` says whether all of it stands there, and `length` how many bytes it needs. */
@@ -145,6 +145,14 @@ static inline void rook_values_varchar(rook_values *values, const char *text) {
 }
 static inline void rook_values_bits(rook_values *values, const uint8_t *packed, size_t count) {
     rook_values_text(values, ROOK_VALUE_BIT, packed, count);
+}
+
+/* ---- a row list: rows, each after its length */
+
+/* A row whose length does not fit two bytes makes a list above ROOK_MAX_LIST, which the library refuses (16). */
+static inline void rook_rows_put(rook_list *rows, const uint8_t *row, size_t row_length) {
+    rook_list_number(rows, 2, row_length);
+    rook_list_bytes(rows, row, row_length);
 }
 
 /* ---- a value list read: what rook_row_read wrote, whose text area is the row */

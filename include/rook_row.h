@@ -27,6 +27,9 @@
  *   14  no room in the lent output; row_length beyond the buffer;                  0
  *       or fewer numbers lent than the schema has columns                          0
  *   15  the row to be edited is not sound                                          0
+ *   16  a row list that ends inside a length or a row, or has more than 512 rows   0
+ *       or 32,768 bytes
+ *   17  a text to be printed has a double quote or a byte below 32                 the column
  *
  * What a refusal leaves. No lent byte or number is changed. What else the call hands out is 0, but the `length` of a
  * refused edit is the `row_length` that it got, so that it can be stored in any case.
@@ -48,7 +51,10 @@
  *   8 Char, Character   9 Varchar   12 Bit     start and length in the text area: two bytes each
  *  10 Date                                     days from 1970-01-01: 4 bytes
  *  11 Time                                     microseconds from midnight: 8 bytes
- *  13 Timestamp                                microseconds from 1970-01-01: 8 bytes */
+ *  13 Timestamp                                microseconds from 1970-01-01: 8 bytes
+ *
+ * Row list. Rows end to end, each after its length in two bytes: at most 512 rows and 32,768 bytes, the lengths among
+ * them. An empty list has no rows, and a row may have any bytes. */
 #ifndef ROOK_ROW_H
 #define ROOK_ROW_H
 
@@ -60,16 +66,19 @@ extern "C" {
 #endif
 
 /* The version of this interface: of this header. The first two numbers are its series, within which no call changes its
- * form. The last line is the version as rook_row_version answers it for the library. */
+ * form; an added call raises the third. The last line is the version as rook_row_version answers it for the library. */
 #define ROOK_ROW_VERSION_MAJOR 0
 #define ROOK_ROW_VERSION_MINOR 3
-#define ROOK_ROW_VERSION_PATCH 0
-#define ROOK_ROW_VERSION "0.3.0"
+#define ROOK_ROW_VERSION_PATCH 1
+#define ROOK_ROW_VERSION "0.3.1"
 #define ROOK_ROW_VERSION_NUMBER \
     ((uint32_t)ROOK_ROW_VERSION_MAJOR << 16 | ROOK_ROW_VERSION_MINOR << 8 | ROOK_ROW_VERSION_PATCH)
 
-/* The most columns of a schema, the most bytes of a row and of a text area, and bytes that a value record always fits. */
+/* The most columns of a schema, the most bytes of a row and of a text area, and bytes that any value record fits. */
 enum { ROOK_MAX_COLUMNS = 256, ROOK_MAX_ROW = 65535, ROOK_MAX_TEXT = 65535, ROOK_MAX_RECORD = 18 };
+
+/* The most rows and bytes of a row list, and bytes that its printed lines always fit: 126 a row. */
+enum { ROOK_MAX_LIST_ROWS = 512, ROOK_MAX_LIST = 32768, ROOK_MAX_PRINTED = 64512 };
 
 /* Schema kinds. */
 enum {
@@ -125,7 +134,9 @@ enum {
     ROOK_UNSUITABLE = 12,
     ROOK_ROW_LIMIT = 13,
     ROOK_NO_ROOM = 14,
-    ROOK_NOT_SOUND = 15
+    ROOK_NOT_SOUND = 15,
+    ROOK_BAD_LIST = 16,
+    ROOK_UNPRINTABLE = 17
 };
 
 /* What a number says, for people. */
@@ -145,7 +156,9 @@ static inline const char *rook_number_text(uint32_t number) {
                                         "a value that the column's type does not hold",
                                         "the row would pass 65,535 bytes",
                                         "no room",
-                                        "the row to be edited is not sound"};
+                                        "the row to be edited is not sound",
+                                        "the row list is cut, or over its limits",
+                                        "a text with a double quote or a byte below 32"};
     return number < sizeof texts / sizeof *texts ? texts[number] : "a number that this header does not know";
 }
 
@@ -269,8 +282,8 @@ rook_flag_answer rook_row_same_content(const uint8_t *schema, size_t schema_leng
 /* Whether a column's bit says null.
  * Gets a row and a column; it goes by the row's own header and bitmap, and writes nothing.
  * Answers with flag 1 for null, else 0.
- * Refuses with 4 (row above 65,535 bytes), 3 (row under 4 bytes), 9 (no such column by the row's header), 3 (row shorter
- * than its bitmap), place 0; then `flag` is 0. */
+ * Refuses with 4 (row above 65,535 bytes), 3 (row under 4 bytes), 9 (no such column by the row's header), 3 (row
+ * shorter than its bitmap), place 0; then `flag` is 0. */
 rook_flag_answer rook_row_is_null(const uint8_t *row, size_t row_length, size_t column);
 
 /* Whether bytes are text by RFC 3629 (UTF-8), and of how many code points.
@@ -278,10 +291,25 @@ rook_flag_answer rook_row_is_null(const uint8_t *row, size_t row_length, size_t 
  * Answers with `valid` 1 and the text's code points, or with 0 and 0 for bytes that are no text. */
 rook_check_answer rook_text_check(const uint8_t *text, size_t text_length);
 
+/* The printed list of platform occupations.
+ * Gets a row list whose rows have the columns platform Varchar(16), unit Varchar(64), arrival Timestamp, departure
+ * Timestamp: the schema 0B 10 00 0B 40 00 0F 0F. They need not be sound, only read. Writes at the front of `out` a
+ * line for each row, with a line feed at its end, as in
+ *   "3"|"T41"|1970-01-01 00:00:00|-
+ * Texts stand in double quotes, moments as YYYY-MM-DD hh:mm:ss, rounded down to the second, a null as a hyphen, bars
+ * between. The lines are ordered by platform, by bytes, then by arrival, by microseconds, then as the list is; a null
+ * is first, and a platform comes before those that begin with it. 64,512 bytes are always enough; bytes past the lines
+ * stay as they are.
+ * Answers with the length of the lines, 0 for an empty list.
+ * Refuses with 16 (the whole list, before any row is looked at), then row by row in the order of the list with 3, 5,
+ * 6, 3 (row), 7 and 8 (a column, as a read of all columns), 17 (a text of this row; the first such column), and last
+ * with 14 (out too short); then `out` is as it was, and `length` 0. */
+rook_row_answer rook_occupations_print(const uint8_t *list, size_t list_length, uint8_t *out, size_t out_length);
+
 /* The version of the library.
  * Gets nothing, writes nothing, refuses nothing.
- * Answers with a byte for each of its numbers: 0x000300 for 0.3.0. The library goes with this header if it is of the
- * same series: rook_row_version() >> 8 == ROOK_ROW_VERSION_NUMBER >> 8. */
+ * Answers with a byte for each of its numbers: 0x000301 for 0.3.1. The library goes with this header if it is of the
+ * same series, rook_row_version() >> 8 == ROOK_ROW_VERSION_NUMBER >> 8, and not older. */
 uint32_t rook_row_version(void);
 
 /* As rook_row_version. A library of another series does not have this function, so that a program which calls it, or

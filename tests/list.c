@@ -1,5 +1,5 @@
 /* include/rook_list.h: a value of every kind written, built into a row, read again and compared; stored forms of
- * docs/FORMAT.md; lists that do not fit, are cut, or have an unknown kind. */
+ * docs/FORMAT.md; lists that do not fit, are cut, or have an unknown kind; row lists. */
 #include <stdio.h>
 #include <string.h>
 
@@ -145,14 +145,34 @@ static void limits(void) {
     expect(!rook_values_next(&cut, &value) && cut.at == 0, "a record that is cut off");
     expect(!rook_values_next(&unknown, &value), "a record of unknown kind");
     expect(strcmp(rook_number_text(ROOK_NOT_SOUND), "the row to be edited is not sound") == 0, "the text of 15");
-    expect(strstr(rook_number_text(16), "not know") != NULL, "the text of an unknown number");
+    expect(strcmp(rook_number_text(ROOK_BAD_LIST), "the row list is cut, or over its limits") == 0, "the text of 16");
+    expect(strstr(rook_number_text(ROOK_UNPRINTABLE), "double quote") != NULL, "the text of 17");
+    expect(strstr(rook_number_text(UINT32_MAX), "not know") != NULL, "the text of an unknown number");
+}
+
+/* Rows of the printed list: two of 25 and 29 bytes, and one that the list has no room for. */
+static void row_lists(void) {
+    static const uint8_t nulls[25] = {4, 0, 2, 0x80, 15};
+    static const uint8_t t41[29] = {4, 0, 2, 0x80, 8, 25, 0, 26, 0, [25] = '3', 'T', '4', '1'};
+    static const char lines[] = "-|-|-|-\n\"3\"|\"T41\"|1970-01-01 00:00:00|-\n";
+    uint8_t bytes[60], out[64];
+    rook_list rows = rook_list_in(bytes, sizeof bytes);
+    rook_rows_put(&rows, t41, sizeof t41);
+    rook_rows_put(&rows, nulls, sizeof nulls);
+    expect(rook_list_fits(&rows) && rows.length == 58, "a list of two rows");
+    rook_row_answer answer = rook_occupations_print(bytes, rows.length, out, sizeof out);
+    expect(answer.number == 0 && answer.length == sizeof lines - 1, "two rows are printed");
+    expect(memcmp(out, lines, sizeof lines - 1) == 0, "the lines of two rows");
+    rook_rows_put(&rows, nulls, sizeof nulls);
+    expect(!rook_list_fits(&rows) && rows.length == 85, "a row that the list has no room for");
 }
 
 int main(void) {
     every_kind();
     numerics();
     limits();
+    row_lists();
     if (faults == 0)
-        printf("schemas and value lists, written and read by include/rook_list.h, are the library's\n");
+        printf("schemas, value lists and row lists, as include/rook_list.h writes and reads them, are the library's\n");
     return faults != 0;
 }

@@ -4,8 +4,9 @@
 use std::path::{Path, PathBuf};
 use std::{env, fs};
 
-const MODULES: [&str; 8] = [
-    "build", "edit", "layout", "read", "schema", "stored", "text", "value",
+const MODULES: [&str; 11] = [
+    "build", "calendar", "edit", "layout", "print", "read", "row_list", "schema", "stored", "text",
+    "value",
 ];
 
 struct Fault<'a> {

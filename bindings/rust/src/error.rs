@@ -132,6 +132,25 @@ pub enum Error {
     /// 15: the row to be edited is not sound: a column of it cannot be read, or its texts are not where an edit needs
     /// them.
     NotSound,
+    /// 16: bytes that are no row list, or a row that a list has no room for.
+    BadRowList {
+        /// What is wrong with it.
+        fault: RowListFault,
+    },
+    /// 17: a text that cannot be printed.
+    Unprintable {
+        /// The column.
+        column: ColumnLabel,
+        /// The first byte of its text that cannot be: a double quote, or one below 32.
+        byte: u8,
+    },
+    /// A refusal of a row of a row list, by its own number and place.
+    ListedRow {
+        /// The row in the list, counted from 0.
+        row: usize,
+        /// Why it is refused.
+        cause: Box<Error>,
+    },
     /// A refusal of a newer library, whose number this crate does not know.
     Unknown {
         /// The number.
@@ -167,6 +186,21 @@ pub enum SchemaFault {
     SameName {
         /// The later of the two.
         column: ColumnLabel,
+    },
+}
+
+/// What is wrong with a row list.
+#[derive(Debug, Clone, Copy, PartialEq, Eq)]
+#[non_exhaustive]
+pub enum RowListFault {
+    /// It has, or would have, so many bytes, which are more than 32,768.
+    TooManyBytes(usize),
+    /// It has, or would have, more than 512 rows.
+    TooManyRows,
+    /// It ends inside a row, or inside the row's length.
+    CutOff {
+        /// The row, counted from 0.
+        row: usize,
     },
 }
 
@@ -214,12 +248,15 @@ impl Error {
             Error::RowLimit => 13,
             Error::NoRoom => 14,
             Error::NotSound => 15,
+            Error::BadRowList { .. } => 16,
+            Error::Unprintable { .. } => 17,
+            Error::ListedRow { cause, .. } => cause.number(),
             Error::Unknown { number, .. } => *number,
         }
     }
 
-    /// The place of the refusal: a byte of the schema for 1 and 2 and of the value list for 10, a column for 7, 8, 11
-    /// and 12, else 0.
+    /// The place of the refusal: a byte of the schema for 1 and 2 and of the value list for 10, a column for 7, 8, 11,
+    /// 12 and 17, else 0.
     pub fn place(&self) -> usize {
         match self {
             Error::BadRecord { at, .. }
@@ -231,7 +268,9 @@ impl Error {
             | Error::NullInSet { column }
             | Error::NoText { column, .. }
             | Error::NotReadAs { column, .. }
-            | Error::Unsuitable { column, .. } => column.number,
+            | Error::Unsuitable { column, .. }
+            | Error::Unprintable { column, .. } => column.number,
+            Error::ListedRow { cause, .. } => cause.place(),
             Error::Unknown { place, .. } => *place,
             _ => 0,
         }

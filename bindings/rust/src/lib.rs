@@ -34,6 +34,9 @@
 //! [`RowRef::widths`], [`Columns::width`] and [`Builder::build_with_widths`] hand them out. A width is a number of code
 //! points, so a mark that is put on a letter counts by itself.
 //!
+//! A [`RowList`] holds many rows as bytes, each after its length; [`print_occupations`] makes of one the sheet of
+//! platform occupations, a line a row, that hangs on a wall.
+//!
 //! [`RowRef`] borrows its bytes, [`RowBuf`] owns them, as `str` and `String` do; [`RowMut`] edits a row in lent
 //! memory. For many rows of one schema there are [`Reader`], [`Builder`] and [`Editor`], which keep their memory.
 //! [`raw`] has the calls themselves: slices in, numbers out. The library keeps no state, so all of these may be used by
@@ -59,11 +62,13 @@ mod editor;
 mod error;
 mod list;
 mod numeric;
+mod occupations;
 mod parse;
 pub mod raw;
 mod reader;
 mod row;
 mod row_buf;
+mod row_list;
 mod row_mut;
 mod schema;
 #[cfg(feature = "serde")]
@@ -76,12 +81,14 @@ pub use calendar::{Date, Time, Timestamp};
 pub use convert::{ConvertError, FromValue, IntoValue};
 pub use data_type::DataType;
 pub use editor::Editor;
-pub use error::{ColumnLabel, Error, Misfit, SchemaFault};
+pub use error::{ColumnLabel, Error, Misfit, RowListFault, SchemaFault};
 pub use numeric::Numeric;
+pub use occupations::{occupation_schema, print_occupations};
 pub use parse::ParseError;
 pub use reader::{Columns, PlaceAsked, Reader, Values};
 pub use row::RowRef;
 pub use row_buf::RowBuf;
+pub use row_list::{RowList, Rows};
 pub use row_mut::RowMut;
 pub use schema::{Column, ColumnIndex, Schema};
 pub use value::Value;

@@ -26,7 +26,15 @@
 //! // column 1 edited in place: longer, then null
 //! assert_eq!(raw::set(&schema, &mut buffer, 15, 1, &[9, 0, 0, 5, 0], b"ABCDE"), Ok(18));
 //! assert_eq!(raw::set_null(&schema, &mut buffer, 18, 1), Ok(13));
+//!
+//! // a list of one row, after its length: platform 3, unit T41, arrival 0, no departure
+//! let list = b"\x1D\0\x04\0\x02\x80\x08\x19\0\x1A\0\0\0\0\0\0\0\0\0\0\0\0\0\0\0\0\x003T41";
+//! let mut lines = [0; 40];
+//! assert_eq!(raw::occupations_print(list, &mut lines), Ok(32));
+//! assert_eq!(&lines[..32], b"\"3\"|\"T41\"|1970-01-01 00:00:00|-\n");
 //! ```
+use alloc::string::String;
+use alloc::vec;
 use core::fmt;
 use core::ops::Range;
 
@@ -35,7 +43,7 @@ pub(crate) mod records;
 /// Why a call refused: the format's number, and the place that goes with it.
 #[derive(Debug, Clone, Copy, PartialEq, Eq, Hash)]
 pub struct Refusal {
-    /// 1 to 15; a newer library may have more.
+    /// 1 to 17; a newer library may have more.
     pub number: u32,
     /// A byte of the schema or the value list, a column, or 0.
     pub place: usize,
@@ -191,6 +199,12 @@ extern "C" {
     ) -> FlagAnswer;
     fn rook_row_is_null(row: *const u8, row_length: usize, column: usize) -> FlagAnswer;
     fn rook_text_check(text: *const u8, text_length: usize) -> CheckAnswer;
+    fn rook_occupations_print(
+        list: *const u8,
+        list_length: usize,
+        out: *mut u8,
+        out_length: usize,
+    ) -> RowAnswer;
     fn rook_row_version() -> u32;
 }
 
@@ -416,7 +430,32 @@ pub fn text_check(text: &[u8]) -> Option<usize> {
     (answer.valid == 1).then_some(answer.points)
 }
 
-/// The library's version, with a byte for each of its numbers: `0x000300` for 0.3.0.
+/// The most bytes of the lines that are printed of a row list.
+pub const MAX_PRINTED: usize = 64_512;
+
+/// The printed list of platform occupations: a line for each row of a row list at the front of `out`, in the order of
+/// platforms, arrivals and the list; hands back their length. The rows have the columns Varchar(16), Varchar(64),
+/// Timestamp, Timestamp, and each stands after its length in two bytes, the low one first. [`MAX_PRINTED`] bytes are
+/// always enough. Refuses with 16 (the list), then row by row with 3, 5, 6 (the row), 7 and 8 (a column) and 17 (a
+/// text with a double quote or a byte below 32), and last with 14.
+pub fn occupations_print(list: &[u8], out: &mut [u8]) -> Result<usize, Refusal> {
+    // SAFETY: as in `fresh`; `out` is borrowed alone.
+    let answer =
+        unsafe { rook_occupations_print(list.as_ptr(), list.len(), out.as_mut_ptr(), out.len()) };
+    done(answer.number, answer.place, answer.length)
+}
+
+/// The printed list as a text of its own.
+pub(crate) fn printed(list: &[u8]) -> Result<String, Refusal> {
+    // A row takes 27 bytes of the list at least, and its line 126 at most.
+    let mut lines = vec![0; (list.len() / 27 * 126).min(MAX_PRINTED)];
+    let length = occupations_print(list, &mut lines)?;
+    lines.truncate(length);
+    // SAFETY: the lines are texts of the rows, which the library has checked, and ASCII between them.
+    Ok(unsafe { String::from_utf8_unchecked(lines) })
+}
+
+/// The library's version, with a byte for each of its numbers: `0x000301` for 0.3.1.
 pub fn version() -> u32 {
     // SAFETY: the call gets nothing.
     unsafe { rook_row_version() }

@@ -1,7 +1,9 @@
--- 01, "What each call hands back": the number of each refusal, and its place. FORMAT 6.
+-- 01, "What each call hands back": the number of each refusal, and its place. 02, request 2: "16 for a list that is
+-- cut or over its limits [..], place 0", "17 [..] for a text with a double quote or a byte below 32, place the first
+-- such column". FORMAT 6.
 use Prim.Native.Nat.{ℕ}
 use Rattle.error.specs.declared.Refusal.{Refusal}
-use Rattle.error.specs.declared.Refusal.the-variants.{BadRecord, BadSchema, RowTooShort, RowTooLong, WrongColumnCount, WrongVarlenCount, BadRange, NoValue, NoSuchColumn, BadValueList, WrongKind, Unsuitable, RowLimit, NoRoom, NotSound}
+use Rattle.error.specs.declared.Refusal.the-variants.{BadRecord, BadSchema, RowTooShort, RowTooLong, WrongColumnCount, WrongVarlenCount, BadRange, NoValue, NoSuchColumn, BadValueList, WrongKind, Unsuitable, RowLimit, NoRoom, NotSound, BadList, Unprintable}
 
 abbrev pub numberOf : Refusal → ℕ
 numberOf (BadRecord at) = 1
@@ -19,6 +21,8 @@ numberOf (Unsuitable column) = 12
 numberOf RowLimit = 13
 numberOf NoRoom = 14
 numberOf NotSound = 15
+numberOf BadList = 16
+numberOf (Unprintable column) = 17
 
 -- "the first byte of the bad record, in the schema for 1 and 2 and in the value list for 10; a column for 7, 8, 11
 -- and 12; else 0"
@@ -38,3 +42,5 @@ placeOf (Unsuitable column) = column
 placeOf RowLimit = 0
 placeOf NoRoom = 0
 placeOf NotSound = 0
+placeOf BadList = 0
+placeOf (Unprintable column) = column

@@ -1,4 +1,5 @@
-// error.rs: why a call refused. Document 01's table has a number for each case, and the place that goes with it.
+// error.rs: why a call refused. Document 01's table has a number for each case, and the place that goes with it;
+// 16 and 17 are document 02's.
 // And the answers of the calls: a length written, or a flag.
 ghost use mathlib.Core.Path.{_≡_};
 ghost use Rattle.error.specs.Refusal.{numberOf, placeOf};
@@ -26,6 +27,10 @@ pub enum Refusal {
     RowLimit,
     NoRoom,
     NotSound,
+    // A list of rows that is cut off or over its limits.
+    BadList,
+    // A text that is not printed: the column.
+    Unprintable(usize),
 }
 
 // The answer of a call that writes to a lent output: the bytes of the result, or why there is none.
@@ -60,6 +65,8 @@ impl Refusal {
             Refusal::RowLimit => 13,
             Refusal::NoRoom => 14,
             Refusal::NotSound => 15,
+            Refusal::BadList => 16,
+            Refusal::Unprintable(_) => 17,
         }
     }
 
@@ -82,6 +89,8 @@ impl Refusal {
             Refusal::RowLimit => 0,
             Refusal::NoRoom => 0,
             Refusal::NotSound => 0,
+            Refusal::BadList => 0,
+            Refusal::Unprintable(column) => column,
         }
     }
 }

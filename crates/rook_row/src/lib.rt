@@ -9,6 +9,7 @@ use text::TextCheck;
 ghost use mathlib.Core.Path.{_≡_};
 ghost use Rattle.row_format.specs.Places.{offsetWidth, rowLimit};
 ghost use Rattle.null_bitmap.specs.Bitmap.{nullFlag};
+ghost use Rattle.occupation_list.specs.Print.{printCall};
 ghost use Rattle.row_build.specs.Build.{freshCall, buildCall};
 ghost use Rattle.row_decode.specs.Read.{readCall};
 ghost use Rattle.row_edit.specs.Edit.{setCall, setNullCall};
@@ -306,12 +307,20 @@ pub extern "C" fn rook_text_check(s: &[u8]) -> CheckAnswer
     }
 }
 
-// The version of this interface, 0.3.0, with a byte for each of its numbers.
+// The lines of a list of platform occupations at the front of `out`; `length` is their length.
+#[no_mangle]
+pub extern "C" fn rook_occupations_print(list: &[u8], out: &mut [u8]) -> RowAnswer
+    ensures { λ r. ⌜ (r, now (out .exit)) ≡ rowOutcome 0 (printCall (now (list .entry)) (now (out .entry))) ⌝ }
+{
+    row_answer(occupation_list::print(list, out), 0)
+}
+
+// The version of this interface, 0.3.1, with a byte for each of its numbers.
 #[no_mangle]
 pub extern "C" fn rook_row_version() -> u32
     ensures { λ r. ⌜ r ≡ version ⌝ }
 {
-    0x000300
+    0x000301
 }
 
 // The same, by a name that says the series: what is made for another one does not link.

@@ -11,14 +11,15 @@
 //! - `layout`: places in packed and padded rows;
 //! - `row`: the padded form of a row, soundness, null slots zeroed;
 //! - `history`: a history of edits and what the Rust makes of it;
-//! - `expected`: what each call must answer, from what the Rust answers.
+//! - `expected`: what each call must answer, from what the Rust answers;
+//! - `printed`: the same for the printed list.
 //!
 //! What runs and what makes them:
 //! - `rust`: the Rust's calls, panics caught, errors by variant;
 //! - `rng`: the source of the choices;
-//! - `generate`: schemas, texts, values, value lists, rows, pairs of rows, wanted
-//!   columns and histories, good and bad, each by a sort that the caller picks
-//!   or at random.
+//! - `generate`: schemas, texts, values, value lists, rows, pairs of rows, row
+//!   lists, wanted columns and histories, good and bad, each by a sort that the
+//!   caller picks or at random.
 //!
 //! tests/ checks all of this against the Rust. It also holds the findings about
 //! the Rust (`findings.rs`) and 01's statements about it (`statements.rs`). No
@@ -29,6 +30,7 @@ pub mod expected;
 pub mod generate;
 pub mod history;
 pub mod layout;
+pub mod printed;
 pub mod rng;
 pub mod row;
 pub mod rust;

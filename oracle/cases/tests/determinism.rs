@@ -1,6 +1,6 @@
 //! The same seed gives the same inputs, another seed others.
 
-use cases::generate::{history, list, pair, row, schema, text, wanted};
+use cases::generate::{history, list, pair, row, row_list, schema, text, wanted};
 use cases::rng::Rng;
 
 /// One of everything, many times, as text.
@@ -11,7 +11,7 @@ fn everything(seed: u64) -> String {
         let types = schema::any_types(&mut rng);
         let fault = rng.pick(&text::Fault::ALL);
         out += &format!(
-            "{:?}{:?}{:?}{:?}{:?}{:?}{:?}{:?}",
+            "{:?}{:?}{:?}{:?}{:?}{:?}{:?}{:?}{:?}",
             schema::any_schema(&mut rng),
             types,
             text::invalid(&mut rng, fault, 9),
@@ -20,6 +20,7 @@ fn everything(seed: u64) -> String {
             wanted::any_wanted(&mut rng, types.len()),
             pair::any_pair(&mut rng, &types),
             history::history(&mut rng, &types, 5),
+            row_list::any_list(&mut rng),
         );
     }
     out

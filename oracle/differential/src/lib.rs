@@ -4,8 +4,8 @@
 //! where slices are lent from. The program `differential` runs comparisons for a
 //! time, the program `record` writes a sample of the Rust's answers to a file.
 //! `attack` compares the exported calls with the model alone, many times; the
-//! program of that name runs it. `bench_read`, `bench_build` and `bench_edit`
-//! measure with what `bench` has.
+//! program of that name runs it. `bench_read`, `bench_build`, `bench_edit`,
+//! `bench_same` and `bench_print` measure with what `bench` has.
 
 pub mod attack;
 pub mod bench;

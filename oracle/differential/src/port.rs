@@ -133,6 +133,13 @@ unsafe extern "C" {
     pub fn rook_row_is_null(row: *const u8, row_length: usize, column: usize) -> Flag;
 
     pub fn rook_text_check(text: *const u8, text_length: usize) -> Check;
+
+    pub fn rook_occupations_print(
+        list: *const u8,
+        list_length: usize,
+        out: *mut u8,
+        out_length: usize,
+    ) -> Row;
 }
 
 /// The row of nulls, in `out`.
@@ -294,6 +301,14 @@ pub fn text_check(text: &mut [u8]) -> CheckAnswer {
         valid: answer.valid,
         points: answer.points,
     }
+}
+
+/// The lines of a row list of platform occupations, in `out`.
+pub fn occupations_print(list: &mut [u8], out: &mut [u8]) -> RowAnswer {
+    // SAFETY: as above.
+    row(unsafe {
+        rook_occupations_print(list.as_mut_ptr(), list.len(), out.as_mut_ptr(), out.len())
+    })
 }
 
 fn row(answer: Row) -> RowAnswer {

@@ -8,7 +8,10 @@
 //! - `stored`: a value's stored form: which suit, written, read, the same;
 //! - `text`: which text is valid, and its code points;
 //! - `layout`: where the parts of a row are;
-//! - `read`, `build`, `edit`: the calls.
+//! - `read`, `build`, `edit`: the calls on rows;
+//! - `row_list`: the rows of a list, refusal 16;
+//! - `calendar`: the date and time of a moment;
+//! - `print`: the call on a row list, and what the program prints.
 //!
 //! An output buffer or a list of counts is changed by a call that answers 0 and by
 //! no other, and then only where the result stands.
@@ -16,9 +19,12 @@
 #![forbid(unsafe_code)]
 
 pub mod build;
+pub mod calendar;
 pub mod edit;
 pub mod layout;
+pub mod print;
 pub mod read;
+pub mod row_list;
 pub mod schema;
 pub mod stored;
 pub mod text;
@@ -26,6 +32,7 @@ pub mod value;
 
 pub use build::{build, fresh};
 pub use edit::{set, set_null};
+pub use print::{occupations_print, report};
 pub use read::{is_null, read, same_content, text};
 pub use text::text_check;
 

@@ -2,8 +2,9 @@
 use super::{ColumnLabel, Error, Misfit, SchemaFault};
 use crate::list::text;
 use crate::raw::Refusal;
+use crate::row_list::fault_of;
 use crate::schema::record_starts;
-use crate::{Column, ConvertError, DataType, Schema, Value};
+use crate::{Column, ConvertError, DataType, RowRef, Schema, Value};
 
 /// The call that was refused, and what an error tells of it.
 pub(crate) enum Call<'c> {
@@ -19,6 +20,10 @@ pub(crate) enum Call<'c> {
     Build(&'c Schema, &'c [Value<'c>]),
     /// A column set to a value, or to null.
     Edit(&'c Schema, usize, Option<&'c Value<'c>>),
+    /// A row list.
+    RowList(&'c [u8]),
+    /// A row of a list that is printed.
+    Print(&'c Schema, &'c [u8]),
 }
 
 impl<'c> Call<'c> {
@@ -28,14 +33,18 @@ impl<'c> Call<'c> {
             Call::Read(schema, _)
             | Call::Text(schema, ..)
             | Call::Build(schema, _)
-            | Call::Edit(schema, ..) => schema.columns(),
-            Call::Flag(..) => &[],
+            | Call::Edit(schema, ..)
+            | Call::Print(schema, _) => schema.columns(),
+            Call::Flag(..) | Call::RowList(_) => &[],
         }
     }
 
     fn row(&self) -> &'c [u8] {
         match self {
-            Call::Read(_, row) | Call::Text(_, row, _) | Call::Flag(row, _) => row,
+            Call::Read(_, row)
+            | Call::Text(_, row, _)
+            | Call::Flag(row, _)
+            | Call::Print(_, row) => row,
             _ => &[],
         }
     }
@@ -51,6 +60,15 @@ impl<'c> Call<'c> {
             Call::Text(_, _, column) | Call::Flag(_, column) | Call::Edit(_, column, _) => column,
             _ => 0,
         }
+    }
+
+    /// The first byte of a column's text that cannot be printed.
+    fn unprintable(&self, column: usize) -> Option<u8> {
+        let Call::Print(schema, row) = self else {
+            return None;
+        };
+        let text = RowRef::new(row).text(schema, column).ok()??;
+        text.bytes().find(|&byte| byte == b'"' || byte < 32)
     }
 
     fn values(&self) -> &'c [Value<'c>] {
@@ -96,6 +114,10 @@ impl Error {
             13 => Error::RowLimit,
             14 => Error::NoRoom,
             15 => Error::NotSound,
+            16 => match &call {
+                Call::RowList(list) => Error::of_row_list(list),
+                _ => Error::Unknown { number, place },
+            },
             _ => match columns.get(place) {
                 Some(column) => Error::of_column(refusal, column.data_type(), &call),
                 None => Error::Unknown { number, place },
@@ -134,7 +156,22 @@ impl Error {
                 data_type,
                 misfit: Misfit::of(data_type, call.value(place)),
             },
+            17 => match call.unprintable(place) {
+                Some(byte) => Error::Unprintable { column, byte },
+                None => Error::Unknown { number, place },
+            },
             _ => Error::Unknown { number, place },
+        }
+    }
+
+    fn of_row_list(list: &[u8]) -> Error {
+        match fault_of(list) {
+            Some(fault) => Error::BadRowList { fault },
+            // Of a newer library.
+            None => Error::Unknown {
+                number: 16,
+                place: 0,
+            },
         }
     }
 
@@ -214,6 +251,7 @@ impl Misfit {
 #[cfg(test)]
 mod tests {
     use super::*;
+    use crate::RowBuf;
 
     /// A number of a newer library is an error, be it called by any call.
     #[test]
@@ -230,12 +268,28 @@ mod tests {
             Call::Flag(&[], 0),
             Call::Build(&schema, &[]),
             Call::Edit(&schema, 0, None),
+            Call::RowList(&[]),
+            Call::Print(&schema, &[]),
         ] {
             let error = Error::new(refusal, call);
             assert_eq!((error.number(), error.place()), (31, 7));
             let message =
-                "the library refuses at 7 for a reason that rook_row 0.3.0 does not know (31)";
+                "the library refuses at 7 for a reason that rook_row 0.3.1 does not know (31)";
             assert_eq!(alloc::format!("{error}"), message);
+        }
+    }
+
+    /// A refusal of a list or a text in which this crate finds no fault is an error too.
+    #[test]
+    fn refusals_of_what_seems_good() {
+        let schema = Schema::new([DataType::Varchar(5)]).unwrap();
+        let row = RowBuf::build(&schema, &["T41".into()]).unwrap();
+        for (number, call) in [
+            (16, Call::RowList(&[])),
+            (17, Call::Print(&schema, row.as_bytes())),
+        ] {
+            let error = Error::new(Refusal { number, place: 0 }, call);
+            assert_eq!(error, Error::Unknown { number, place: 0 });
         }
     }
 
@@ -243,10 +297,11 @@ mod tests {
     #[test]
     fn unknown_places() {
         let schema = Schema::new([DataType::Int]).unwrap();
-        for number in 1..=15 {
+        for number in 1..=17 {
             let refusal = Refusal { number, place: 999 };
-            let error = Error::new(refusal, Call::Build(&schema, &[]));
-            assert_eq!(error.number(), number);
+            for call in [Call::Build(&schema, &[]), Call::Print(&schema, &[])] {
+                assert_eq!(Error::new(refusal, call).number(), number);
+            }
         }
     }
 }

@@ -1,6 +1,6 @@
 //! Refusals in plain words.
-use super::{ColumnLabel, Error, Misfit, SchemaFault};
-use crate::{DataType, Date, Time, Timestamp, MAX_LENGTH};
+use super::{ColumnLabel, Error, Misfit, RowListFault, SchemaFault};
+use crate::{DataType, Date, RowList, Time, Timestamp, MAX_LENGTH};
 use core::fmt;
 
 impl fmt::Display for ColumnLabel {
@@ -24,6 +24,18 @@ impl fmt::Display for SchemaFault {
             SchemaFault::SameName { column } => {
                 write!(f, "{column}: an earlier column has this name")
             }
+        }
+    }
+}
+
+impl fmt::Display for RowListFault {
+    fn fmt(&self, f: &mut fmt::Formatter<'_>) -> fmt::Result {
+        match self {
+            RowListFault::TooManyBytes(bytes) => {
+                write!(f, "{bytes} bytes, but {} are the most", RowList::MAX_BYTES)
+            }
+            RowListFault::TooManyRows => write!(f, "more than {} rows", RowList::MAX_ROWS),
+            RowListFault::CutOff { row } => write!(f, "row {row} is cut off"),
         }
     }
 }
@@ -96,6 +108,17 @@ impl Error {
             Error::RowLimit => write!(f, "the row would pass 65535 bytes"),
             Error::NoRoom => write!(f, "the buffer is too short for the row"),
             Error::NotSound => write!(f, "the row is not sound, so it cannot be edited"),
+            Error::BadRowList { fault } => write!(f, "row list: {fault}"),
+            Error::Unprintable { column, byte: b'"' } => {
+                write!(f, "{column}: a double quote cannot be printed")
+            }
+            Error::Unprintable { column, byte } => {
+                write!(f, "{column}: the byte {byte:02X} cannot be printed")
+            }
+            Error::ListedRow { row, cause } => {
+                write!(f, "row {row}: ")?;
+                cause.reason(f)
+            }
             Error::Unknown { place, .. } => write!(
                 f,
                 "the library refuses at {place} for a reason that rook_row {} does not know",

@@ -8,6 +8,7 @@ pub mod list;
 pub mod made;
 pub mod pair;
 pub mod row;
+pub mod row_list;
 pub mod schema;
 pub mod text;
 pub mod value;

@@ -259,6 +259,20 @@ impl Attack {
         };
         self.run(Call::TextCheck, lent, port, |[]| judge(text))
     }
+
+    pub(super) fn occupations_print(&mut self, list: &[u8], out: &[u8]) -> Told {
+        let judge = self.judge.occupations_print;
+        let lent = Lent {
+            inputs: [(Role::RowList, list)],
+            outputs: [(Role::Output, out)],
+            numbers: [0, 0],
+        };
+        let port = |[l]: [Part; 1], [o]: [Part; 1]| unsafe {
+            let answer = port::rook_occupations_print(l.pointer, l.length, o.pointer, o.length);
+            told!(answer, length)
+        };
+        self.run(Call::OccupationsPrint, lent, port, |[out]| judge(list, out))
+    }
 }
 
 /// A schema, and a value list with its text area.

@@ -23,6 +23,7 @@ pub struct Judge {
     pub same_content: fn(&[u8], &[u8], &[u8]) -> Told,
     pub is_null: fn(&[u8], usize) -> Told,
     pub text_check: fn(&[u8]) -> Told,
+    pub occupations_print: fn(&[u8], &mut [u8]) -> Told,
 }
 
 /// An answer of the port or of a judge, by the fields that it hands out.
@@ -73,6 +74,7 @@ macro_rules! judge {
                 let answer = $model::text_check(text);
                 checked(answer.valid, answer.points)
             },
+            occupations_print: |list, out| told!($model::occupations_print(list, out), length),
         }
     };
 }

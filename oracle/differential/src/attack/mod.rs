@@ -28,10 +28,11 @@ pub enum Call {
     SameContent,
     IsNull,
     TextCheck,
+    OccupationsPrint,
 }
 
 impl Call {
-    pub const ALL: [Call; 11] = [
+    pub const ALL: [Call; 12] = [
         Call::Fresh,
         Call::Build,
         Call::Read,
@@ -43,6 +44,7 @@ impl Call {
         Call::SameContent,
         Call::IsNull,
         Call::TextCheck,
+        Call::OccupationsPrint,
     ];
 
     pub fn name(self) -> &'static str {
@@ -58,6 +60,7 @@ impl Call {
             Call::SameContent => "rook_row_same_content",
             Call::IsNull => "rook_row_is_null",
             Call::TextCheck => "rook_text_check",
+            Call::OccupationsPrint => "rook_occupations_print",
         }
     }
 }

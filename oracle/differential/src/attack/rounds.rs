@@ -13,6 +13,7 @@ use cases::generate::history::history;
 use cases::generate::list::any_list;
 use cases::generate::pair::any_pair;
 use cases::generate::row::{any_column, any_row, sound_row};
+use cases::generate::row_list;
 use cases::generate::schema::any_schema;
 use cases::generate::wanted::any_wanted;
 use cases::history;
@@ -27,6 +28,10 @@ const BYTES: usize = 60_000;
 /// The least calls of a round, whatever they take.
 const LEAST: usize = 6;
 
+/// The most bytes of a printed line, and the least that a row takes in a list.
+const LONGEST_LINE: usize = 126;
+const SHORTEST_ROW: usize = 27;
+
 /// What stands in an output before a call.
 static NOISE: LazyLock<Vec<u8>> = LazyLock::new(|| Rng::new(0).bytes(3 * LIMIT));
 
@@ -36,7 +41,7 @@ fn noise(rng: &mut Rng, length: usize) -> &'static [u8] {
 }
 
 /// Each call as often as it is to be tried.
-const TRIED: [Call; 18] = [
+const TRIED: [Call; 19] = [
     Call::Fresh,
     Call::Build,
     Call::Build,
@@ -55,6 +60,7 @@ const TRIED: [Call; 18] = [
     Call::SameContent,
     Call::IsNull,
     Call::TextCheck,
+    Call::OccupationsPrint,
 ];
 
 /// The columns of a schema, by its bytes and their number.
@@ -84,6 +90,8 @@ struct Given {
     builds: [(Columns, ValueList); 2],
     schemas: [Vec<u8>; 2],
     texts: [Vec<u8>; 2],
+    /// Of platform occupations.
+    row_list: Vec<u8>,
     /// The row that edits are made on, in a buffer.
     buffer: Vec<u8>,
     length: usize,
@@ -113,6 +121,7 @@ impl Given {
             ],
             schemas: [any_schema(rng).1.bytes, schema.clone()],
             texts: [(); 2].map(|()| text::text(rng).1),
+            row_list: row_list::any_list(rng).1,
             buffer: rows[1].clone(),
             length: rows[1].len(),
             last: [0; Call::ALL.len()],
@@ -267,6 +276,11 @@ impl Attack {
                 let text = &given.texts[rng.below(2)];
                 let text = self.varied(rng, text, 2);
                 self.text_check(&text)
+            }
+            Call::OccupationsPrint => {
+                let list = self.varied(rng, &given.row_list, 3);
+                let room = room(rng, last, LONGEST_LINE * list.len().div_ceil(SHORTEST_ROW));
+                self.occupations_print(&list, noise(rng, room))
             }
         }
     }

@@ -22,6 +22,8 @@ pub enum Role {
     Text,
     /// Column numbers.
     Wanted,
+    /// Rows with their lengths.
+    RowList,
     /// What a call writes its result to, or the buffer that it edits.
     Output,
     /// Numbers of 32 bits that a call writes.
@@ -30,13 +32,14 @@ pub enum Role {
 }
 
 impl Role {
-    const ALL: [Role; 9] = [
+    const ALL: [Role; 10] = [
         Role::Schema,
         Role::Row,
         Role::OtherRow,
         Role::Values,
         Role::Text,
         Role::Wanted,
+        Role::RowList,
         Role::Output,
         Role::Counts,
         Role::Handle,

@@ -8,13 +8,14 @@ pub mod edit;
 pub mod fresh;
 pub mod layout;
 pub mod null_flag;
+pub mod printed;
 pub mod read;
 pub mod rows;
 pub mod same_content;
 pub mod text;
 pub mod value;
 
-pub const ALL: [Comparison; 12] = [
+pub const ALL: [Comparison; 13] = [
     ("text", text::compare),
     ("schema and layout", layout::compare),
     ("null flag", null_flag::compare),
@@ -27,4 +28,5 @@ pub const ALL: [Comparison; 12] = [
     ("fresh", fresh::compare),
     ("build", build::compare),
     ("edit", edit::compare),
+    ("printed list", printed::compare),
 ];

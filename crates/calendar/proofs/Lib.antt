@@ -1,0 +1,7 @@
+pub mod Years
+pub mod Months
+pub mod Dates
+pub mod Since
+pub mod Texts
+pub mod Worked
+pub mod Next

@@ -1,0 +1,44 @@
+-- `read` meets its contract.
+use mathlib.Core.Path.{refl, sym, _∙_}
+use denote.Ref.{now}
+use Rattle.error.specs.Result.{refused}
+use Rattle.row_format.specs.Places.{rowLimit}
+use Rattle.row_column.proofs.Walk.{frame-walked}
+use Rattle.row_column.proofs.Framing.{frame-refused, frame-good}
+use Rattle.occupation.specs.Occupation.{columns}
+use Rattle.occupation.specs.InnerRead.{withPlatform}
+use Rattle.occupation.proofs.Rows.{long-enough, by-frame}
+use borrow.Author.Needs.{needs}
+use Rattle.occupation.proofs.read.Statement.{statement}
+use Rattle.occupation.proofs.read.Tie as tie
+use Rattle.occupation.proofs.read.Reads as reads
+use Rattle.occupation.proofs.read.Lts as lts
+use Rattle.occupation.proofs.read_columns.Reads as read-columns-reads
+use Rattle.row_column.proofs.check_frame.Reads as check-frame-reads
+
+check-frame-requires : tie.Need-check-frame-requires
+check-frame-requires c κs = search needs
+
+enum-known-e : tie.Need-enum-known-e
+enum-known-e c = search needs
+
+enum-told : tie.Need-enum-told
+enum-told c = search needs
+
+read-columns-requires : tie.Need-read-columns-requires
+read-columns-requires c κs = let r = now (c .before .before .before .before .args .row) in long-enough r (frame-walked rowLimit columns r refl ∙ (sym (c .before .before .check-frame .ensures) ∙ c .enum-told .given .1))
+
+returns : tie.Need-returns
+returns c =
+    let r = now (c .before .before .before .before .before .args .row) in
+    (frame-refused rowLimit columns r refl refused (λ p. withPlatform r) (sym (c .before .before .before .check-frame .ensures) ∙ c .before .e .given .1) ∙ by-frame r, tt)
+
+returns-2 : tie.Need-returns-2
+returns-2 c =
+    let r = now (c .before .before .before .before .before .args .row) in
+    (c .read-columns .ensures .0 ∙ (frame-good rowLimit columns r refl refused (λ p. withPlatform r) (sym (c .before .before .before .check-frame .ensures) ∙ c .before .enum-told .given .1) ∙ by-frame r), c .read-columns .ensures .1)
+
+pub read-spec : {M : Type 1} → statement M
+read-spec =
+    tie.close
+    (tie.spec check-frame-requires enum-known-e enum-told read-columns-requires returns returns-2)

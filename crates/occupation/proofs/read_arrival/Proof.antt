@@ -1,0 +1,36 @@
+use borrow.Author.Needs.{needs}
+use Rattle.occupation.proofs.read_arrival.Statement.{statement}
+use Rattle.occupation.proofs.read_arrival.Tie as tie
+use Rattle.occupation.proofs.read_arrival.Reads as reads
+use Rattle.occupation.proofs.read_arrival.Lts as lts
+use Rattle.occupation.proofs.read_departure.Reads as read-departure-reads
+use Rattle.occupation.proofs.read_moment.Reads as read-moment-reads
+
+read-moment-requires : tie.Need-read-moment-requires
+read-moment-requires c κs = search needs
+
+enum-known-e : tie.Need-enum-known-e
+enum-known-e c = search needs
+
+enum-known-arrival : tie.Need-enum-known-arrival
+enum-known-arrival c = search needs
+
+read-departure-requires : tie.Need-read-departure-requires
+read-departure-requires c κs = let p = c .before .before .before .before .before .pre in (p .0, (p .1 .0, (p .1 .1, rw (c .before .arrival .given .1) at (c .before .before .before .read-moment .ensures .1))))
+
+returns : tie.Need-returns
+returns c = (rw (← c .before .before .before .read-moment .ensures .0, c .before .e .given .1), tt)
+
+returns-2 : tie.Need-returns-2
+returns-2 c = (rw (← c .before .before .before .before .read-moment .ensures .0, c .before .before .arrival .given .1) (c .read-departure .ensures .0), c .read-departure .ensures .1)
+
+pub read-arrival-spec : {M : Type 1} → statement M
+read-arrival-spec =
+    tie.close
+    (tie.spec
+    read-moment-requires
+    enum-known-e
+    enum-known-arrival
+    read-departure-requires
+    returns
+    returns-2)

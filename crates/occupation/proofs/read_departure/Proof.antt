@@ -1,0 +1,38 @@
+use borrow.Author.Needs.{needs}
+use Rattle.occupation.proofs.read_departure.Statement.{statement}
+use Rattle.occupation.proofs.read_departure.Tie as tie
+use Rattle.occupation.proofs.read_departure.Reads as reads
+use Rattle.occupation.proofs.read_departure.Lts as lts
+use Rattle.occupation.proofs.check_texts.Reads as check-texts-reads
+use Rattle.occupation.proofs.read_moment.Reads as read-moment-reads
+
+read-moment-requires : tie.Need-read-moment-requires
+read-moment-requires c κs = search needs
+
+enum-known-e : tie.Need-enum-known-e
+enum-known-e c = search needs
+
+enum-known-departure : tie.Need-enum-known-departure
+enum-known-departure c = search needs
+
+check-texts-requires : tie.Need-check-texts-requires
+check-texts-requires c κs =
+    let p = c .before .before .before .before .before .pre in
+    record { platform-in = p .1 .0; unit-in = p .1 .1 .0; arrival-in = p .1 .1 .1; departure-in = rw (c .before .departure .given .1) at (c .before .before .before .read-moment .ensures .1) }
+
+returns : tie.Need-returns
+returns c = (rw (← c .before .before .before .read-moment .ensures .0, c .before .e .given .1), tt)
+
+returns-2 : tie.Need-returns-2
+returns-2 c = (rw (← c .before .before .before .before .read-moment .ensures .0, c .before .before .departure .given .1) (c .check-texts .ensures .0), c .check-texts .ensures .1)
+
+pub read-departure-spec : {M : Type 1} → statement M
+read-departure-spec =
+    tie.close
+    (tie.spec
+    read-moment-requires
+    enum-known-e
+    enum-known-departure
+    check-texts-requires
+    returns
+    returns-2)

@@ -1,0 +1,11 @@
+pub mod Ordering
+pub mod Levels
+pub mod Results
+pub mod Rows
+pub mod Reading
+pub mod Lines
+pub mod Printed
+pub mod Report
+pub mod AsRead
+pub mod Text
+pub mod Example

@@ -1,0 +1,9 @@
+pub mod Sorted
+pub mod Framing
+pub mod Printable
+pub mod Shown
+pub mod Refusals
+pub mod Room
+pub mod AsRead
+pub mod Text
+pub mod Example
