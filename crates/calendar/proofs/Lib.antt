@@ -3,5 +3,4 @@ pub mod Months
 pub mod Dates
 pub mod Since
 pub mod Texts
-pub mod Worked
 pub mod Next

@@ -10,6 +10,7 @@ use mir.Syntax.{w64}
 use mir.Val.{toZ}
 use mir.ValLaws.{toZ-pos}
 use borrow.Author.Tests.{ltb-true, ltb-false, leb-true, lt-ltb, le-ltb, le-leb, lt-leb}
+use Rattle.laws.proofs.Truths.{same-ltb}
 use Rattle.temporal.specs.Ranges.{isTimestamp}
 use Rattle.calendar.specs.declared.Moment.the-variants.{Micros, OutOfRange}
 use Rattle.calendar.specs.Moment.{sinceYearOne}
@@ -27,19 +28,15 @@ pub since-lt : (z : ℤ) → isTimestamp z ≡ true → sinceYearOne z < 3155378
 since-lt (pos n) h = omega (arith, most n h)
 since-lt (negsuc n) h = omega arith
 
-same-test : (a b c d : ℕ) → (a < b → c < d) → (b ≤ a → d ≤ c) → (t : Bool) → ltb a b ≡ t → ltb a b ≡ ltb c d
-same-test a b c d f g true e = e ∙ sym (lt-ltb c d (f (ltb-true a b e)))
-same-test a b c d f g false e = e ∙ sym (le-ltb c d (g (ltb-false a b e)))
-
 -- it keeps the order
 pub since-order : (y z : ℤ) → isTimestamp y ≡ true → isTimestamp z ≡ true → ltZ y z ≡ ltb (sinceYearOne y) (sinceYearOne z)
-since-order (pos m) (pos n) h k = same-test m n (m + 62135596800000000) (n + 62135596800000000) (omega arith) (omega arith) (ltb m n) refl
+since-order (pos m) (pos n) h k = same-ltb m n (m + 62135596800000000) (n + 62135596800000000) (λ h. omega arith) (λ h. omega arith)
 since-order (pos m) (negsuc n) h k = sym (le-ltb (m + 62135596800000000) (62135596799999999 - n) (omega arith))
 since-order (negsuc m) (pos n) h k = sym (lt-ltb (62135596799999999 - m) (n + 62135596800000000) (omega arith))
 since-order (negsuc m) (negsuc n) h k =
     let a = least m _ refl h in
     let b = least n _ refl k in
-    same-test n m (62135596799999999 - m) (62135596799999999 - n) (omega arith) (omega arith) (ltb n m) refl
+    same-ltb n m (62135596799999999 - m) (62135596799999999 - n) (λ h. omega arith) (λ h. omega arith)
 
 pub since-inj : (y z : ℤ) → isTimestamp y ≡ true → isTimestamp z ≡ true → sinceYearOne y ≡ sinceYearOne z → y ≡ z
 since-inj (pos m) (pos n) h k e = ap pos (omega arith)

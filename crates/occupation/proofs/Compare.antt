@@ -11,7 +11,8 @@ use lib.Seq.{drop-cons}
 use lib.ListN.{drop-of-length-le}
 use borrow.Author.Tests.{eq-eqb, ne-eqb, lt-ltb, le-ltb}
 use Rattle.occupation.specs.declared.Comparison.the-variants.{Less, Equal, Greater}
-use Rattle.occupation.specs.Order.{bytesBefore, nullFirst}
+use Rattle.occupation.specs.Occupation.{Occupation}
+use Rattle.occupation.specs.Order.{bytesBefore, nullFirst, precedes}
 use Rattle.occupation.specs.declared.Comparison.{Comparison}
 use Rattle.occupation.specs.InnerFields.{spanned, momentFrom}
 use Rattle.laws.proofs.Truths.{same-ltb}
@@ -103,26 +104,20 @@ module _ (r r' : List ℕ) (s e s' e' : ℕ) where
 
 -- ---- then arrivals
 
-abbrev rank : Comparison → ℕ
-rank Less = 0
-rank Equal = 1
-rank Greater = 2
+abbrev pub decided : Comparison → Bool → Bool
+decided Less t = true
+decided Greater t = false
+decided Equal t = t
 
-module _ (z : Bool) where
-  pub first-less : (x y : Bool) → comparison x y ≡ Less → true ≡ cond x true (cond y false z)
-  first-less true y e = refl
-  first-less false true e = absurd (let k : 2 ≡ 0 = ap rank e in omega arith)
-  first-less false false e = absurd (let k : 1 ≡ 0 = ap rank e in omega arith)
+decided-is : (x y t : Bool) → decided (comparison x y) t ≡ cond x true (cond y false t)
+decided-is true y t = refl
+decided-is false true t = refl
+decided-is false false t = refl
 
-  pub first-greater : (x y : Bool) → comparison x y ≡ Greater → false ≡ cond x true (cond y false z)
-  first-greater true y e = absurd (let k : 0 ≡ 2 = ap rank e in omega arith)
-  first-greater false true e = refl
-  first-greater false false e = absurd (let k : 1 ≡ 2 = ap rank e in omega arith)
-
-  pub first-equal : (x y : Bool) → comparison x y ≡ Equal → z ≡ cond x true (cond y false z)
-  first-equal true y e = absurd (let k : 0 ≡ 1 = ap rank e in omega arith)
-  first-equal false true e = absurd (let k : 2 ≡ 1 = ap rank e in omega arith)
-  first-equal false false e = refl
+pub by-both : (a b : Occupation) {c : Comparison} → c ≡ both (a .platform) (b .platform) → decided c (nullFirst ltb (a .arrival) (b .arrival)) ≡ precedes a b
+by-both a b e =
+    let t = nullFirst ltb (a .arrival) (b .arrival) in
+    ap (λ c. decided c t) e ∙ decided-is (nullFirst bytesBefore (a .platform) (b .platform)) (nullFirst bytesBefore (b .platform) (a .platform)) t
 
 pub moments : (a b : ℕ) → ltb a b ≡ nullFirst ltb (momentFrom a) (momentFrom b)
 moments zero zero = refl

@@ -94,11 +94,7 @@ printed o h = not-refused o (hasUnprintable (o .platform)) (hasUnprintable (o .u
 
 module _ (n i : ℕ) (r : List ℕ) (w : Inside r (textRangeIn r i)) where
   not-both : {A : Type 0} {e : Refusal} {t : Option (List ℕ)} → refused e ≡ textColumn n i r → textColumn n i r ≡ ok t → A
-  not-both p q = absurd (false≢true (ap isRead (p ∙ q)))
-    where
-      isRead : Result (Option (List ℕ)) → Bool
-      isRead (ok x) = true
-      isRead (refused x) = false
+  not-both p q = absurd (false≢true (ap isGood (p ∙ q)))
 
   pub text-again : {t : Option (List ℕ)} → textColumn n i r ≡ ok t → (t ≡ shownIn r (spanOf (textRangeIn r i))) × SpanIn (length r) n (spanOf (textRangeIn r i) .start) (spanOf (textRangeIn r i) .end)
   text-again {t} h = go (textRangeIn r i) refl
@@ -120,11 +116,7 @@ module _ (n i : ℕ) (r : List ℕ) (w : Inside r (textRangeIn r i)) where
 
 pub moment-again : (m : MomentRead) {t : Option ℕ} → momentShown m ≡ ok t → MomentIn m → (t ≡ momentFrom (countOf m)) × (countOf m ≤ momentLimit)
 moment-again (Moment.Good n) h w = (sym cc, w)
-moment-again (Moment.Refused e) h w = absurd (false≢true (ap isRead h))
-  where
-    isRead : Result (Option ℕ) → Bool
-    isRead (ok x) = true
-    isRead (refused x) = false
+moment-again (Moment.Refused e) h w = absurd (false≢true (ap isGood h))
 
 module _ (r : List ℕ) (w : Inside r (textRangeIn r 0)) (w' : Inside r (textRangeIn r 1)) (a d : MomentRead) (ea : momentShown a ≡ momentColumn 2 9 r) (ed : momentShown d ≡ momentColumn 3 17 r) (wa : MomentIn a) (wd : MomentIn d)
     (h : isGood (occupationIn r) ≡ true) where

@@ -62,8 +62,8 @@ abbrev pub ReadIn : ℕ → FieldsRead → Type 0
 ReadIn n (Good f) = FieldsIn n f
 ReadIn n (Refused e) = Unit {0}
 
--- a row that can be printed
-abbrev pub isGood : Result Occupation → Bool
+-- a row that can be printed, or a column that can be read
+abbrev pub isGood : {A : Type 0} → Result A → Bool
 isGood (ok o) = true
 isGood (refused e) = false
 

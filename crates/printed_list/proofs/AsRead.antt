@@ -24,6 +24,7 @@ use Rattle.row_column.specs.declared.Frame.the-variants as Frame
 use Rattle.row_column.specs.Frame.{frameOf, onFrame}
 use Rattle.row_decode.specs.Read.{readFrom, handOut, readRow, readCall}
 use Rattle.occupation.specs.Occupation.{Occupation, columns, occupationOf, hasUnprintable, printable, occupationIn}
+use Rattle.occupation.specs.InnerFields.{isGood}
 use Rattle.printed_list.specs.AsRead.{occupationSchema, allColumns, RefusedAsRead}
 
 columns-are : schemaOf offsetWidth rowLimit occupationSchema ≡ ok columns
@@ -41,11 +42,7 @@ same-answer {e} {q} h = let a : Answer.Refused e ≡ Answer.Refused q = ap (λ (
 not-printable : (s t : Bool) (o : Occupation) {e : Refusal} → cond s (refused (Unprintable 0)) (cond t (refused (Unprintable 1)) (ok o)) ≡ refused e → numberOf e ≡ 17
 not-printable true t o h = ap numberOf (sym (same-refusal h))
 not-printable false true o h = ap numberOf (sym (same-refusal h))
-not-printable false false o h = absurd (false≢true (ap isOk (sym h)))
-  where
-    isOk : Result Occupation → Bool
-    isOk (ok x) = true
-    isOk (refused x) = false
+not-printable false false o h = absurd (false≢true (ap isGood (sym h)))
 
 no-room : (t : Bool) (n : ℕ) (x y : List ℕ × List ℕ) {e : Refusal} {z : List ℕ × List ℕ} → _≡_ {A = Counted} (cond t (Answer.Refused NoRoom, x) (Answer.Done n, y)) (Answer.Refused e, z) → numberOf e ≡ 14
 no-room true n x y h = ap numberOf (sym (same-answer h))

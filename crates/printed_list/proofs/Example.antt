@@ -4,8 +4,12 @@ use Rattle.row_format.specs.Table.{rangeEnd}
 use Rattle.text.specs.Rfc3629.{octets}
 use Rattle.calendar.specs.Calendar.{isLeap, monthDays, dateOf}
 use Rattle.calendar.specs.Moment.{secondText, momentText}
-use Rattle.printed_list.specs.Example.{table, Worked}
+use Rattle.printed_list.specs.Example.{table, moments, Worked, WorkedMoments}
 
 pub worked : Worked
 unfolding table rangeEnd octets isLeap monthDays dateOf secondText momentText
 worked = refl
+
+pub worked-moments : WorkedMoments
+unfolding moments isLeap monthDays dateOf secondText momentText
+worked-moments = refl

@@ -1,11 +1,13 @@
--- 02, request 2, worked out: lists, and all that the program prints of each. FORMAT 10.6.
+-- 02, request 2, worked out: lists, and all that the program prints of each; moments. FORMAT 10.3, 10.6.
 use Prim.Native.Nat.{ℕ, _-_}
 use Prim.Native.Char.{code}
 use Prim.Native.String.{String, [] as end, _∷_ as _then_}
 use mathlib.Core.Path.{_≡_}
 use mathlib.Core.List.{List, [], _∷_, _++_, map}
+use lib.IntN.{ℤ, pos, negsuc}
 use lib.ListN.{length, take, drop, replicate}
 use Rattle.laws.specs.Bytes.{concat}
+use Rattle.calendar.specs.Moment.{momentText, sinceYearOne}
 use Rattle.occupation_list.specs.Print.{report}
 
 abbrev pub ascii : String → List ℕ
@@ -89,3 +91,24 @@ table =
 
 abbrev pub Worked : Type 0
 Worked = map (λ c. report (c .input)) table ≡ map (λ c. c .output) table
+
+-- ---- moments: the first and the last, leap years and full centuries, the second before 1970
+
+pub record MomentCase : Type 0 where
+  pub micros : ℤ
+  pub output : List ℕ
+
+unfoldable pub moments : List MomentCase
+moments =
+    record { micros = negsuc 62135596799999999; output = ascii "0001-01-01 00:00:00" }
+    ∷ record { micros = negsuc 2203891200999999; output = ascii "1900-02-28 23:59:59" }
+    ∷ record { micros = negsuc 2203891199999999; output = ascii "1900-03-01 00:00:00" }
+    ∷ record { micros = negsuc 0; output = ascii "1969-12-31 23:59:59" }
+    ∷ record { micros = pos 0; output = ascii "1970-01-01 00:00:00" }
+    ∷ record { micros = pos 951782400000000; output = ascii "2000-02-29 00:00:00" }
+    ∷ record { micros = pos 4107542400000000; output = ascii "2100-03-01 00:00:00" }
+    ∷ record { micros = pos 253402300799999999; output = ascii "9999-12-31 23:59:59" }
+    ∷ []
+
+abbrev pub WorkedMoments : Type 0
+WorkedMoments = map (λ c. momentText (sinceYearOne (c .micros))) moments ≡ map (λ c. c .output) moments

@@ -4,9 +4,6 @@ use Rattle.occupation.proofs.Texts.{shown-unprintable}
 use borrow.Author.Needs.{needs}
 use Rattle.occupation.proofs.check_texts.Statement.{statement}
 use Rattle.occupation.proofs.check_texts.Tie as tie
-use Rattle.occupation.proofs.check_texts.Reads as reads
-use Rattle.occupation.proofs.check_texts.Lts as lts
-use Rattle.occupation.proofs.is_unprintable.Reads as is-unprintable-reads
 
 sub-is-unprintable : tie.Need-sub-is-unprintable
 sub-is-unprintable c = search needs

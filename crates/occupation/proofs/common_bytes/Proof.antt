@@ -6,8 +6,6 @@ use borrow.Author.Needs.{needs}
 use Rattle.occupation.proofs.Compare.{Alike, starts, next, stops}
 use Rattle.occupation.proofs.common_bytes.Statement.{statement}
 use Rattle.occupation.proofs.common_bytes.Tie as tie
-use Rattle.occupation.proofs.common_bytes.Reads as reads
-use Rattle.occupation.proofs.common_bytes.Lts as lts
 
 abbrev Inv-loop : tie.InvT-loop
 Inv-loop a b i₀ i = Alike a b i

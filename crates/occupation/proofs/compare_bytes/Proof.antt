@@ -3,9 +3,6 @@ use Rattle.occupation.proofs.Compare.{equal, longer, shorter, lower, hi
 use borrow.Author.Needs.{needs}
 use Rattle.occupation.proofs.compare_bytes.Statement.{statement}
 use Rattle.occupation.proofs.compare_bytes.Tie as tie
-use Rattle.occupation.proofs.compare_bytes.Reads as reads
-use Rattle.occupation.proofs.compare_bytes.Lts as lts
-use Rattle.occupation.proofs.common_bytes.Reads as common-bytes-reads
 
 common-bytes-requires : tie.Need-common-bytes-requires
 common-bytes-requires c κs = search needs

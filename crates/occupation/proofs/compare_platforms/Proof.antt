@@ -5,9 +5,6 @@ use Rattle.occupation.proofs.Compare.{null-null, null-some, some-null, 
 use borrow.Author.Needs.{needs}
 use Rattle.occupation.proofs.compare_platforms.Statement.{statement}
 use Rattle.occupation.proofs.compare_platforms.Tie as tie
-use Rattle.occupation.proofs.compare_platforms.Reads as reads
-use Rattle.occupation.proofs.compare_platforms.Lts as lts
-use Rattle.occupation.proofs.compare_bytes.Reads as compare-bytes-reads
 
 returns : tie.Need-returns
 returns c = let a = c .before .before .before .before .args in null-null (now (a .a-row)) (now (a .b-row)) (a .a .«platform_start») (a .a .«platform_end») (a .b .«platform_start») (a .b .«platform_end») (search needs) (search needs)

@@ -7,12 +7,6 @@ use Rattle.occupation.proofs.Rows.{good-row, read-again}
 use borrow.Author.Needs.{needs}
 use Rattle.occupation.proofs.fields_of.Statement.{statement}
 use Rattle.occupation.proofs.fields_of.Tie as tie
-use Rattle.occupation.proofs.fields_of.Reads as reads
-use Rattle.occupation.proofs.fields_of.Lts as lts
-use Rattle.occupation.proofs.count_of.Reads as count-of-reads
-use Rattle.occupation.proofs.read_moment.Reads as read-moment-reads
-use Rattle.occupation.proofs.span_of.Reads as span-of-reads
-use Rattle.occupation.proofs.text_range.Reads as text-range-reads
 
 text-range-requires : tie.Need-text-range-requires
 text-range-requires c κs = let l = good-row (now (c .before .args .row)) (c .before .pre) .0 in (omega arith, omega arith)

@@ -9,8 +9,6 @@ use Rattle.occupation.specs.Occupation.{isUnprintable}
 use Rattle.occupation.proofs.Texts.{seen-next, seen-all}
 use Rattle.occupation.proofs.is_unprintable.Statement.{statement}
 use Rattle.occupation.proofs.is_unprintable.Tie as tie
-use Rattle.occupation.proofs.is_unprintable.Reads as reads
-use Rattle.occupation.proofs.is_unprintable.Lts as lts
 
 abbrev Inv-loop : tie.InvT-loop
 Inv-loop text found₀ i₀ found i = (i ≤ length text) × ((found || isUnprintable (drop i text)) ≡ isUnprintable text)

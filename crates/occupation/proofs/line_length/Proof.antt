@@ -4,10 +4,6 @@ use Rattle.occupation.proofs.Lengths.{line-short}
 use borrow.Author.Needs.{needs}
 use Rattle.occupation.proofs.line_length.Statement.{statement}
 use Rattle.occupation.proofs.line_length.Tie as tie
-use Rattle.occupation.proofs.line_length.Reads as reads
-use Rattle.occupation.proofs.line_length.Lts as lts
-use Rattle.occupation.proofs.moment_length.Reads as moment-length-reads
-use Rattle.occupation.proofs.text_length.Reads as text-length-reads
 
 text-length-requires : tie.Need-text-length-requires
 text-length-requires c κs = search needs

@@ -1,8 +1,6 @@
 use Rattle.laws.proofs.Tests.{by-tests}
 use Rattle.occupation.proofs.moment_length.Statement.{statement}
 use Rattle.occupation.proofs.moment_length.Tie as tie
-use Rattle.occupation.proofs.moment_length.Reads as reads
-use Rattle.occupation.proofs.moment_length.Lts as lts
 
 returns : tie.Need-returns
 returns c = search by-tests depth 4

@@ -1,16 +1,11 @@
 -- `precedes` meets its contract.
 use mathlib.Core.Path.{sym, _∙_}
 use denote.Ref.{now}
-use lib.Dec.{ltb}
-use Rattle.occupation.specs.Order.{bytesBefore, nullFirst}
-use Rattle.occupation.specs.InnerFields.{momentFrom, fieldsShown}
-use Rattle.occupation.proofs.Compare.{first-less, first-greater, first-equal, moments}
+use Rattle.occupation.specs.InnerFields.{fieldsShown}
+use Rattle.occupation.proofs.Compare.{by-both, moments}
 use borrow.Author.Needs.{needs}
 use Rattle.occupation.proofs.precedes.Statement.{statement}
 use Rattle.occupation.proofs.precedes.Tie as tie
-use Rattle.occupation.proofs.precedes.Reads as reads
-use Rattle.occupation.proofs.precedes.Lts as lts
-use Rattle.occupation.proofs.compare_platforms.Reads as compare-platforms-reads
 
 compare-platforms-requires : tie.Need-compare-platforms-requires
 compare-platforms-requires c κs = search needs
@@ -25,19 +20,15 @@ enum-told-3 : tie.Need-enum-told-3
 enum-told-3 c = search needs
 
 returns : tie.Need-returns
-returns c =
-    let a = c .before .before .before .before .before .args in
-    first-less (nullFirst ltb (momentFrom (a .a .arrival)) (momentFrom (a .b .arrival))) (nullFirst bytesBefore (fieldsShown (now (a .a-row)) (a .a) .platform) (fieldsShown (now (a .b-row)) (a .b) .platform)) (nullFirst bytesBefore (fieldsShown (now (a .b-row)) (a .b) .platform) (fieldsShown (now (a .a-row)) (a .a) .platform)) (sym (c .before .before .compare-platforms .ensures) ∙ c .enum-told .given .1)
+returns c = let a = c .before .before .before .before .before .args in by-both (fieldsShown (now (a .a-row)) (a .a)) (fieldsShown (now (a .b-row)) (a .b)) (sym (c .enum-told .given .1) ∙ c .before .before .compare-platforms .ensures)
 
 returns-2 : tie.Need-returns-2
-returns-2 c =
-    let a = c .before .before .before .before .before .args in
-    first-greater (nullFirst ltb (momentFrom (a .a .arrival)) (momentFrom (a .b .arrival))) (nullFirst bytesBefore (fieldsShown (now (a .a-row)) (a .a) .platform) (fieldsShown (now (a .b-row)) (a .b) .platform)) (nullFirst bytesBefore (fieldsShown (now (a .b-row)) (a .b) .platform) (fieldsShown (now (a .a-row)) (a .a) .platform)) (sym (c .before .before .compare-platforms .ensures) ∙ c .enum-told2 .given .1)
+returns-2 c = let a = c .before .before .before .before .before .args in by-both (fieldsShown (now (a .a-row)) (a .a)) (fieldsShown (now (a .b-row)) (a .b)) (sym (c .enum-told2 .given .1) ∙ c .before .before .compare-platforms .ensures)
 
 returns-3 : tie.Need-returns-3
 returns-3 c =
     let a = c .before .before .before .before .before .before .before .args in
-    moments (a .a .arrival) (a .b .arrival) ∙ first-equal (nullFirst ltb (momentFrom (a .a .arrival)) (momentFrom (a .b .arrival))) (nullFirst bytesBefore (fieldsShown (now (a .a-row)) (a .a) .platform) (fieldsShown (now (a .b-row)) (a .b) .platform)) (nullFirst bytesBefore (fieldsShown (now (a .b-row)) (a .b) .platform) (fieldsShown (now (a .a-row)) (a .a) .platform)) (sym (c .before .before .before .before .compare-platforms .ensures) ∙ c .before .before .enum-told3 .given .1)
+    moments (a .a .arrival) (a .b .arrival) ∙ by-both (fieldsShown (now (a .a-row)) (a .a)) (fieldsShown (now (a .b-row)) (a .b)) (sym (c .before .before .enum-told3 .given .1) ∙ c .before .before .before .before .compare-platforms .ensures)
 
 pub precedes-spec : {M : Type 1} → statement M
 precedes-spec =

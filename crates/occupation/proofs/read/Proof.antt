@@ -11,10 +11,6 @@ use Rattle.occupation.proofs.Rows.{long-enough, by-frame}
 use borrow.Author.Needs.{needs}
 use Rattle.occupation.proofs.read.Statement.{statement}
 use Rattle.occupation.proofs.read.Tie as tie
-use Rattle.occupation.proofs.read.Reads as reads
-use Rattle.occupation.proofs.read.Lts as lts
-use Rattle.occupation.proofs.read_columns.Reads as read-columns-reads
-use Rattle.row_column.proofs.check_frame.Reads as check-frame-reads
 
 check-frame-requires : tie.Need-check-frame-requires
 check-frame-requires c κs = search needs

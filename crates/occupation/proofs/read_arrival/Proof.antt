@@ -1,10 +1,6 @@
 use borrow.Author.Needs.{needs}
 use Rattle.occupation.proofs.read_arrival.Statement.{statement}
 use Rattle.occupation.proofs.read_arrival.Tie as tie
-use Rattle.occupation.proofs.read_arrival.Reads as reads
-use Rattle.occupation.proofs.read_arrival.Lts as lts
-use Rattle.occupation.proofs.read_departure.Reads as read-departure-reads
-use Rattle.occupation.proofs.read_moment.Reads as read-moment-reads
 
 read-moment-requires : tie.Need-read-moment-requires
 read-moment-requires c κs = search needs

@@ -1,10 +1,6 @@
 use borrow.Author.Needs.{needs}
 use Rattle.occupation.proofs.read_columns.Statement.{statement}
 use Rattle.occupation.proofs.read_columns.Tie as tie
-use Rattle.occupation.proofs.read_columns.Reads as reads
-use Rattle.occupation.proofs.read_columns.Lts as lts
-use Rattle.occupation.proofs.read_text.Reads as read-text-reads
-use Rattle.occupation.proofs.read_unit.Reads as read-unit-reads
 
 read-text-requires : tie.Need-read-text-requires
 read-text-requires c κs = search needs

@@ -1,10 +1,6 @@
 use borrow.Author.Needs.{needs}
 use Rattle.occupation.proofs.read_departure.Statement.{statement}
 use Rattle.occupation.proofs.read_departure.Tie as tie
-use Rattle.occupation.proofs.read_departure.Reads as reads
-use Rattle.occupation.proofs.read_departure.Lts as lts
-use Rattle.occupation.proofs.check_texts.Reads as check-texts-reads
-use Rattle.occupation.proofs.read_moment.Reads as read-moment-reads
 
 read-moment-requires : tie.Need-read-moment-requires
 read-moment-requires c κs = search needs

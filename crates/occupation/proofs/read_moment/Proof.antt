@@ -16,11 +16,6 @@ use Rattle.occupation.proofs.Reading.{momentRead, moment-null, moment-t
 use borrow.Author.Needs.{needs}
 use Rattle.occupation.proofs.read_moment.Statement.{statement}
 use Rattle.occupation.proofs.read_moment.Tie as tie
-use Rattle.occupation.proofs.read_moment.Reads as reads
-use Rattle.occupation.proofs.read_moment.Lts as lts
-use Rattle.calendar.proofs.moment_of.Reads as moment-of-reads
-use Rattle.endian.proofs.read_u64.Reads as read-u64-reads
-use Rattle.null_bitmap.proofs.column_bit_is_set.Reads as column-bit-is-set-reads
 
 column-bit-is-set-requires : tie.Need-column-bit-is-set-requires
 column-bit-is-set-requires c κs = search needs

@@ -7,10 +7,6 @@ use Rattle.occupation.proofs.Reading.{text-long, text-good, text-bad, t
 use borrow.Author.Needs.{needs}
 use Rattle.occupation.proofs.read_text.Statement.{statement}
 use Rattle.occupation.proofs.read_text.Tie as tie
-use Rattle.occupation.proofs.read_text.Reads as reads
-use Rattle.occupation.proofs.read_text.Lts as lts
-use Rattle.occupation.proofs.text_range.Reads as text-range-reads
-use Rattle.text.proofs.is_valid.Reads as is-valid-reads
 
 text-range-requires : tie.Need-text-range-requires
 text-range-requires c κs = search needs

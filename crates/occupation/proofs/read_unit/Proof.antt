@@ -1,10 +1,6 @@
 use borrow.Author.Needs.{needs}
 use Rattle.occupation.proofs.read_unit.Statement.{statement}
 use Rattle.occupation.proofs.read_unit.Tie as tie
-use Rattle.occupation.proofs.read_unit.Reads as reads
-use Rattle.occupation.proofs.read_unit.Lts as lts
-use Rattle.occupation.proofs.read_arrival.Reads as read-arrival-reads
-use Rattle.occupation.proofs.read_text.Reads as read-text-reads
 
 read-text-requires : tie.Need-read-text-requires
 read-text-requires c κs = search needs

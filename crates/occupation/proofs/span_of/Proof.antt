@@ -1,8 +1,6 @@
 use borrow.Author.Needs.{needs}
 use Rattle.occupation.proofs.span_of.Statement.{statement}
 use Rattle.occupation.proofs.span_of.Tie as tie
-use Rattle.occupation.proofs.span_of.Reads as reads
-use Rattle.occupation.proofs.span_of.Lts as lts
 
 enum-told : tie.Need-enum-told
 enum-told c = search needs

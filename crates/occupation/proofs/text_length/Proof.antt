@@ -2,8 +2,6 @@ use Rattle.laws.proofs.Tests.{by-tests}
 use borrow.Author.Needs.{needs}
 use Rattle.occupation.proofs.text_length.Statement.{statement}
 use Rattle.occupation.proofs.text_length.Tie as tie
-use Rattle.occupation.proofs.text_length.Reads as reads
-use Rattle.occupation.proofs.text_length.Lts as lts
 
 returns : tie.Need-returns
 returns c = search by-tests depth 4

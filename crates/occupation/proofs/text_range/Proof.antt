@@ -2,10 +2,6 @@ use Rattle.laws.proofs.Tests.{by-tests}
 use borrow.Author.Needs.{needs}
 use Rattle.occupation.proofs.text_range.Statement.{statement}
 use Rattle.occupation.proofs.text_range.Tie as tie
-use Rattle.occupation.proofs.text_range.Reads as reads
-use Rattle.occupation.proofs.text_range.Lts as lts
-use Rattle.null_bitmap.proofs.column_bit_is_set.Reads as column-bit-is-set-reads
-use Rattle.row_layout.proofs.varlen_range.Reads as varlen-range-reads
 
 column-bit-is-set-requires : tie.Need-column-bit-is-set-requires
 column-bit-is-set-requires c κs = search needs

@@ -5,10 +5,6 @@ use Rattle.occupation.proofs.Lines.{line-stored}
 use borrow.Author.Needs.{needs}
 use Rattle.occupation.proofs.write_line.Statement.{statement}
 use Rattle.occupation.proofs.write_line.Tie as tie
-use Rattle.occupation.proofs.write_line.Reads as reads
-use Rattle.occupation.proofs.write_line.Lts as lts
-use Rattle.occupation.proofs.write_moment_field.Reads as write-moment-field-reads
-use Rattle.occupation.proofs.write_text_field.Reads as write-text-field-reads
 
 write-text-field-requires : tie.Need-write-text-field-requires
 write-text-field-requires c κs = search needs

@@ -11,9 +11,6 @@ use Rattle.occupation.specs.InnerFields.{momentFrom}
 use borrow.Author.Needs.{needs}
 use Rattle.occupation.proofs.write_moment.Statement.{statement}
 use Rattle.occupation.proofs.write_moment.Tie as tie
-use Rattle.occupation.proofs.write_moment.Reads as reads
-use Rattle.occupation.proofs.write_moment.Lts as lts
-use Rattle.calendar.proofs.write_moment.Reads as write-moment-reads
 
 slice-write-out : tie.Need-slice-write-out
 slice-write-out c =

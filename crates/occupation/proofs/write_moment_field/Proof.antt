@@ -10,9 +10,6 @@ use Rattle.occupation.proofs.Lines.{length-count, byte-behind}
 use borrow.Author.Needs.{needs}
 use Rattle.occupation.proofs.write_moment_field.Statement.{statement}
 use Rattle.occupation.proofs.write_moment_field.Tie as tie
-use Rattle.occupation.proofs.write_moment_field.Reads as reads
-use Rattle.occupation.proofs.write_moment_field.Lts as lts
-use Rattle.occupation.proofs.write_moment.Reads as write-moment-reads
 
 write-moment-requires : tie.Need-write-moment-requires
 write-moment-requires c κs = search needs

@@ -7,9 +7,6 @@ use Rattle.occupation.proofs.Lines.{enclosed}
 use borrow.Author.Needs.{needs}
 use Rattle.occupation.proofs.write_quoted.Statement.{statement}
 use Rattle.occupation.proofs.write_quoted.Tie as tie
-use Rattle.occupation.proofs.write_quoted.Reads as reads
-use Rattle.occupation.proofs.write_quoted.Lts as lts
-use Rattle.endian.proofs.copy.Reads as copy-reads
 
 slice-write-out : tie.Need-slice-write-out
 slice-write-out c = search needs

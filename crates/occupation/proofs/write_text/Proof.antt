@@ -8,9 +8,6 @@ use borrow.Author.Tests.{ne-eqb}
 use borrow.Author.Needs.{needs}
 use Rattle.occupation.proofs.write_text.Statement.{statement}
 use Rattle.occupation.proofs.write_text.Tie as tie
-use Rattle.occupation.proofs.write_text.Reads as reads
-use Rattle.occupation.proofs.write_text.Lts as lts
-use Rattle.occupation.proofs.write_quoted.Reads as write-quoted-reads
 
 slice-write-out : tie.Need-slice-write-out
 slice-write-out c =

@@ -9,9 +9,6 @@ use Rattle.occupation.proofs.Lines.{length-text, byte-behind}
 use borrow.Author.Needs.{needs}
 use Rattle.occupation.proofs.write_text_field.Statement.{statement}
 use Rattle.occupation.proofs.write_text_field.Tie as tie
-use Rattle.occupation.proofs.write_text_field.Reads as reads
-use Rattle.occupation.proofs.write_text_field.Lts as lts
-use Rattle.occupation.proofs.write_text.Reads as write-text-reads
 
 write-text-requires : tie.Need-write-text-requires
 write-text-requires c κs = search needs
