@@ -1,5 +1,6 @@
 /* Every call once, from C, and a refusal of each. The columns are Int, Varchar(5), SmallInt; where code points are
- * counted, Char(5), Varchar(5), Bit(3), Int; where a list is printed, those of platform occupations. */
+ * counted, Char(5), Varchar(5), Bit(3), Int; where a length is in characters, one Varchar; where a list is printed,
+ * those of platform occupations. */
 #include <stdio.h>
 
 #include "rook_row.h"
@@ -108,6 +109,21 @@ static void show_points(void) {
     show_check("text: an umlaut, cut", "Z\xC3\xBCrich", 2);
 }
 
+/* The row of a station's name under a Varchar of at most 10, in characters or in bytes. */
+static rook_row_answer build_station(uint8_t kind, const char *name, uint8_t count) {
+    const uint8_t type[] = {kind, 10, 0};
+    const uint8_t list[] = {ROOK_VALUE_VARCHAR, 0, 0, count, 0};
+    return rook_row_build(type, sizeof type, list, sizeof list, bytes(name), count, row, sizeof row, counts, 1);
+}
+
+/* The umlaut is one character of two bytes: the first name has 10 characters and 11 bytes, the second 11 and 12. */
+static void show_characters(void) {
+    show("build, 10 characters", build_station(ROOK_VARCHAR_CHARS, "Z\xC3\xBCrich Hbf", 11), row);
+    show_counts(1);
+    show("build, 11 characters", build_station(ROOK_VARCHAR_CHARS, "Z\xC3\xBCrich HB 7", 12), row);
+    show("build, 11 bytes", build_station(ROOK_VARCHAR, "Z\xC3\xBCrich Hbf", 11), row);
+}
+
 /* Edits over a handle of the row; the first accepted one fills in the layout. */
 static void show_handle_edits(void) {
     size_t n = sizeof schema;
@@ -160,7 +176,7 @@ int main(void) {
     uint8_t list[54];
     show("fresh", rook_row_fresh(schema, n, row, sizeof row), row);
     show("fresh, no room", rook_row_fresh(schema, n, row, 12), row);
-    show("fresh, unknown type", rook_row_fresh(bytes("\2\20"), 2, row, sizeof row), row);
+    show("fresh, unknown type", rook_row_fresh(bytes("\2\21"), 2, row, sizeof row), row);
 
     show("build, text cut",
          rook_row_build(schema, n, values, sizeof values, bytes("A"), 1, row, sizeof row, counts, 3), row);
@@ -184,6 +200,7 @@ int main(void) {
 
     show_handle_edits();
     show_points();
+    show_characters();
     show_occupations();
 
     uint32_t version = rook_row_version();

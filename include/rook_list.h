@@ -48,7 +48,7 @@ static inline void rook_list_number(rook_list *list, size_t size, uint64_t numbe
 /* A type that nothing is declared with: SmallInt, Int, BigInt, Real, DoublePrecision, Bool, Date, Time, Timestamp. */
 static inline void rook_schema_put(rook_list *schema, uint8_t kind) { rook_list_number(schema, 1, kind); }
 
-/* Char, Character or Varchar of n bytes, Bit of n bits. */
+/* Char, Character or Varchar of n bytes, ROOK_VARCHAR_CHARS of n characters, Bit of n bits. */
 static inline void rook_schema_put_sized(rook_list *schema, uint8_t kind, uint16_t n) {
     rook_list_number(schema, 1, kind);
     rook_list_number(schema, 2, n);

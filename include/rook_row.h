@@ -40,7 +40,9 @@
  *   1 SmallInt   2 Int   3 BigInt   4 Real   5 DoublePrecision   8 Bool   12 Date   13 Time   15 Timestamp   no body
  *   6 Numeric    7 Decimal                     precision, scale: a byte each
  *   9 Char      10 Character    11 Varchar     n, the bytes of the text: two bytes
+ *  16 Varchar, counted in characters           n, the code points of the text: two bytes
  *  14 Bit                                      n, the bits: two bytes
+ * Kinds 11 and 16 differ only in what n counts; a Varchar is either.
  *
  * Value list. A record for each value, end to end: a byte of kind, then its body.
  *   0 null                                     no body
@@ -66,11 +68,12 @@ extern "C" {
 #endif
 
 /* The version of this interface: of this header. The first two numbers are its series, within which no call changes its
- * form; an added call raises the third. The last line is the version as rook_row_version answers it for the library. */
+ * form; an added call or kind raises the third. The last line is the version as rook_row_version answers it for the
+ * library. */
 #define ROOK_ROW_VERSION_MAJOR 0
 #define ROOK_ROW_VERSION_MINOR 3
-#define ROOK_ROW_VERSION_PATCH 1
-#define ROOK_ROW_VERSION "0.3.1"
+#define ROOK_ROW_VERSION_PATCH 2
+#define ROOK_ROW_VERSION "0.3.2"
 #define ROOK_ROW_VERSION_NUMBER \
     ((uint32_t)ROOK_ROW_VERSION_MAJOR << 16 | ROOK_ROW_VERSION_MINOR << 8 | ROOK_ROW_VERSION_PATCH)
 
@@ -96,7 +99,8 @@ enum {
     ROOK_DATE = 12,
     ROOK_TIME = 13,
     ROOK_BIT = 14,
-    ROOK_TIMESTAMP = 15
+    ROOK_TIMESTAMP = 15,
+    ROOK_VARCHAR_CHARS = 16
 };
 
 /* Value kinds. */
@@ -308,7 +312,7 @@ rook_row_answer rook_occupations_print(const uint8_t *list, size_t list_length, 
 
 /* The version of the library.
  * Gets nothing, writes nothing, refuses nothing.
- * Answers with a byte for each of its numbers: 0x000301 for 0.3.1. The library goes with this header if it is of the
+ * Answers with a byte for each of its numbers: 0x000302 for 0.3.2. The library goes with this header if it is of the
  * same series, rook_row_version() >> 8 == ROOK_ROW_VERSION_NUMBER >> 8, and not older. */
 uint32_t rook_row_version(void);
 

@@ -5,6 +5,9 @@
 
 #include "rook_list.h"
 
+/* A column of each schema kind. */
+enum { KINDS = 16 };
+
 static int faults;
 
 static void expect(int holds, const char *what) {
@@ -31,6 +34,7 @@ static size_t make_schema(uint8_t *bytes, size_t capacity) {
     rook_schema_put(&s, ROOK_TIMESTAMP);
     rook_schema_put_digits(&s, ROOK_DECIMAL, 38, 0);
     rook_schema_put_sized(&s, ROOK_CHARACTER, 0);
+    rook_schema_put_sized(&s, ROOK_VARCHAR_CHARS, 3);
     return rook_list_fits(&s) ? s.length : 0;
 }
 
@@ -51,6 +55,7 @@ static void put_values(rook_values *v) {
     rook_values_timestamp(v, -1);
     rook_values_numeric_halves(v, 1, 2, 0);
     rook_values_null(v);
+    rook_values_varchar(v, "\xC3\xA9t\xC3\xA9");
 }
 
 /* The next value of kind k. */
@@ -89,25 +94,27 @@ static void compare(const uint8_t *list, size_t length, const uint8_t *row) {
     value = next(&reader, ROOK_VALUE_NUMERIC);
     expect(value.number == 1 && value.low == 2 && value.scale == 0, "Decimal in two halves");
     next(&reader, ROOK_VALUE_NULL);
+    value = next(&reader, ROOK_VALUE_VARCHAR);
+    expect(is_text(&value, row, "\xC3\xA9t\xC3\xA9", 5), "Varchar in characters");
     expect(!rook_values_next(&reader, &value), "a value past the last");
 }
 
 static void every_kind(void) {
-    uint8_t schema[64], records[ROOK_MAX_RECORD * 15], text[64], row[256], list[ROOK_MAX_RECORD * 15];
-    uint16_t all[15];
-    uint32_t built_counts[15], counts[15];
-    static const uint32_t points[15] = {[7] = 4, [8] = 3};
+    uint8_t schema[64], records[ROOK_MAX_RECORD * KINDS], text[64], row[256], list[ROOK_MAX_RECORD * KINDS];
+    uint16_t all[KINDS];
+    uint32_t built_counts[KINDS], counts[KINDS];
+    static const uint32_t points[KINDS] = {[7] = 4, [8] = 3, [15] = 3};
     size_t schema_length = make_schema(schema, sizeof schema);
     rook_values v = rook_values_in(records, sizeof records, text, sizeof text);
     put_values(&v);
     expect(rook_values_fit(&v), "the values do not fit");
     rook_row_answer built = rook_row_build(schema, schema_length, records, v.records.length, text, v.text.length, row,
-                                           sizeof row, built_counts, 15);
+                                           sizeof row, built_counts, KINDS);
     expect(built.number == ROOK_DONE, rook_number_text(built.number));
-    for (uint16_t i = 0; i < 15; i++)
+    for (uint16_t i = 0; i < KINDS; i++)
         all[i] = i;
     rook_row_answer read =
-        rook_row_read(schema, schema_length, row, built.length, all, 15, list, sizeof list, counts, 15);
+        rook_row_read(schema, schema_length, row, built.length, all, KINDS, list, sizeof list, counts, KINDS);
     expect(read.number == ROOK_DONE, rook_number_text(read.number));
     expect(memcmp(built_counts, points, sizeof points) == 0, "the code points of what was built");
     expect(memcmp(counts, points, sizeof points) == 0, "the code points of what was read");

@@ -4,7 +4,7 @@ use alloc::vec::Vec;
 use core::fmt;
 use core::str::FromStr;
 
-/// The type of a column. Lengths are in bytes, of a `Bit` in bits.
+/// The type of a column. Lengths are in bytes, of a `Bit` in bits, of a `VarcharChars` in characters.
 ///
 /// It prints as its SQL name, and is read from it, in capitals or not:
 ///
@@ -12,6 +12,7 @@ use core::str::FromStr;
 /// use rook_row::DataType;
 ///
 /// assert_eq!("varchar(16)".parse(), Ok(DataType::Varchar(16)));
+/// assert_eq!("varchar(16 characters)".parse(), Ok(DataType::VarcharChars(16)));
 /// let fare: DataType = "NUMERIC(10,2)".parse()?;
 /// assert_eq!(fare.to_string(), "NUMERIC(10,2)");
 /// # Ok::<(), rook_row::ParseError>(())
@@ -51,6 +52,21 @@ pub enum DataType {
     Character(u16),
     /// Text of at most so many bytes.
     Varchar(u16),
+    /// Text of at most so many characters (code points). It is a Varchar in all else.
+    ///
+    /// ```
+    /// use rook_row::{DataType, RowBuf, Schema};
+    ///
+    /// let schema = Schema::new([("station", DataType::VarcharChars(10))])?;
+    /// let mut row = RowBuf::build(&schema, &["Zürich Hbf".into()])?; // eleven bytes
+    /// let refused = row.set(&schema, "station", "Zürich HB 7").unwrap_err();
+    /// assert_eq!(
+    ///     refused.to_string(),
+    ///     "column 0 (station): 11 characters do not fit VARCHAR(10 CHARACTERS) (12)"
+    /// );
+    /// # Ok::<(), rook_row::Error>(())
+    /// ```
+    VarcharChars(u16),
     /// A day of the years 1 to 9999.
     Date,
     /// A time of day, in microseconds.
@@ -77,6 +93,7 @@ impl DataType {
             DataType::Char(n) => schema.extend(sized(9, n)),
             DataType::Character(n) => schema.extend(sized(10, n)),
             DataType::Varchar(n) => schema.extend(sized(11, n)),
+            DataType::VarcharChars(n) => schema.extend(sized(16, n)),
             DataType::Date => schema.push(12),
             DataType::Time => schema.push(13),
             DataType::Bit(n) => schema.extend(sized(14, n)),
@@ -115,12 +132,13 @@ impl DataType {
             10 => Some(DataType::Character(n)),
             11 => Some(DataType::Varchar(n)),
             14 => Some(DataType::Bit(n)),
+            16 => Some(DataType::VarcharChars(n)),
             _ => None,
         }
     }
 }
 
-/// The SQL name: `VARCHAR(16)`, `NUMERIC(10,2)`, `DOUBLE PRECISION`.
+/// The SQL name: `VARCHAR(16)`, `VARCHAR(16 CHARACTERS)`, `NUMERIC(10,2)`, `DOUBLE PRECISION`.
 impl fmt::Display for DataType {
     fn fmt(&self, f: &mut fmt::Formatter<'_>) -> fmt::Result {
         let plain = match *self {
@@ -142,6 +160,7 @@ impl fmt::Display for DataType {
             DataType::Char(n) => return padded(f, format_args!("CHAR({n})")),
             DataType::Character(n) => return padded(f, format_args!("CHARACTER({n})")),
             DataType::Varchar(n) => return padded(f, format_args!("VARCHAR({n})")),
+            DataType::VarcharChars(n) => return padded(f, format_args!("VARCHAR({n} CHARACTERS)")),
             DataType::Bit(n) => return padded(f, format_args!("BIT({n})")),
         };
         f.pad(plain)
@@ -156,7 +175,7 @@ pub(crate) fn padded(f: &mut fmt::Formatter<'_>, text: fmt::Arguments<'_>) -> fm
     }
 }
 
-/// The SQL name, in capitals or not. `NUMERIC(10)` has scale 0.
+/// The SQL name, in capitals or not. `NUMERIC(10)` has scale 0, and `VARCHAR(16 CHAR)` is in characters.
 impl FromStr for DataType {
     type Err = ParseError;
 
@@ -191,7 +210,7 @@ fn sized(name: &str, declared: &str) -> Option<DataType> {
     match name {
         "CHAR" => n().map(DataType::Char),
         "CHARACTER" => n().map(DataType::Character),
-        "VARCHAR" => n().map(DataType::Varchar),
+        "VARCHAR" => varchar(declared.trim()),
         "BIT" => n().map(DataType::Bit),
         "NUMERIC" | "DECIMAL" => {
             let (precision, scale) = declared.split_once(',').unwrap_or((declared, "0"));
@@ -201,6 +220,17 @@ fn sized(name: &str, declared: &str) -> Option<DataType> {
                 _ => DataType::Decimal { precision, scale },
             })
         }
+        _ => None,
+    }
+}
+
+/// A length in bytes, or one in characters that says so.
+fn varchar(declared: &str) -> Option<DataType> {
+    let Some((n, unit)) = declared.split_once(char::is_whitespace) else {
+        return declared.parse().ok().map(DataType::Varchar);
+    };
+    match unit.trim_start() {
+        "CHARACTERS" | "CHAR" => n.parse().ok().map(DataType::VarcharChars),
         _ => None,
     }
 }

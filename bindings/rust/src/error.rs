@@ -210,6 +210,8 @@ pub enum RowListFault {
 pub enum Misfit {
     /// A text has more bytes.
     Bytes(usize),
+    /// A text has more characters.
+    Characters(usize),
     /// A number has another scale.
     Scale(u8),
     /// A number has more digits.

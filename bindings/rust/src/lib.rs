@@ -32,7 +32,8 @@
 //!
 //! A table lines up by the code points of its texts, which reading and building count on the way:
 //! [`RowRef::widths`], [`Columns::width`] and [`Builder::build_with_widths`] hand them out. A width is a number of code
-//! points, so a mark that is put on a letter counts by itself.
+//! points, so a mark that is put on a letter counts by itself. The length of a [`DataType::VarcharChars`], whose texts
+//! are declared in characters, is in code points too; that of a [`DataType::Varchar`] is in bytes.
 //!
 //! A [`RowList`] holds many rows as bytes, each after its length; [`print_occupations`] makes of one the sheet of
 //! platform occupations, a line a row, that hangs on a wall.

@@ -455,7 +455,7 @@ pub(crate) fn printed(list: &[u8]) -> Result<String, Refusal> {
     Ok(unsafe { String::from_utf8_unchecked(lines) })
 }
 
-/// The library's version, with a byte for each of its numbers: `0x000301` for 0.3.1.
+/// The library's version, with a byte for each of its numbers: `0x000302` for 0.3.2.
 pub fn version() -> u32 {
     // SAFETY: the call gets nothing.
     unsafe { rook_row_version() }

@@ -32,7 +32,8 @@ pub enum Value<'a> {
     Numeric(Numeric),
     /// Of a `Bool`.
     Bool(bool),
-    /// Of a `Char` or a `Character`, with the blanks up to its length when it was read; or of a `Varchar`.
+    /// Of a `Char` or a `Character`, with the blanks up to its length when it was read; or of a `Varchar` or a
+    /// `VarcharChars`.
     Text(Cow<'a, str>),
     /// Of a `Date`.
     Date(Date),

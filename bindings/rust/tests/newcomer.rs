@@ -72,6 +72,9 @@ fn a_schema_is_read_back() {
 #[test]
 fn types_are_read_from_text() {
     assert_eq!("VARCHAR(16)".parse(), Ok(DataType::Varchar(16)));
+    for text in ["VARCHAR(16 CHARACTERS)", "varchar ( 16  char ) "] {
+        assert_eq!(text.parse(), Ok(DataType::VarcharChars(16)));
+    }
     assert_eq!(
         " numeric ( 10 , 2 ) ".parse(),
         Ok(DataType::Numeric {
@@ -93,6 +96,12 @@ fn types_are_read_from_text() {
         "VARCHAR",
         "VARCHAR()",
         "VARCHAR(65536)",
+        "VARCHAR(65536 CHARACTERS)",
+        "VARCHAR(16 BITS)",
+        "VARCHAR(16CHARACTERS)",
+        "VARCHAR(CHARACTERS)",
+        "VARCHAR(16 CHARACTERS 2)",
+        "CHAR(16 CHARACTERS)",
         "CHAR(4",
         "INT(4)",
         "NUMERIC(a,2)",

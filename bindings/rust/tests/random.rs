@@ -19,14 +19,19 @@ impl Random {
         (self.bits() >> 11) % n
     }
 
+    /// A text of at most so many characters.
+    fn characters(&mut self, most: u16) -> String {
+        let letters = ['a', 'Z', ' ', 'é', '東', '😀'];
+        (0..self.below(most as u64 + 1))
+            .map(|_| letters[self.below(6) as usize])
+            .collect()
+    }
+
+    /// A text of at most so many bytes.
     fn text(&mut self, most: u16) -> String {
-        let letters = ["a", "Z", " ", "é", "東", "😀"];
-        let mut text = String::new();
-        for _ in 0..self.below(most as u64 + 1) {
-            let letter = letters[self.below(6) as usize];
-            if text.len() + letter.len() <= most as usize {
-                text += letter;
-            }
+        let mut text = self.characters(most);
+        while text.len() > most as usize {
+            text.pop();
         }
         text
     }
@@ -35,7 +40,7 @@ impl Random {
         let n = [0, 1, 7, 8, 9, 60, 300][self.below(7) as usize];
         let precision = self.below(38) as u8 + 1;
         let scale = self.below(precision as u64 + 1) as u8;
-        match self.below(15) {
+        match self.below(16) {
             0 => DataType::SmallInt,
             1 => DataType::Int,
             2 => DataType::BigInt,
@@ -50,6 +55,7 @@ impl Random {
             11 => DataType::Date,
             12 => DataType::Time,
             13 => DataType::Bit(n),
+            14 => DataType::VarcharChars(n),
             _ => DataType::Timestamp,
         }
     }
@@ -76,6 +82,7 @@ impl Random {
                 text.into()
             }
             DataType::Varchar(n) => self.text(n).into(),
+            DataType::VarcharChars(n) => self.characters(n).into(),
             DataType::Date => Date::from_days(self.below(3_652_059) as i32 - 719_162).into(),
             DataType::Time => Time::from_micros(self.below(86_400_000_000) as i64).into(),
             DataType::Bit(n) => {
@@ -147,7 +154,8 @@ fn built_edited_and_read() {
 
         let mut editor = Editor::new(&schema);
         editor.open(row.as_row());
-        let mut page = vec![0xEE; row.as_bytes().len() + 4_000];
+        // Up to seven edits, of which each lengthens the row by 300 characters at most.
+        let mut page = vec![0xEE; row.as_bytes().len() + 7 * 4 * 300];
         let length = row.as_bytes().len();
         page[..length].copy_from_slice(row.as_bytes());
         let mut lent = RowMut::new(&mut page, length);

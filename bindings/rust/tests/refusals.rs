@@ -35,7 +35,7 @@ fn told<T>(result: Result<T, Error>, number: u32, place: usize, message: &str) {
 
 #[test]
 fn schema_record() {
-    let unknown = Schema::from_bytes(&[2, 11, 5, 0, 16]);
+    let unknown = Schema::from_bytes(&[2, 11, 5, 0, 17]);
     assert_eq!(unknown, Err(Error::BadRecord { at: 4, column: 2 }));
     told(
         unknown,
@@ -283,6 +283,11 @@ fn values_that_do_not_suit() {
         ("unit", DataType::Varchar(4)),
         "depot 99",
         "column 0 (unit): 8 bytes do not fit VARCHAR(4)",
+    );
+    unsuitable(
+        ("station", DataType::VarcharChars(8)),
+        "Zürich HB",
+        "column 0 (station): 9 characters do not fit VARCHAR(8 CHARACTERS)",
     );
     unsuitable(
         DataType::Char(1),

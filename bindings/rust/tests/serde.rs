@@ -144,6 +144,9 @@ fn values() {
 fn texts_there_and_back() {
     assert_eq!(from_text("VARCHAR(16)"), Ok(DataType::Varchar(16)));
     assert_eq!(json(&DataType::Varchar(16)), r#""VARCHAR(16)""#);
+    let characters = DataType::VarcharChars(16);
+    assert_eq!(from_text("VARCHAR(16 CHARACTERS)"), Ok(characters));
+    assert_eq!(json(&characters), r#""VARCHAR(16 CHARACTERS)""#);
     assert_eq!(from_text("-0.56"), Ok(Numeric::new(-56, 2)));
     assert_eq!(
         from_text("06:12:30"),

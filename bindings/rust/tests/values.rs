@@ -28,6 +28,7 @@ fn pairs() -> Vec<(DataType, Value<'static>)> {
         (DataType::Bit(11), bits("10100101111")),
         (DataType::Timestamp, Timestamp::MAX.into()),
         (DataType::Varchar(0), "".into()),
+        (DataType::VarcharChars(2), "東京".into()),
     ]
 }
 
@@ -38,7 +39,7 @@ fn columns() -> (Schema, Vec<Value<'static>>) {
 
 #[test]
 fn every_type_has_its_record_and_its_name() {
-    let records: [(&str, &[u8]); 15] = [
+    let records: [(&str, &[u8]); 16] = [
         ("SMALLINT", &[1]),
         ("INT", &[2]),
         ("BIGINT", &[3]),
@@ -54,6 +55,7 @@ fn every_type_has_its_record_and_its_name() {
         ("TIME", &[13]),
         ("BIT(11)", &[14, 11, 0]),
         ("TIMESTAMP", &[15]),
+        ("VARCHAR(300 CHARACTERS)", &[16, 0x2C, 1]),
     ];
     for (name, record) in records {
         let data_type: DataType = name.parse().unwrap();
@@ -71,7 +73,7 @@ fn every_type_has_its_record_and_its_name() {
 #[test]
 fn every_type_is_read_back() {
     let (schema, values) = columns();
-    assert_eq!(schema.len(), 16);
+    assert_eq!(schema.len(), 17);
     assert_eq!(Schema::from_bytes(schema.as_bytes()), Ok(schema.clone()));
     let row = RowBuf::build(&schema, &values).unwrap();
     assert_eq!(row.read(&schema).unwrap(), values);
@@ -113,6 +115,7 @@ fn room_for_every_schema() {
             Numeric::new(1, 0).into(),
         ),
         (DataType::Varchar(9), "platform9".into()),
+        (DataType::VarcharChars(9), "😀".repeat(9).into()),
         (DataType::Char(200), Value::from("é".repeat(100))),
         (DataType::Bit(1), bits("1")),
         (DataType::Bit(2000), bits(&"10".repeat(1000))),

@@ -12,6 +12,7 @@ use Rattle.laws.specs.Bits.{bitAt}
 use Rattle.laws.specs.Bytes.{fromLe}
 use Rattle.row_format.specs.Places.{offsetWidth, bitmapStart, tableStart}
 use Rattle.text.specs.Rfc3629.{isText}
+use Rattle.text_limit.specs.Limit.{fitsText}
 use Rattle.text.specs.Check.{points}
 use Rattle.row_layout.specs.declared.RowLayout.{RowLayout}
 use Rattle.row_layout.specs.declared.VarlenRange.{VarlenRange}
@@ -45,7 +46,7 @@ use Rattle.column_decode.proofs.Present.{CountOf}
 module _ (k : ℕ) where
   -- none of the kinds of text
   abbrev Other : Type 0
-  Other = (k ≡ 9 → ⊥) × ((k ≡ 10 → ⊥) × (k ≡ 11 → ⊥))
+  Other = (k ≡ 9 → ⊥) × ((k ≡ 10 → ⊥) × ((k ≡ 11 → ⊥) × (k ≡ 16 → ⊥)))
 
   data Counted : Kind → Type 0 where
     no-kind : Counted unknown
@@ -70,11 +71,12 @@ module _ (k : ℕ) where
       (chosen (eqb k 8) _ _ (λ e. plain-kind refl)
       (chosen (eqb k 9) _ _ (λ e. text-kind (λ o. o .0 (eqb-true k 9 e)))
       (chosen (eqb k 10) _ _ (λ e. text-kind (λ o. o .1 .0 (eqb-true k 10 e)))
-      (chosen (eqb k 11) _ _ (λ e. text-kind (λ o. o .1 .1 (eqb-true k 11 e)))
+      (chosen (eqb k 11) _ _ (λ e. text-kind (λ o. o .1 .1 .0 (eqb-true k 11 e)))
       (chosen (eqb k 12) _ _ (λ e. plain-kind refl)
       (chosen (eqb k 13) _ _ (λ e. plain-kind refl)
       (chosen (eqb k 14) _ _ (λ e. word-kind (λ n. refl))
-      (chosen (eqb k 15) _ _ (λ e. plain-kind refl) no-kind))))))))))))))
+      (chosen (eqb k 15) _ _ (λ e. plain-kind refl)
+      (chosen (eqb k 16) _ _ (λ e. text-kind (λ o. o .1 .1 .1 (eqb-true k 16 e))) no-kind)))))))))))))))
 
   plain-in : {q : Kind} → Counted q → (plainSize q ≡ 0 → ⊥) → holdsText (plainType q) ≡ false
   plain-in no-kind h = absurd (h refl)
@@ -175,10 +177,6 @@ count-if : (f : DataValue → ℕ) (n : ℕ) (t : Bool) (v : DataValue) → n �
 count-if f n true v e = e
 count-if f n false v e = tt
 
-count-unless : (f : DataValue → ℕ) (n : ℕ) (t : Bool) (x : SlotRead) → CountOf f n x → CountOf f n (cond t Slot.NoValue x)
-count-unless f n true x e = tt
-count-unless f n false x e = e
-
 -- the bytes from a up to e of a row
 module _ (r : List ℕ) (a e : ℕ) (h : a ≤ e) (l : e ≤ length r) where
   abbrev bytes : List ℕ
@@ -190,7 +188,5 @@ module _ (r : List ℕ) (a e : ℕ) (h : a ≤ e) (l : e ≤ length r) where
   pub count-char : (n : ℕ) → CountOf (pointsIn r) (points bytes) (readSlot (T.Char n) a bytes)
   count-char n = count-if (pointsIn r) (points bytes) (isText bytes) _ same-points
 
-  pub count-varchar : (n : ℕ) → CountOf (pointsIn r) (points bytes) (readSlot (T.Varchar n) a bytes)
-  count-varchar n =
-      count-unless (pointsIn r) (points bytes) (ltb n (length bytes)) _
-      (count-if (pointsIn r) (points bytes) (isText bytes) _ same-points)
+  pub count-varchar : (p : Bool) (n : ℕ) → CountOf (pointsIn r) (points bytes) (readSlot (T.Varchar p n) a bytes)
+  count-varchar p n = count-if (pointsIn r) (points bytes) (fitsText p n bytes) _ same-points

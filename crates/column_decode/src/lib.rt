@@ -31,8 +31,9 @@ fn write_column(buf: &mut [u8], end: usize, column: ColumnRead) -> Recorded
     }
 }
 
-// A Varchar(n) of this rank.
+// A Varchar of this rank, whose n counts bytes or code points.
 fn decode_varchar(
+    by_points: bool,
     n: usize,
     i: usize,
     row: &[u8],
@@ -46,13 +47,13 @@ fn decode_varchar(
         × ((length (now row) ≤ 65535) × (end + 18 ≤ length (now buf))) ⌝ }
     ensures { λ r. ⌜ (r, now (buf .exit))
         ≡ stepped (now (buf .entry)) end (pointsIn (now (row .entry)))
-        (varlenValue (VarcharType n) i (now (row .entry))
+        (varlenValue (VarcharType «by_points» n) i (now (row .entry))
         (varlenRange offsetWidth table varlens rank (now (row .entry)))) ⌝ }
 {
     match row_layout::varlen_range(row, table, varlens, rank) {
         VarlenRange::Null => Recorded::Done(record_encode::write_null(buf, end), 0),
         VarlenRange::Bytes(start, stop) => {
-            slot_record::varchar_record(n, i, row, start, stop, buf, end)
+            slot_record::varchar_record(by_points, n, i, row, start, stop, buf, end)
         }
         VarlenRange::Outside => Recorded::Refused(Refusal::BadRange(i)),
     }
@@ -123,7 +124,23 @@ fn decode_body(
         (walkedColumn layout packed before (typeAt (typesIn (now (schema .entry))) (before .«num_columns»))
         (now (row .entry))) ⌝ }
 {
-    match schema[at] {
+    let kind = schema[at];
+    if datatype::is_varchar(kind) {
+        let n = endian::read_u16(schema, at + 1) as usize;
+        let table = layout.varlen_table_offset();
+        return decode_varchar(
+            kind == schema_kinds::VARCHAR_CHARS,
+            n,
+            before.num_columns,
+            row,
+            table,
+            layout.num_varlen_cols,
+            before.num_varlen_cols,
+            buf,
+            end,
+        );
+    }
+    match kind {
         schema_kinds::CHAR => {
             let n = endian::read_u16(schema, at + 1) as usize;
             decode_char(n, layout, packed, before, row, buf, end)
@@ -131,20 +148,6 @@ fn decode_body(
         schema_kinds::CHARACTER => {
             let n = endian::read_u16(schema, at + 1) as usize;
             decode_char(n, layout, packed, before, row, buf, end)
-        }
-        schema_kinds::VARCHAR => {
-            let n = endian::read_u16(schema, at + 1) as usize;
-            let table = layout.varlen_table_offset();
-            decode_varchar(
-                n,
-                before.num_columns,
-                row,
-                table,
-                layout.num_varlen_cols,
-                before.num_varlen_cols,
-                buf,
-                end,
-            )
         }
         _ => decode_value(schema, at, layout, packed, before, row, buf, end),
     }

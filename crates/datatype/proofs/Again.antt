@@ -40,7 +40,7 @@ columns-all {s} a = ap (λ (k : RowLayout). k .«num_columns») (sym (a .layout)
 
 pub before-next : (ts : List DataType) (i : ℕ) → i < length ts → layoutBefore ts (i + 1) ≡ withColumn (layoutBefore ts i) (shapeOf (typeAt ts i))
 before-next ts i h =
-    rw (add-one i, ← take-map shapeOf (suc i) ts, ← take-map shapeOf i ts, ← at-map shapeOf i ts (T.Varchar 0))
+    rw (add-one i, ← take-map shapeOf (suc i) ts, ← take-map shapeOf i ts, ← at-map shapeOf i ts (T.Varchar false 0))
     (layout-next (map shapeOf ts) i (rw (length-map ts shapeOf) h))
 
 aligned : (t : DataType) → Aligned (shapeOf t)
@@ -54,7 +54,7 @@ aligned (T.Decimal p s) = omega arith
 aligned T.Bool = omega arith
 aligned (T.Char n) = omega arith
 aligned (T.Character n) = omega arith
-aligned (T.Varchar n) = tt
+aligned (T.Varchar p n) = tt
 aligned T.Date = omega arith
 aligned T.Time = omega arith
 aligned (T.Bit n) = omega arith
@@ -129,10 +129,10 @@ module _ {s : List ℕ} {b : RowLayout} {at : ℕ} (w : Ahead s b at) where
           omega (arith, g)
 
       split : t ∷ first .tail ≡ typeAt (typesIn s) (b .«num_columns») ∷ drop (b .«num_columns» + 1) (typesIn s)
-      split = sym (first .split) ∙ rw (add-one (b .«num_columns»)) (drop-cons (typesIn s) (b .«num_columns») (T.Varchar 0) ahead-inside)
+      split = sym (first .split) ∙ rw (add-one (b .«num_columns»)) (drop-cons (typesIn s) (b .«num_columns») (T.Varchar false 0) ahead-inside)
 
       pub ahead-type : t ≡ typeAt (typesIn s) (b .«num_columns»)
-      ahead-type = ap (λ (ts : List DataType). getD ts 0 (T.Varchar 0)) split
+      ahead-type = ap (λ (ts : List DataType). getD ts 0 (T.Varchar false 0)) split
 
       tail-is : first .tail ≡ drop (b .«num_columns» + 1) (typesIn s)
       tail-is = ap (λ (ts : List DataType). drop 1 ts) split

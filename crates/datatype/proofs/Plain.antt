@@ -21,7 +21,7 @@ use Rattle.datatype.specs.declared.Record.the-variants.{Column, Refused}
 use Rattle.datatype.specs.Types.{sizeOf, alignmentOf, isVarlen, shapeOf}
 use Rattle.datatype.specs.Schema.{Kind, unknown, plain, sized, digits, columnKind, goodDigits, unlessCut, columnRecordOf, columnRecordAt}
 use Rattle.datatype.specs.InnerSteps.{plainSize, plainType, bodyShape, typeIn, passed}
-use Rattle.datatype.proofs.KindTable.{Body, six, seven, nine, ten, eleven, fourteen, nothing, body-of}
+use Rattle.datatype.proofs.KindTable.{Body, six, seven, nine, ten, eleven, fourteen, sixteen, nothing, body-of}
 
 -- a plain kind is told by its size
 pub is-plain : (q : Kind) → (plainSize q ≡ 0 → ⊥) → q ≡ plain (plainType q)
@@ -43,7 +43,7 @@ chosen true x y p q = p
 chosen false x y p q = q
 
 squares : (k : ℕ) → Square (columnKind k)
-squares k = search (chosen, square, none, sized-kind, digits-kind) depth 18
+squares k = search (chosen, square, none, sized-kind, digits-kind) depth 19
 
 pub record Plain (q : Kind) : Type 0 where
   pub fixed : isVarlen (plainType q) ≡ false
@@ -103,10 +103,11 @@ module _ (k : ℕ) (body : plainSize (columnKind k) ≡ 0) (known : columnKind k
       of q (ten e) f = absurd (omega (arith, h, e))
       of q (eleven e) f = absurd (omega (arith, h, e))
       of q (fourteen e) f = absurd (omega (arith, h, e))
+      of q (sixteen e) f = absurd (omega (arith, h, e))
       of q nothing f = absurd (f refl)
 
-  pub long-kind : 7 < k → (k ≡ 11 → ⊥) → (k ≡ 14 → ⊥) → Fixed n 1 ≡ bodyShape (columnKind k) a n
-  long-kind h x y = of (columnKind k) (body-of k body) known
+  pub long-kind : 7 < k → (k ≡ 11 → ⊥) → (k ≡ 14 → ⊥) → (k ≡ 16 → ⊥) → Fixed n 1 ≡ bodyShape (columnKind k) a n
+  long-kind h x y z = of (columnKind k) (body-of k body) known
     where
       of : (q : Kind) → Body k q → (q ≡ unknown → ⊥) → Fixed n 1 ≡ bodyShape q a n
       of q (six e) f = absurd (omega (arith, h, e))
@@ -115,6 +116,7 @@ module _ (k : ℕ) (body : plainSize (columnKind k) ≡ 0) (known : columnKind k
       of q (ten e) f = refl
       of q (eleven e) f = absurd (x e)
       of q (fourteen e) f = absurd (y e)
+      of q (sixteen e) f = absurd (z e)
       of q nothing f = absurd (f refl)
 
 -- ---- a body, where no record is refused
@@ -144,8 +146,9 @@ module _ (s : List ℕ) (at : ℕ) (b : RowLayout) where
   pass-body q (seven e) good = pass-digits T.Decimal (λ p z. refl) good
   pass-body q (nine e) good = pass-sized T.Char good
   pass-body q (ten e) good = pass-sized T.Character good
-  pass-body q (eleven e) good = pass-sized T.Varchar good
+  pass-body q (eleven e) good = pass-sized (T.Varchar false) good
   pass-body q (fourteen e) good = pass-sized T.Bit good
+  pass-body q (sixteen e) good = pass-sized (T.Varchar true) good
   pass-body q nothing good = absurd (good (BadRecord at) refl)
 
   module _ (good : (e : Refusal) → columnRecordAt s at ≡ Refused e → ⊥) (none : plainSize (columnKind (getD s at 0)) ≡ 0) where

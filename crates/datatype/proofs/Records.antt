@@ -4,13 +4,13 @@ use mathlib.Core.Path.{_≡_, refl}
 use mathlib.Core.Bool.{Bool, true, false, cond, _&&_}
 use mathlib.Core.List.{List}
 use native.Mathlib.Omega.{arith}
-use lib.Dec.{leb, ltb}
+use lib.Dec.{eqb, leb, ltb}
 use lib.ListN.{length, getD, take, drop}
-use borrow.Author.Tests.{lt-ltb, le-ltb, leb-true}
+use borrow.Author.Tests.{lt-ltb, le-ltb, leb-true, eqb-true}
 use Rattle.error.specs.declared.Refusal.the-variants.{BadRecord, BadSchema}
 use Rattle.laws.specs.Bytes.{fromLe}
 use Rattle.laws.proofs.Truths.{and-left, and-right, by-cond}
-use Rattle.datatype.specs.Types.{precisionOf}
+use Rattle.datatype.specs.Types.{precisionOf, countsPoints}
 use Rattle.datatype.specs.declared.DataType.{DataType}
 use Rattle.datatype.specs.declared.Record.{Record}
 use Rattle.datatype.specs.declared.Record.the-variants.{Column, Refused}
@@ -28,41 +28,73 @@ module _ (s : List ℕ) (at : ℕ) where
   pub there : (r q : Record) → at + 3 ≤ length s → r ≡ q → r ≡ unlessCut s at q
   there r q h e = rw (le-ltb (length s) (at + 3) h) e
 
--- ---- a record's type has at most 38 digits
+-- ---- what holds of the type that a record says
 
-data Digits : Kind → Type 0 where
-  none : Digits unknown
-  plainly : {t : DataType} → precisionOf t ≡ 0 → Digits (plain t)
-  sizedly : {t : ℕ → DataType} → ((n : ℕ) → precisionOf (t n) ≡ 0) → Digits (sized t)
-  given : {t : ℕ → ℕ → DataType} → ((p s : ℕ) → precisionOf (t p s) ≡ p) → Digits (digits t)
+-- P holds of the types of a kind
+data Says (P : DataType → Type 0) : Kind → Type 0 where
+  none : Says P unknown
+  plainly : {t : DataType} → P t → Says P (plain t)
+  sizedly : {t : ℕ → DataType} → ((n : ℕ) → P (t n)) → Says P (sized t)
+  given : {t : ℕ → ℕ → DataType} → ((p s : ℕ) → goodDigits p s ≡ true → P (t p s)) → Says P (digits t)
 
-chosen : (t : Bool) (x y : Kind) → Digits x → Digits y → Digits (cond t x y)
-chosen true x y p q = p
-chosen false x y p q = q
+chosen : (P : DataType → Type 0) (t : Bool) (x y : Kind) → Says P x → Says P y → Says P (cond t x y)
+chosen P true x y p q = p
+chosen P false x y p q = q
 
-same-digits : (p s : ℕ) → p ≡ p
-same-digits p s = refl
+module _ (P : DataType → Type 0) where
+  abbrev InRecord : Record → Type 0
+  InRecord (Column t next) = P t
+  InRecord (Refused r) = Unit {0}
 
-no-digits : (n : ℕ) → _≡_ {A = ℕ} 0 0
-no-digits n = refl
+  said : {q : Kind} → Says P q → (s : List ℕ) (at : ℕ) → InRecord (columnRecordOf q s at)
+  said none s at = tt
+  said (plainly e) s at = e
+  said (sizedly {t} e) s at =
+      by-cond InRecord (ltb (length s) (at + 3)) (Refused (BadRecord at)) _ (λ f. tt) (λ f. e (fromLe (take 2 (drop (at + 1) s))))
+  said (given {t} e) s at =
+      let p : ℕ = getD s (at + 1) 0 in
+      let z : ℕ = getD s (at + 2) 0 in
+      by-cond InRecord (ltb (length s) (at + 3)) (Refused (BadRecord at)) _ (λ f. tt)
+      (λ f. by-cond InRecord (goodDigits p z) (Column (t p z) (at + 3)) (Refused (BadSchema at)) (λ g. e p z g) (λ g. tt))
 
-digits-of : (k : ℕ) → Digits (columnKind k)
-digits-of k = search (chosen, none, plainly, sizedly, given, same-digits, no-digits) depth 18
+-- at most 38 digits
+abbrev FewDigits : DataType → Type 0
+FewDigits t = precisionOf t ≤ 38
 
-abbrev FewDigits : Record → Type 0
-FewDigits (Column t next) = precisionOf t ≤ 38
-FewDigits (Refused r) = Unit {0}
+no-digits : 0 ≤ 38
+no-digits = omega arith
 
-few-of : {q : Kind} → Digits q → (s : List ℕ) (at : ℕ) → FewDigits (columnRecordOf q s at)
-few-of none s at = tt
-few-of (plainly e) s at = rw e (omega arith)
-few-of (sizedly {t} e) s at =
-    by-cond FewDigits (ltb (length s) (at + 3)) (Refused (BadRecord at)) _ (λ f. tt) (λ f. rw (e (fromLe (take 2 (drop (at + 1) s)))) (omega arith))
-few-of (given {t} e) s at =
-    let p : ℕ = getD s (at + 1) 0 in
-    let z : ℕ = getD s (at + 2) 0 in
-    by-cond FewDigits (ltb (length s) (at + 3)) (Refused (BadRecord at)) _ (λ f. tt)
-    (λ f. by-cond FewDigits (goodDigits p z) (Column (t p z) (at + 3)) (Refused (BadSchema at)) (λ g. rw (e p z) (leb-true p 38 (and-right (leb 1 p) (leb p 38) (and-left (leb 1 p && leb p 38) (leb z p) g)))) (λ g. tt))
+no-digits-of : (n : ℕ) → 0 ≤ 38
+no-digits-of n = omega arith
+
+few-of : (p s : ℕ) → goodDigits p s ≡ true → p ≤ 38
+few-of p s g = leb-true p 38 (and-right (leb 1 p) (leb p 38) (and-left (leb 1 p && leb p 38) (leb s p) g))
+
+digits-of : (k : ℕ) → Says FewDigits (columnKind k)
+digits-of k = search (chosen, none, plainly, sizedly, given, no-digits, no-digits-of, few-of) depth 19
 
 pub few-digits : (s : List ℕ) (at : ℕ) {t : DataType} {next : ℕ} → columnRecordAt s at ≡ Column t next → precisionOf t ≤ 38
-few-digits s at e = rw e at (few-of (digits-of (getD s at 0)) s at)
+few-digits s at e = rw e at (said FewDigits (digits-of (getD s at 0)) s at)
+
+-- n counts code points for kind 16 alone
+abbrev Counts : Bool → DataType → Type 0
+Counts b t = b ≡ countsPoints t
+
+no-points-of : (n : ℕ) → _≡_ {A = Bool} false false
+no-points-of n = refl
+
+no-points-in : (p s : ℕ) → goodDigits p s ≡ true → _≡_ {A = Bool} false false
+no-points-in p s g = refl
+
+counts-bytes : (k : ℕ) → eqb k 16 ≡ false → Says (Counts false) (columnKind k)
+counts-bytes k e = rw e (search (chosen, none, plainly, sizedly, given, no-points-of, no-points-in) depth 19)
+
+counts-of : (k : ℕ) → Says (Counts (eqb k 16)) (columnKind k)
+counts-of k = by-kind (eqb k 16) refl
+  where
+    by-kind : (b : Bool) → eqb k 16 ≡ b → Says (Counts b) (columnKind k)
+    by-kind true e = rw (eqb-true k 16 e) (sizedly (λ n. refl))
+    by-kind false e = counts-bytes k e
+
+pub points-told : (s : List ℕ) (at : ℕ) {t : DataType} {next : ℕ} → columnRecordAt s at ≡ Column t next → eqb (getD s at 0) 16 ≡ countsPoints t
+points-told s at e = rw e at (said (Counts (eqb (getD s at 0) 16)) (counts-of (getD s at 0)) s at)

@@ -1,5 +1,6 @@
 -- What the check of a schema hands back, and what the calls do with it. FORMAT 2.3.
 use Prim.Native.Nat.{ℕ}
+use mathlib.Core.Bool.{false}
 use mathlib.Core.List.{List, [], map}
 use lib.ListN.{getD}
 use Rattle.error.specs.Result.{ok, refused}
@@ -12,7 +13,7 @@ use Rattle.datatype.specs.Schema.{Parsed, columnRecords}
 
 -- column i's type; the layout of all columns
 abbrev pub typeAt : List DataType → ℕ → DataType
-typeAt ts i = getD ts i (Varchar 0)
+typeAt ts i = getD ts i (Varchar false 0)
 
 abbrev pub layoutFor : List DataType → RowLayout
 layoutFor ts = layoutOf (map shapeOf ts)

@@ -1,7 +1,9 @@
 -- For the proofs: the walk over a schema's records, as the code goes it.
 use Prim.Native.Nat.{ℕ, _<_}
+use mathlib.Core.Bool.{Bool, false, _||_}
 use mathlib.Core.List.{List}
 use mathlib.Core.Path.{_≡_}
+use lib.Dec.{eqb}
 use lib.ListN.{length}
 use Rattle.error.specs.declared.Refusal.{Refusal}
 use Rattle.row_format.specs.declared.Shape.{Shape}
@@ -24,10 +26,14 @@ plainSize (sized t) = 0
 plainSize (digits t) = 0
 
 abbrev pub plainType : Kind → DataType
-plainType unknown = Varchar 0
+plainType unknown = Varchar false 0
 plainType (plain t) = t
-plainType (sized t) = Varchar 0
-plainType (digits t) = Varchar 0
+plainType (sized t) = Varchar false 0
+plainType (digits t) = Varchar false 0
+
+-- 11 and 16
+abbrev pub isVarcharKind : ℕ → Bool
+isVarcharKind k = eqb k 11 || eqb k 16
 
 -- what the layout sees of a kind that is followed by a body, whose first byte is a and both n
 abbrev pub bodyShape : Kind → ℕ → ℕ → Shape
@@ -49,4 +55,4 @@ passed at b (Refused r) = record { at = at; before = b }
 -- the type that a record says
 abbrev pub typeIn : Record → DataType
 typeIn (Column t next) = t
-typeIn (Refused r) = Varchar 0
+typeIn (Refused r) = Varchar false 0

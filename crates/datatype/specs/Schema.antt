@@ -1,6 +1,6 @@
 -- 01, "Schema and value bytes": the columns that a schema's bytes say, or the refusal. FORMAT 2.1, 2.3.
 use Prim.Native.Nat.{ℕ, zero, suc, _+_}
-use mathlib.Core.Bool.{Bool, false, cond, _&&_}
+use mathlib.Core.Bool.{Bool, true, false, cond, _&&_}
 use mathlib.Core.List.{List, [], _∷_, map}
 use lib.Dec.{eqb, leb, ltb}
 use lib.ListN.{length, getD, take, drop}
@@ -26,7 +26,7 @@ pub data Kind : Type 0 where
 
 -- "Schema kinds: 1 SmallInt, 2 Int, 3 BigInt, 4 Real, 5 DoublePrecision, 6 Numeric and 7 Decimal (precision, scale, a
 -- byte each), 8 Bool, 9 Char, 10 Character, 11 Varchar (n, two bytes), 12 Date, 13 Time, 14 Bit (n, two bytes), 15
--- Timestamp"
+-- Timestamp"; 02, request 3: "Schema kind 16, body n in two bytes, is a Varchar of at most n code points"
 abbrev pub columnKind : ℕ → Kind
 columnKind k =
     cond (eqb k 1) (plain SmallInt)
@@ -39,12 +39,13 @@ columnKind k =
     (cond (eqb k 8) (plain Boolean)
     (cond (eqb k 9) (sized Char)
     (cond (eqb k 10) (sized Character)
-    (cond (eqb k 11) (sized Varchar)
+    (cond (eqb k 11) (sized (Varchar false))
     (cond (eqb k 12) (plain Date)
     (cond (eqb k 13) (plain Time)
     (cond (eqb k 14) (sized Bit)
     (cond (eqb k 15) (plain Timestamp)
-    unknown))))))))))))))
+    (cond (eqb k 16) (sized (Varchar true))
+    unknown)))))))))))))))
 
 -- 2: "precision outside 1 to 38; scale above precision"
 abbrev pub goodDigits : ℕ → ℕ → Bool

@@ -10,9 +10,9 @@ ghost use Prim.Native.Nat.{_<_, _≤_};
 ghost use lib.ListN.{length};
 ghost use Rattle.row_layout.specs.InnerLayout.{Bounded, Small};
 ghost use Rattle.row_format.specs.Places.{offsetWidth, rowLimit};
-ghost use Rattle.datatype.specs.Types.{sizeOf, alignmentOf, isVarlen, shapeOf, precisionOf, scaleOf, lengthOf};
+ghost use Rattle.datatype.specs.Types.{sizeOf, alignmentOf, isVarlen, shapeOf, precisionOf, scaleOf, lengthOf, countsPoints};
 ghost use Rattle.datatype.specs.Schema.{unknown, goodDigits, columnKind, columnRecordOf, columnRecordAt, schemaOf};
-ghost use Rattle.datatype.specs.InnerSteps.{plainSize, bodyShape, Passable, passed};
+ghost use Rattle.datatype.specs.InnerSteps.{plainSize, isVarcharKind, bodyShape, Passable, passed};
 ghost use Rattle.datatype.specs.InnerCheck.{BoundedIn, checkedSchema, finished};
 
 pub enum DataType {
@@ -26,7 +26,8 @@ pub enum DataType {
     Bool,
     Char(u16),
     Character(u16),
-    Varchar(u16),
+    // Whether n counts code points, or else bytes.
+    Varchar { by_points: bool, n: u16 },
     Date,
     Time,
     Bit(u16),
@@ -54,7 +55,7 @@ impl DataType {
             DataType::Bool => 1,
             DataType::Char(_) => 1,
             DataType::Character(_) => 1,
-            DataType::Varchar(_) => 1,
+            DataType::Varchar { by_points: _, n: _ } => 1,
             DataType::Date => 4,
             DataType::Time => 8,
             DataType::Bit(_) => 1,
@@ -83,7 +84,7 @@ impl DataType {
             DataType::Bool => 1,
             DataType::Char(n) => n as usize,
             DataType::Character(n) => n as usize,
-            DataType::Varchar(_) => 0,
+            DataType::Varchar { by_points: _, n: _ } => 0,
             DataType::Date => 4,
             DataType::Time => 8,
             DataType::Bit(n) => (n as usize + 7) / 8,
@@ -111,7 +112,7 @@ impl DataType {
             DataType::Bool => false,
             DataType::Char(_) => false,
             DataType::Character(_) => false,
-            DataType::Varchar(_) => true,
+            DataType::Varchar { by_points: _, n: _ } => true,
             DataType::Date => false,
             DataType::Time => false,
             DataType::Bit(_) => false,
@@ -140,7 +141,7 @@ impl DataType {
             DataType::Bool => 0,
             DataType::Char(_) => 0,
             DataType::Character(_) => 0,
-            DataType::Varchar(_) => 0,
+            DataType::Varchar { by_points: _, n: _ } => 0,
             DataType::Date => 0,
             DataType::Time => 0,
             DataType::Bit(_) => 0,
@@ -169,7 +170,7 @@ impl DataType {
             DataType::Bool => 0,
             DataType::Char(_) => 0,
             DataType::Character(_) => 0,
-            DataType::Varchar(_) => 0,
+            DataType::Varchar { by_points: _, n: _ } => 0,
             DataType::Date => 0,
             DataType::Time => 0,
             DataType::Bit(_) => 0,
@@ -198,11 +199,40 @@ impl DataType {
             DataType::Bool => 0,
             DataType::Char(n) => n,
             DataType::Character(n) => n,
-            DataType::Varchar(n) => n,
+            DataType::Varchar { by_points: _, n } => n,
             DataType::Date => 0,
             DataType::Time => 0,
             DataType::Bit(n) => n,
             DataType::Timestamp => 0,
+        }
+    }
+
+    // Whether that n counts code points; false for all types but such a Varchar.
+    pub fn counts_points(self) -> bool
+        ensures { λ r. ⌜ r ≡ countsPoints self ⌝ }
+    {
+        match self {
+            DataType::SmallInt => false,
+            DataType::Int => false,
+            DataType::BigInt => false,
+            DataType::Real => false,
+            DataType::DoublePrecision => false,
+            DataType::Numeric {
+                precision: _,
+                scale: _,
+            } => false,
+            DataType::Decimal {
+                precision: _,
+                scale: _,
+            } => false,
+            DataType::Bool => false,
+            DataType::Char(_) => false,
+            DataType::Character(_) => false,
+            DataType::Varchar { by_points, n: _ } => by_points,
+            DataType::Date => false,
+            DataType::Time => false,
+            DataType::Bit(_) => false,
+            DataType::Timestamp => false,
         }
     }
 
@@ -258,8 +288,18 @@ fn body_at(schema: &[u8], at: usize, kind: u8) -> Record
         }
         schema_kinds::CHAR => Record::Column(DataType::Char(n), next),
         schema_kinds::CHARACTER => Record::Column(DataType::Character(n), next),
-        schema_kinds::VARCHAR => Record::Column(DataType::Varchar(n), next),
+        schema_kinds::VARCHAR => Record::Column(
+            DataType::Varchar {
+                by_points: false,
+                n,
+            },
+            next,
+        ),
         schema_kinds::BIT => Record::Column(DataType::Bit(n), next),
+        schema_kinds::VARCHAR_CHARS => Record::Column(
+            DataType::Varchar { by_points: true, n },
+            next,
+        ),
         _ => Record::Refused(Refusal::BadRecord(at)),
     }
 }
@@ -302,6 +342,13 @@ pub fn record_at(schema: &[u8], at: usize) -> Record
     }
 }
 
+// Whether a kind is a Varchar's, n in bytes or in code points.
+pub fn is_varchar(kind: u8) -> bool
+    ensures { λ r. ⌜ r ≡ isVarcharKind kind ⌝ }
+{
+    (kind == schema_kinds::VARCHAR) | (kind == schema_kinds::VARCHAR_CHARS)
+}
+
 // A place of a schema, and the layout of the columns before it.
 pub struct Step {
     pub at: usize,
@@ -314,7 +361,7 @@ fn body_shape(kind: u8, first: u8, n: u16) -> Shape
     requires { ⌜ (plainSize (columnKind kind) ≡ 0) × (columnKind kind ≡ unknown → ⊥) ⌝ }
     ensures { λ r. ⌜ (r ≡ bodyShape (columnKind kind) first n) × Small r ⌝ }
 {
-    if kind == schema_kinds::VARCHAR {
+    if is_varchar(kind) {
         return Shape::Varlen;
     }
     if kind <= schema_kinds::DECIMAL {

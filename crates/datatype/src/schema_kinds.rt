@@ -1,5 +1,6 @@
-// The schema kinds, in the order of document 01: the byte that a column's record begins with. Precision and scale
-// follow NUMERIC and DECIMAL, a byte each; n follows CHAR, CHARACTER, VARCHAR and BIT, two bytes; nothing the others.
+// The schema kinds, in the order of documents 01 and 02: the byte that a column's record begins with. Precision and
+// scale follow NUMERIC and DECIMAL, a byte each; n follows CHAR, CHARACTER, VARCHAR, BIT and VARCHAR_CHARS, two bytes;
+// nothing the others.
 pub const SMALL_INT: u8 = 1;
 
 pub const INT: u8 = 2;
@@ -29,3 +30,5 @@ pub const TIME: u8 = 13;
 pub const BIT: u8 = 14;
 
 pub const TIMESTAMP: u8 = 15;
+
+pub const VARCHAR_CHARS: u8 = 16;

@@ -98,7 +98,7 @@ module _ (w limit : ℕ) (ts : List DataType) where
       cell = entryCell (typeAt ts i) e
 
       cell-fits : FitsCell (getD ss i Varlen) cell
-      cell-fits = rw (at-map shapeOf i ts (T.Varchar 0)) (entry-fits (typeAt ts i) e q)
+      cell-fits = rw (at-map shapeOf i ts (T.Varchar false 0)) (entry-fits (typeAt ts i) e q)
 
       set-laid : editedRow w true ss i cell (take n buf) ≡ laid (set es i e) (slotsKept ss i cell (k .slots))
       set-laid =

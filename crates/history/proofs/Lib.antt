@@ -6,3 +6,4 @@ pub mod Accepts
 pub mod Reading
 pub mod Reread
 pub mod Worked
+pub mod BothKinds

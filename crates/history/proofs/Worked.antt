@@ -15,7 +15,7 @@ use Rattle.history.specs.Demand.{AllOfBytes, History}
 use Rattle.history.specs.Worked.{S, columnsS, lent, start, edits, Worked}
 
 -- numbers that are written out are bytes
-written-bytes : (bs : List ℕ) → Below 256 bs → AllBytes bs
+pub written-bytes : (bs : List ℕ) → Below 256 bs → AllBytes bs
 written-bytes [] b k = record { fits = omega arith }
 written-bytes (x ∷ bs) b zero = record { fits = b .0 }
 written-bytes (x ∷ bs) b (suc k) = written-bytes bs (b .1) k

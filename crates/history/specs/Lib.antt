@@ -2,3 +2,4 @@ pub mod History
 pub mod Demand
 pub mod Reread
 pub mod Worked
+pub mod BothKinds

@@ -1,6 +1,7 @@
 -- 01, "Histories of edits": "On S, setting column 0 to 1 and column 1 to "AB" leaves 1, "AB", null: row 2, of 13 + 2
 -- bytes; cases 3 and 4 go on from there." Refused calls come between. FORMAT 9.1, 9.3.
 use Prim.Native.Nat.{ℕ}
+use mathlib.Core.Bool.{false}
 use mathlib.Core.List.{List, [], _∷_, _++_}
 use mathlib.Core.Option.{none, some}
 use mathlib.Core.Path.{_≡_}
@@ -22,7 +23,7 @@ abbrev pub S : List ℕ
 S = 2 ∷ 11 ∷ 5 ∷ 0 ∷ 1 ∷ []
 
 abbrev pub columnsS : List DataType
-columnsS = T.Int ∷ T.Varchar 5 ∷ T.SmallInt ∷ []
+columnsS = T.Int ∷ T.Varchar false 5 ∷ T.SmallInt ∷ []
 
 abbrev pub lent : List ℕ
 lent = replicate 16 0xEE

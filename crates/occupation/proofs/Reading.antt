@@ -8,7 +8,7 @@ use native.Mathlib.Omega.{arith}
 use lib.Dec.{eqb, ltb}
 use lib.ListN.{length, take, drop, length-drop}
 use lib.Seq.{length-take-le}
-use borrow.Author.Tests.{eqb-false, ne-eqb, lt-ltb, le-ltb}
+use borrow.Author.Tests.{eqb-false, ne-eqb}
 use Rattle.error.specs.declared.Refusal.the-variants.{BadRange, NoValue}
 use Rattle.error.specs.Result.{Result, ok, refused}
 use Rattle.laws.specs.Bits.{bitAt}
@@ -22,6 +22,7 @@ use Rattle.row_layout.specs.Range.{varlenRange, partOf}
 use Rattle.row_layout.specs.InnerRange.{Inside}
 use Rattle.datatype.specs.declared.DataType.the-variants.{Varchar}
 use Rattle.text.specs.Rfc3629.{isText}
+use Rattle.text_limit.proofs.Limits.{few-bytes, many-bytes}
 use Rattle.row_column.specs.declared.ColumnRead.the-variants as Column
 use Rattle.value.specs.declared.DataValue.the-variants as D
 use Rattle.row_column.specs.Column.{slotValue, varlenValue}
@@ -62,16 +63,16 @@ range-start r i =
     by-cond Late (eqb (bitAt i (drop bitmapStart r)) 1) Null (varlenRange offsetWidth 5 2 i r) (λ _ p. omega arith)
     (λ _. by-cond Late (eqb o 0) Null part (λ _ p. omega arith) (λ f. part-start (length r) o (rangeEnd offsetWidth 5 2 i r) (eqb-false o 0 f)))
 
-pub by-range : (n i : ℕ) (r : List ℕ) → textColumn n i r ≡ textOfRead r (varlenValue (Varchar n) i r (textRangeIn r i))
+pub by-range : (n i : ℕ) (r : List ℕ) → textColumn n i r ≡ textOfRead r (varlenValue (Varchar false n) i r (textRangeIn r i))
 by-range n i r = go (eqb (bitAt i (drop bitmapStart r)) 1) (varlenRange offsetWidth 5 2 i r)
   where
-    go : (t : Bool) (q : VarlenRange) → textOfRead r (cond t (Column.Value D.Null) (varlenValue (Varchar n) i r q)) ≡ textOfRead r (varlenValue (Varchar n) i r (cond t Null q))
+    go : (t : Bool) (q : VarlenRange) → textOfRead r (cond t (Column.Value D.Null) (varlenValue (Varchar false n) i r q)) ≡ textOfRead r (varlenValue (Varchar false n) i r (cond t Null q))
     go true q = refl
     go false q = refl
 
 module _ (n i : ℕ) (r : List ℕ) where
-  told : {q : VarlenRange} → q ≡ textRangeIn r i → textOfRead r (varlenValue (Varchar n) i r q) ≡ textColumn n i r
-  told e = ap (λ (q : VarlenRange). textOfRead r (varlenValue (Varchar n) i r q)) e ∙ sym (by-range n i r)
+  told : {q : VarlenRange} → q ≡ textRangeIn r i → textOfRead r (varlenValue (Varchar false n) i r q) ≡ textColumn n i r
+  told e = ap (λ (q : VarlenRange). textOfRead r (varlenValue (Varchar false n) i r q)) e ∙ sym (by-range n i r)
 
   pub text-null : Null ≡ textRangeIn r i → textShown r (Good (record { start = 0; end = 0 })) ≡ textColumn n i r
   text-null e = told e
@@ -90,13 +91,13 @@ module _ (n i : ℕ) (r : List ℕ) where
     size = let u = w .0 in let v = w .1 in length-take-le (e - a) (drop a r) (rw length-drop (omega arith))
 
     pub text-long : n < e - a → textShown r (Refused (NoValue i)) ≡ textColumn n i r
-    text-long h = sym (rw (size, lt-ltb n (e - a) h)) ∙ told q
+    text-long h = sym (rw (many-bytes n bs (rw size h))) ∙ told q
 
     pub text-good : e - a ≤ n → isText bs ≡ true → textShown r (Good (record { start = a; end = e })) ≡ textColumn n i r
-    text-good h t = sym (rw (size, le-ltb n (e - a) h, t, ne-eqb a 0 starts-late)) ∙ told q
+    text-good h t = sym (rw (few-bytes false n bs (rw size h), t, size, ne-eqb a 0 starts-late)) ∙ told q
 
     pub text-bad : e - a ≤ n → isText bs ≡ false → textShown r (Refused (NoValue i)) ≡ textColumn n i r
-    text-bad h t = sym (rw (size, le-ltb n (e - a) h, t)) ∙ told q
+    text-bad h t = sym (rw (few-bytes false n bs (rw size h), t)) ∙ told q
 
     pub text-in : e - a ≤ n → SpanIn (length r) n a e
     text-in h = record { rises = w .0; inside = w .1; short = h; empty = λ z. absurd (starts-late z) }

@@ -1,6 +1,6 @@
 -- For the proofs: a row read column after column.
 use Prim.Native.Nat.{ℕ, _≤_}
-use mathlib.Core.Bool.{cond}
+use mathlib.Core.Bool.{false, cond}
 use mathlib.Core.List.{List}
 use mathlib.Core.Option.{Option}
 use lib.Dec.{eqb}
@@ -39,7 +39,7 @@ momentOfRead (Column.Refused e) = refused e
 
 -- column i, a text of at most n bytes, or a moment whose slot starts at byte `at`
 abbrev pub textColumn : ℕ → ℕ → List ℕ → Result (Option (List ℕ))
-textColumn n i r = textOfRead r (columnWith (Varchar n) i r (varlenRange offsetWidth 5 2 i r) 0)
+textColumn n i r = textOfRead r (columnWith (Varchar false n) i r (varlenRange offsetWidth 5 2 i r) 0)
 
 abbrev pub momentColumn : ℕ → ℕ → List ℕ → Result (Option ℕ)
 momentColumn i at r = momentOfRead (columnWith Timestamp i r Null at)

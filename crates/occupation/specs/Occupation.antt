@@ -20,7 +20,7 @@ use Rattle.row_decode.specs.Read.{readFrom}
 
 -- "Columns are platform Varchar(16), unit Varchar(64), arrival Timestamp, departure Timestamp."
 abbrev pub columns : List DataType
-columns = Varchar 16 ∷ Varchar 64 ∷ Timestamp ∷ Timestamp ∷ []
+columns = Varchar false 16 ∷ Varchar false 64 ∷ Timestamp ∷ Timestamp ∷ []
 
 -- a text, or a moment in microseconds from 0001-01-01 00:00:00 on; none for a null
 pub record Occupation : Type 0 where

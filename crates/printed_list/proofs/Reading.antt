@@ -1,7 +1,7 @@
 -- What is known of an occupation that was read, and of a refusal of a list.
 use Prim.Native.Nat.{ℕ, zero, suc, _+_, _-_, _%_, _≤_}
 use mathlib.Core.Path.{_≡_, refl, ap}
-use mathlib.Core.Bool.{Bool, true, cond, false≢true}
+use mathlib.Core.Bool.{Bool, true, false, cond, false≢true}
 use mathlib.Core.List.{List, [], _∷_, map}
 use native.Mathlib.Omega.{arith}
 use lib.Dec.{eqb, ltb}
@@ -17,6 +17,8 @@ use Rattle.error.specs.declared.Refusal.{Refusal}
 use Rattle.error.specs.declared.Refusal.the-variants.{RowTooShort, RowTooLong, WrongColumnCount, WrongVarlenCount, Unprintable}
 use Rattle.error.specs.Result.{Result, ok, refused, before}
 use Rattle.text.specs.Rfc3629.{isText}
+use Rattle.text_limit.specs.Limit.{fitsText}
+use Rattle.text_limit.proofs.Limits.{fits-size, fits-valid}
 use Rattle.temporal.specs.Ranges.{isTimestamp}
 use Rattle.row_format.specs.Places.{bitmapStart, offsetWidth, rowLimit, varlens, rankOf, tableStart, slotPlace, minimum}
 use Rattle.row_format.specs.Row.{packedFlag}
@@ -64,23 +66,20 @@ take-again (suc k) (x ∷ l) = ap (λ (t : List ℕ). x ∷ t) (take-again k l)
 
 module _ (i : ℕ) (h : i ≤ 3) (r : List ℕ) where
   text-slot : (n a : ℕ) (bs : List ℕ) → take (length bs) (drop a r) ≡ bs
-      → Reads (Text r n) (slotValue i (cond (ltb n (length bs)) Slot.NoValue (valueIf (isText bs) (D.Varchar (whole a bs)))))
+      → Reads (Text r n) (slotValue i (valueIf (fitsText false n bs) (D.Varchar (whole a bs))))
   text-slot n a bs same =
-      by-cond (λ s. Reads (Text r n) (slotValue i s)) (ltb n (length bs)) Slot.NoValue (valueIf (isText bs) (D.Varchar (whole a bs)))
-      (λ l. none (value i h))
-      (λ l.
-      by-cond (λ s. Reads (Text r n) (slotValue i s)) (isText bs) (Slot.Value (D.Varchar (whole a bs))) Slot.NoValue
-      (λ t. val (rw same (omega (arith, ltb-false n (length bs) l), t)))
-      (λ t. none (value i h)))
+      by-cond (λ s. Reads (Text r n) (slotValue i s)) (fitsText false n bs) (Slot.Value (D.Varchar (whole a bs))) Slot.NoValue
+      (λ t. val (rw same (fits-size false n bs t, fits-valid false n bs t)))
+      (λ t. none (value i h))
 
-  text-range : (n : ℕ) (q : VarlenRange) → Reads (Text r n) (varlenValue (Varchar n) i r q)
+  text-range : (n : ℕ) (q : VarlenRange) → Reads (Text r n) (varlenValue (Varchar false n) i r q)
   text-range n Range.Null = val tt
   text-range n (Range.Bytes a e) = text-slot n a (take (e - a) (drop a r)) (take-again (e - a) (drop a r))
   text-range n Range.Outside = none (range i h)
 
-  text-column : (n : ℕ) (q : VarlenRange) (at : ℕ) → Reads (Text r n) (columnWith (Varchar n) i r q at)
+  text-column : (n : ℕ) (q : VarlenRange) (at : ℕ) → Reads (Text r n) (columnWith (Varchar false n) i r q at)
   text-column n q at =
-      by-cond (Reads (Text r n)) (eqb (bitAt i (drop bitmapStart r)) 1) (Value D.Null) (varlenValue (Varchar n) i r q)
+      by-cond (Reads (Text r n)) (eqb (bitAt i (drop bitmapStart r)) 1) (Value D.Null) (varlenValue (Varchar false n) i r q)
       (λ e. val tt) (λ e. text-range n q)
 
 module _ (i : ℕ) (h : i ≤ 3) (r : List ℕ) where

@@ -14,23 +14,25 @@ use Rattle.error.specs.declared.Refusal.the-variants.{BadValueList, WrongKind, 
 use Rattle.error.specs.declared.Answer.the-variants as Answer
 use Rattle.laws.proofs.Truths.{both, cases}
 use Rattle.row_format.specs.Places.{offsetWidth, rowLimit}
+use Rattle.text_limit.specs.Limit.{sizeBy, fitsText}
+use Rattle.text_limit.proofs.Limits.{fits-size, fits-valid}
 use Rattle.bit_utils.specs.Bits.{bytesFor}
 use Rattle.datatype.specs.declared.DataType.{DataType}
 use Rattle.datatype.specs.declared.DataType.the-variants as T
 use Rattle.datatype.specs.declared.Record.{Record}
 use Rattle.datatype.specs.declared.Record.the-variants.{Column, Refused}
-use Rattle.datatype.specs.Types.{sizeOf, isVarlen, precisionOf}
+use Rattle.datatype.specs.Types.{sizeOf, isVarlen, precisionOf, countsPoints}
 use Rattle.datatype.specs.Schema.{columnKind, columnRecordAt}
 use Rattle.datatype.specs.InnerSteps.{typeIn}
-use Rattle.datatype.proofs.Records.{few-digits}
+use Rattle.datatype.proofs.Records.{few-digits, points-told}
 use Rattle.value.specs.declared.TextRange.{TextRange}
 use Rattle.value.specs.declared.DataValue.{DataValue}
 use Rattle.value.specs.Kinds.{kindOf, valueKind, matches}
 use Rattle.value.specs.Ranges.{noText, inArea, part, rangeOf, textOf}
 use Rattle.value.specs.InnerKinds.{heldKind}
 use Rattle.value_list.specs.Records.{bodyLength, numericAt, rangeAt, valueAt, recordAt as valueRecordAt}
-use Rattle.stored_form.specs.Write.{fitsText, accepted, storedForm}
-use Rattle.stored_form.proofs.Lengths.{fits-below, fits-length, fits-valid}
+use Rattle.stored_form.specs.Write.{accepted, storedForm}
+use Rattle.stored_form.proofs.Lengths.{fits-below}
 use Rattle.record_slot.specs.Stored.{isNull}
 use Rattle.record_slot.specs.InnerSteps.{HasType, Readable, valueIn, declaredAt, textSuits, bitsSuit, suitsAt, Testable, payloadLength, payloadIn, formIn, slotSize, bodyStored, slotStored, SlotReady, NumberReady, TextThere, Suited}
 use Rattle.record_slot.proofs.Tests.{payload-short, cell-wrong, cell-unsuited, size-refused, size-null, size-fixed, size-varchar}
@@ -41,18 +43,18 @@ use Rattle.record_slot.proofs.Held.{read-at, value-body, body-within, D
 pub by-bits : (w : Width) {x z : ℕ} → Fits w x → x ≡ z → x ≡ ofZ w (toZ w z)
 by-bits w {x} f e = sym (ofZ-toZ w x f) ∙ ap (λ (m : ℕ). ofZ w (toZ w m)) e
 
-module _ (n : ℕ) (r : TextRange) (area : List ℕ) (e : textSuits n r area ≡ true) where
+module _ (p : Bool) (n : ℕ) (r : TextRange) (area : List ℕ) (e : textSuits p n r area ≡ true) where
   pub text-inside : r .start + r .length ≤ length area
-  text-inside = leb-true (r .start + r .length) (length area) (both (inArea (length area) r) (fitsText n (part area r)) e .0)
+  text-inside = leb-true (r .start + r .length) (length area) (both (inArea (length area) r) (fitsText p n (part area r)) e .0)
 
-  text-fits : fitsText n (part area r) ≡ true
-  text-fits = both (inArea (length area) r) (fitsText n (part area r)) e .1
+  text-fits : fitsText p n (part area r) ≡ true
+  text-fits = both (inArea (length area) r) (fitsText p n (part area r)) e .1
 
-  pub text-within : length (part area r) ≤ n
-  text-within = fits-length n (part area r) text-fits
+  pub text-within : sizeBy p (part area r) ≤ n
+  text-within = fits-size p n (part area r) text-fits
 
   pub text-there : TextThere r area
-  text-there = record { inside = text-inside; valid = fits-valid n (part area r) text-fits }
+  text-there = record { inside = text-inside; valid = fits-valid p n (part area r) text-fits }
 
 module _ (n : ℕ) (r : TextRange) (area : List ℕ) (e : bitsSuit n r area ≡ true) where
   pub bits-inside : r .start + r .length ≤ length area
@@ -74,7 +76,7 @@ varlen-kind (T.Decimal p s) = refl
 varlen-kind T.Bool = refl
 varlen-kind (T.Char m) = refl
 varlen-kind (T.Character m) = refl
-varlen-kind (T.Varchar m) = refl
+varlen-kind (T.Varchar p m) = refl
 varlen-kind T.Date = refl
 varlen-kind T.Time = refl
 varlen-kind (T.Bit m) = refl
@@ -91,7 +93,7 @@ no-null (T.Decimal p s) e = omega (arith, e)
 no-null T.Bool e = omega (arith, e)
 no-null (T.Char m) e = omega (arith, e)
 no-null (T.Character m) e = omega (arith, e)
-no-null (T.Varchar m) e = omega (arith, e)
+no-null (T.Varchar p m) e = omega (arith, e)
 no-null T.Date e = omega (arith, e)
 no-null T.Time e = omega (arith, e)
 no-null (T.Bit m) e = omega (arith, e)
@@ -164,7 +166,7 @@ module _ (list : List ℕ) (at : ℕ) where
     value : isNull (body t) ≡ false
     payload : payloadLength (valueKind t) list at ≡ cond (isVarlen t) (rangeOf (body t) .length) 0
     size : slotSize (valueKind t) n ≡ sizeOf t
-    suited : (area : List ℕ) → suitsAt (valueKind t) n list at area ≡ accepted t (body t) area
+    suited : (area : List ℕ) → suitsAt (countsPoints t) (valueKind t) n list at area ≡ accepted t (body t) area
     form : isVarlen t ≡ false → (area : List ℕ) → slotStored (valueKind t) n list at area ≡ storedForm t (body t) (textOf area (body t))
 
   -- no range lies in every area
@@ -182,7 +184,7 @@ module _ (list : List ℕ) (at : ℕ) where
   body-of T.Bool n d = record { match = refl; value = refl; payload = refl; size = refl; suited = λ area. in-any area (leb (getD list at 0) 1); form = λ f area. refl }
   body-of (T.Char m) n d = record { match = refl; value = refl; payload = refl; size = sym d; suited = λ area. rw d; form = λ f area. rw d }
   body-of (T.Character m) n d = record { match = refl; value = refl; payload = refl; size = sym d; suited = λ area. rw d; form = λ f area. rw d }
-  body-of (T.Varchar m) n d = record { match = refl; value = refl; payload = refl; size = refl; suited = λ area. rw d; form = λ f. absurd (false≢true (sym f)) }
+  body-of (T.Varchar p m) n d = record { match = refl; value = refl; payload = refl; size = refl; suited = λ area. rw d; form = λ f. absurd (false≢true (sym f)) }
   body-of T.Date n d = record { match = refl; value = refl; payload = refl; size = refl; suited = λ area. in-any area _; form = λ f area. refl }
   body-of T.Time n d = record { match = refl; value = refl; payload = refl; size = refl; suited = λ area. in-any area _; form = λ f area. refl }
   body-of (T.Bit m) n d = record { match = refl; value = refl; payload = refl; size = rw d; suited = λ area. rw d; form = λ f area. rw d }
@@ -212,7 +214,7 @@ digits-declared (T.Decimal p s) n d e = d .0
 digits-declared T.Bool n d e = absurd (omega (arith, e))
 digits-declared (T.Char m) n d e = absurd (omega (arith, e))
 digits-declared (T.Character m) n d e = absurd (omega (arith, e))
-digits-declared (T.Varchar m) n d e = absurd (omega (arith, e))
+digits-declared (T.Varchar p m) n d e = absurd (omega (arith, e))
 digits-declared T.Date n d e = absurd (omega (arith, e))
 digits-declared T.Time n d e = absurd (omega (arith, e))
 digits-declared (T.Bit m) n d e = absurd (omega (arith, e))
@@ -241,6 +243,9 @@ module _ {s : List ℕ} {at : ℕ} {list : List ℕ} {from : ℕ} (r : Readable 
 
   abbrev n : ℕ
   n = declaredAt s at
+
+  abbrev q : Bool
+  q = countsPoints t
 
   known : k ≤ 13
   known = cases 13 k (λ l. absurd (r .value-there {e = BadValueList from} (rw (lt-ltb 13 k l)))) (λ g. g)
@@ -283,8 +288,8 @@ module _ {s : List ℕ} {at : ℕ} {list : List ℕ} {from : ℕ} (r : Readable 
         held-matches : matches t v ≡ true
         held-matches = rw held-value (by-type .match)
 
-        held-suits : suitsAt k n list (from + 1) area ≡ accepted t v area
-        held-suits = ap (λ (m : ℕ). suitsAt m n list (from + 1) area) held ∙ by-type .suited area ∙ ap (λ (u : DataValue). accepted t u area) (sym held-value)
+        held-suits : suitsAt q k n list (from + 1) area ≡ accepted t v area
+        held-suits = ap (λ (m : ℕ). suitsAt q m n list (from + 1) area) held ∙ by-type .suited area ∙ ap (λ (u : DataValue). accepted t u area) (sym held-value)
 
         held-size : payloadLength k list (from + 1) ≡ cond (isVarlen t) (rangeOf v .length) 0
         held-size = ap (λ (m : ℕ). payloadLength m list (from + 1)) held ∙ by-type .payload ∙ ap (λ (u : DataValue). cond (isVarlen t) (rangeOf u .length) 0) (sym held-value)
@@ -301,13 +306,18 @@ module _ {s : List ℕ} {at : ℕ} {list : List ℕ} {from : ℕ} (r : Readable 
         testable {m} d w = subst (λ (j : ℕ). Testable k j list (from + 1)) (sym d) (of-declared (rw d at w))
 
         -- what the test told
-        told-suits : {m : ℕ} {b c : Bool} → m ≡ n → b ≡ suitsAt k m list (from + 1) area → b ≡ c → accepted t v area ≡ c
-        told-suits d f e = sym held-suits ∙ ap (λ (j : ℕ). suitsAt k j list (from + 1) area) (sym d) ∙ sym f ∙ e
+        points-held : eqb (getD s at 0) 16 ≡ q
+        points-held = points-told s at (read-at r .type-is)
 
-        pub unsuitable : {m : ℕ} {b : Bool} → m ≡ n → b ≡ suitsAt k m list (from + 1) area → b ≡ false → Answer.Refused (Unsuitable i) ≡ payloadIn i s at list from area
+        told-suits : {m : ℕ} {b c : Bool} → m ≡ n → b ≡ suitsAt (eqb (getD s at 0) 16) k m list (from + 1) area → b ≡ c → accepted t v area ≡ c
+        told-suits {m} d f e =
+            sym held-suits ∙ ap (λ (j : ℕ). suitsAt q k j list (from + 1) area) (sym d)
+            ∙ ap (λ (b : Bool). suitsAt b k m list (from + 1) area) (sym points-held) ∙ sym f ∙ e
+
+        pub unsuitable : {m : ℕ} {b : Bool} → m ≡ n → b ≡ suitsAt (eqb (getD s at 0) 16) k m list (from + 1) area → b ≡ false → Answer.Refused (Unsuitable i) ≡ payloadIn i s at list from area
         unsuitable d f e = size-refused i t v area (cell-unsuited i t v area (is-value z) held-matches (told-suits d f e))
 
-        module _ {m : ℕ} {b : Bool} (d : m ≡ n) (f : b ≡ suitsAt k m list (from + 1) area) (e : b ≡ true) where
+        module _ {m : ℕ} {b : Bool} (d : m ≡ n) (f : b ≡ suitsAt (eqb (getD s at 0) 16) k m list (from + 1) area) (e : b ≡ true) where
           suited : accepted t v area ≡ true
           suited = told-suits d f e
 
@@ -347,14 +357,14 @@ module _ {s : List ℕ} {at : ℕ} {list : List ℕ} {from : ℕ} (r : Readable 
     varchar-form e area = rw (value-body r, e) refl
 
   module _ {area : List ℕ} (u : Suited t v area) where
-    kind-suits : suitsAt k n list (from + 1) area ≡ true
+    kind-suits : suitsAt q k n list (from + 1) area ≡ true
     kind-suits =
-        ap (λ (j : ℕ). suitsAt j n list (from + 1) area) (kind-is (u .match)) ∙ by-type .suited area
+        ap (λ (j : ℕ). suitsAt q j n list (from + 1) area) (kind-is (u .match)) ∙ by-type .suited area
         ∙ ap (λ (w : DataValue). accepted t w area) (sym (value-is (u .match))) ∙ u .suited
 
     -- by the kind that was found
-    pub suits-as : (j : ℕ) → k ≡ j → suitsAt j n list (from + 1) area ≡ true
-    suits-as j e = ap (λ (m : ℕ). suitsAt m n list (from + 1) area) (sym e) ∙ kind-suits
+    pub suits-as : (j : ℕ) → k ≡ j → suitsAt q j n list (from + 1) area ≡ true
+    suits-as j e = ap (λ (m : ℕ). suitsAt q m n list (from + 1) area) (sym e) ∙ kind-suits
 
   module _ (m : matches t v ≡ true) (f : isVarlen t ≡ false) (area : List ℕ) where
     fixed-form : slotStored k n list (from + 1) area ≡ formIn s at list from area
@@ -377,7 +387,7 @@ module _ {s : List ℕ} {at : ℕ} {list : List ℕ} {from : ℕ} (r : Readable 
       pub form-at : slotStored j n list (from + 1) area ≡ formIn s at list from area
       form-at = form-as (p .match) (p .fixed) area j e
 
-      pub suits-at : suitsAt j n list (from + 1) area ≡ true
+      pub suits-at : suitsAt q j n list (from + 1) area ≡ true
       suits-at = suits-as slot-suited j e
 
       pub room-at : slot + slotSize j n ≤ room

@@ -10,7 +10,7 @@ use lib.ListN.{length, getD, take, drop}
 use Rattle.error.specs.declared.Refusal.the-variants.{BadRecord, BadSchema, BadValueList}
 use Rattle.laws.proofs.Bytes.{from-add, from-one}
 use Rattle.laws.proofs.Truths.{cases, by-cond, and-left, and-right}
-use Rattle.text.specs.Rfc3629.{isText}
+use Rattle.text_limit.specs.Limit.{fitsText}
 use Rattle.bit_utils.specs.Bits.{bytesFor}
 use Rattle.datatype.specs.declared.DataType.{DataType}
 use Rattle.datatype.specs.declared.DataType.the-variants as T
@@ -109,7 +109,7 @@ Declared (T.Decimal p s) n = (n % 256 ≡ p) × (n / 256 ≡ s)
 Declared T.Bool n = Unit {0}
 Declared (T.Char m) n = m ≡ n
 Declared (T.Character m) n = m ≡ n
-Declared (T.Varchar m) n = m ≡ n
+Declared (T.Varchar p m) n = m ≡ n
 Declared T.Date n = Unit {0}
 Declared T.Time n = Unit {0}
 Declared (T.Bit m) n = m ≡ n
@@ -141,7 +141,8 @@ telling k =
     (either (eqb k 12) _ _ (λ n. tt)
     (either (eqb k 13) _ _ (λ n. tt)
     (either (eqb k 14) _ _ (λ n. (refl, refl))
-    (either (eqb k 15) _ _ (λ n. tt) tt))))))))))))))
+    (either (eqb k 15) _ _ (λ n. tt)
+    (either (eqb k 16) _ _ (λ n. (refl, refl)) tt)))))))))))))))
 
 abbrev Told : ℕ → ℕ → Record → Type 0
 Told h n (Column t next) = (h ≡ valueKind t) × Declared t n
@@ -187,8 +188,8 @@ module _ (n a b : ℕ) (area : List ℕ) where
   abbrev range : TextRange
   range = record { start = a; length = b }
 
-  pub text-outside : length area < a + b → false ≡ textSuits n range area
-  text-outside h = rw (lt-leb (a + b) (length area) h)
+  pub text-outside : (p : Bool) → length area < a + b → false ≡ textSuits p n range area
+  text-outside p h = rw (lt-leb (a + b) (length area) h)
 
   pub bits-outside : length area < a + b → false ≡ bitsSuit n range area
   bits-outside h = rw (lt-leb (a + b) (length area) h)
@@ -197,13 +198,8 @@ module _ (n a b : ℕ) (area : List ℕ) where
     length-range : length (take b (drop a area)) ≡ b
     length-range = length-part area range h
 
-    pub text-long : n < b → false ≡ textSuits n range area
-    text-long l = rw (le-leb (a + b) (length area) h, length-range, lt-leb b n l)
-
-    pub text-told : b ≤ n → {t : Bool} → t ≡ isText (take (a + b - a) (drop a area)) → t ≡ textSuits n range area
-    text-told l e =
-        let m : a + b - a ≡ b = omega arith in
-        rw (le-leb (a + b) (length area) h, length-range, le-leb b n l) (rw m at e)
+    pub text-told : (p : Bool) {t : Bool} → t ≡ fitsText p n (take (a + b - a) (drop a area)) → t ≡ textSuits p n range area
+    text-told p e = let m : a + b - a ≡ b = omega arith in rw (le-leb (a + b) (length area) h) (rw m at e)
 
     pub bits-told : {m : ℕ} {t : Bool} → m ≡ bytesFor n → t ≡ eqb b m → t ≡ bitsSuit n range area
     bits-told e f = rw (le-leb (a + b) (length area) h, length-range) (rw e at f)

@@ -9,6 +9,7 @@ use lib.ListN.{length, getD}
 use Rattle.text.specs.Check.{points}
 use Rattle.text.proofs.Points.{points-some, points-le, points-char}
 use Rattle.datatype.specs.declared.DataType.{DataType}
+use Rattle.datatype.specs.Types.{countsPoints}
 use Rattle.datatype.specs.Schema.{columnRecordAt}
 use Rattle.datatype.specs.InnerSteps.{typeIn}
 use Rattle.value.specs.declared.TextRange.{TextRange}
@@ -26,12 +27,12 @@ use Rattle.record_slot.proofs.Forms.{text-within, text-there, is-value,
 pub few-points : (r : TextRange) (area : List ℕ) → TextThere r area → points (part area r) ≤ r .length
 few-points r area h = omega (arith, points-le (part area r) (points-some (part area r) (h .valid)), length-part area r (h .inside))
 
-module _ (n : ℕ) (r : TextRange) (area : List ℕ) (e : textSuits n r area ≡ true) where
+module _ (n : ℕ) (r : TextRange) (area : List ℕ) (e : textSuits false n r area ≡ true) where
   abbrev there : TextThere r area
-  there = text-there n r area e
+  there = text-there false n r area e
 
   pub range-within : r .length ≤ n
-  range-within = omega (arith, text-within n r area e, length-part area r (there .inside))
+  range-within = omega (arith, text-within false n r area e, length-part area r (there .inside))
 
   -- with blanks up to n bytes, as they are counted
   pub filled-points : {x l : ℕ} → x ≡ points (part area r) → l ≡ r .length → x + (n - l) ≡ points (blankFilled n (part area r))
@@ -63,7 +64,7 @@ module _ {s : List ℕ} {at : ℕ} {list : List ℕ} {from : ℕ} (r : Readable 
       some-value : isNull v ≡ false
       some-value = is-value r (λ z. let y = sym e ∙ z in omega (arith, h, y))
 
-      pub text-ready : suitsAt j (declaredAt s at) list (from + 1) area ≡ true
+      pub text-ready : suitsAt (countsPoints t) j (declaredAt s at) list (from + 1) area ≡ true
       text-ready = suits-as r (q some-value) j e
 
       of-kind : isTextKind j ≡ true → points form ≡ pointsStored s at list from area

@@ -16,6 +16,7 @@ use Rattle.laws.specs.Bytes.{toLe}
 use Rattle.row_format.specs.Places.{rowLimit}
 use Rattle.row_format.specs.Table.{Cell, bytes}
 use Rattle.text.specs.Rfc3629.{isText}
+use Rattle.text_limit.specs.Limit.{fitsText}
 use Rattle.bit_utils.specs.Bits.{bytesFor, packBits, unpackBits}
 use Rattle.numeric.specs.Packed.{encodeBcd}
 use Rattle.datatype.specs.declared.DataType.{DataType}
@@ -36,7 +37,7 @@ use Rattle.value_list.specs.declared.ValueRecord.the-variants as Value
 use Rattle.value_list.specs.InnerSizes.{sizeAt}
 use Rattle.value_list.specs.Records.{bodyLength, numberAt, numericAt, rangeAt, recordAt as valueRecordAt}
 use Rattle.stored_form.specs.Number.{isNegative, magnitude}
-use Rattle.stored_form.specs.Write.{fitsDigits, fitsText, accepted as holds, storedForm}
+use Rattle.stored_form.specs.Write.{fitsDigits, accepted as holds, storedForm}
 use Rattle.stored_form.specs.Points.{storedPoints}
 use Rattle.record_slot.specs.Stored.{isNull, cellIn}
 
@@ -94,8 +95,8 @@ givenAt s at list from =
 abbrev pub declaredAt : List ℕ → ℕ → ℕ
 declaredAt s at = cond (ltb (length s) (at + 3)) 0 (numberAt 2 s (at + 1))
 
-abbrev pub textSuits : ℕ → TextRange → List ℕ → Bool
-textSuits n r area = cond (inArea (length area) r) (fitsText n (part area r)) false
+abbrev pub textSuits : Bool → ℕ → TextRange → List ℕ → Bool
+textSuits byPoints n r area = cond (inArea (length area) r) (fitsText byPoints n (part area r)) false
 
 abbrev pub bitsSuit : ℕ → TextRange → List ℕ → Bool
 bitsSuit n r area = cond (inArea (length area) r) (eqb (length (part area r)) (bytesFor n)) false
@@ -104,13 +105,13 @@ abbrev pub numberSuits : ℕ → NumericValue → Bool
 numberSuits n x = fitsDigits (T.Numeric (n % 256) (n / 256)) (x .scale) (magnitude (x .high) (x .low))
 
 -- whether a value of kind k, whose body stands at a place of the list, suits a type of that kind which was declared
--- with n
-abbrev pub suitsAt : ℕ → ℕ → List ℕ → ℕ → List ℕ → Bool
-suitsAt k n list at area =
+-- with n, which counts bytes or code points of a Varchar
+abbrev pub suitsAt : Bool → ℕ → ℕ → List ℕ → ℕ → List ℕ → Bool
+suitsAt byPoints k n list at area =
     cond (eqb k 6) (numberSuits n (numericAt list at))
     (cond (eqb k 7) (leb (getD list at 0) 1)
-    (cond (eqb k 8) (textSuits n (rangeAt list at) area)
-    (cond (eqb k 9) (textSuits n (rangeAt list at) area)
+    (cond (eqb k 8) (textSuits false n (rangeAt list at) area)
+    (cond (eqb k 9) (textSuits byPoints n (rangeAt list at) area)
     (cond (eqb k 10) (isDate (toZ w32 (numberAt 4 list at)))
     (cond (eqb k 11) (isTime (toZ w64 (numberAt 8 list at)))
     (cond (eqb k 12) (bitsSuit n (rangeAt list at) area)

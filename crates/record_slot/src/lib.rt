@@ -1,5 +1,6 @@
 // A value record as its column takes it: whether the column holds the value, and the stored form in the column's
 // slot, by kinds and bytes.
+use datatype::schema_kinds;
 use error::Answer;
 use error::Refusal;
 use value::value_kinds;
@@ -60,20 +61,17 @@ pub fn record_length(values: &[u8], from: usize) -> usize
     1 + body
 }
 
-// Whether the range at a place of the list is a text of at most n bytes.
-fn text_suits(values: &[u8], body: usize, n: usize, text: &[u8]) -> bool
+// Whether the range at a place of the list is a text of at most n bytes or code points.
+fn text_suits(values: &[u8], body: usize, by_points: bool, n: usize, text: &[u8]) -> bool
     requires { ⌜ body + 4 ≤ length (now values) ⌝ }
-    ensures { λ r. ⌜ r ≡ textSuits n (rangeAt (now (values .entry)) body) (now (text .entry)) ⌝ }
+    ensures { λ r. ⌜ r ≡ textSuits «by_points» n (rangeAt (now (values .entry)) body) (now (text .entry)) ⌝ }
 {
     let start = endian::read_u16(values, body) as usize;
     let length = endian::read_u16(values, body + 2) as usize;
     if text.len() < start + length {
         return false;
     }
-    if n < length {
-        return false;
-    }
-    text::is_valid(&text[start..start + length])
+    text_limit::is_within(&text[start..start + length], by_points, n)
 }
 
 // Whether the range at a place of the list is a bit string of as many bytes as n bits fill.
@@ -103,16 +101,17 @@ fn number_suits(values: &[u8], body: usize, n: usize) -> bool
     )
 }
 
-// Whether a column that was declared with n holds a value of its kind, whose body stands at a place of the list.
-fn suits_at(kind: u8, n: usize, values: &[u8], body: usize, text: &[u8]) -> bool
+// Whether a column that was declared with n holds a value of its kind, whose body stands at a place of the list; of a
+// Varchar n counts bytes or code points.
+fn suits_at(by_points: bool, kind: u8, n: usize, values: &[u8], body: usize, text: &[u8]) -> bool
     requires { ⌜ Testable kind n (now values) body ⌝ }
-    ensures { λ r. ⌜ r ≡ suitsAt kind n (now (values .entry)) body (now (text .entry)) ⌝ }
+    ensures { λ r. ⌜ r ≡ suitsAt «by_points» kind n (now (values .entry)) body (now (text .entry)) ⌝ }
 {
     match kind {
         value_kinds::NUMERIC => number_suits(values, body, n),
         value_kinds::BOOL => values[body] <= 1,
-        value_kinds::CHAR => text_suits(values, body, n, text),
-        value_kinds::VARCHAR => text_suits(values, body, n, text),
+        value_kinds::CHAR => text_suits(values, body, false, n, text),
+        value_kinds::VARCHAR => text_suits(values, body, by_points, n, text),
         value_kinds::DATE => temporal::is_date(endian::read_i32(values, body)),
         value_kinds::TIME => temporal::is_time(endian::read_i64(values, body)),
         value_kinds::BIT => bits_suit(values, body, n, text),
@@ -149,10 +148,19 @@ pub fn payload_at(
     if kind == value_kinds::NULL {
         return Answer::Done(0);
     }
-    if kind != value::held_kind(schema[at]) {
+    let column_kind = schema[at];
+    if kind != value::held_kind(column_kind) {
         return Answer::Refused(Refusal::WrongKind(column));
     }
-    if suits_at(kind, declared_length(schema, at), values, from + 1, text) {
+    let by_points = column_kind == schema_kinds::VARCHAR_CHARS;
+    if suits_at(
+        by_points,
+        kind,
+        declared_length(schema, at),
+        values,
+        from + 1,
+        text,
+    ) {
         return Answer::Done(payload_length(kind, values, from + 1));
     }
     Answer::Refused(Refusal::Unsuitable(column))
@@ -190,7 +198,7 @@ pub fn entry_size(kind: u8) -> usize
 // A Char's text, whose range stands at a place of the list, and blanks up to n bytes.
 fn write_char(out: &mut [u8], slot: usize, n: usize, values: &[u8], body: usize, text: &[u8])
     requires { ⌜ (body + 4 ≤ length (now values))
-        × ((slot + n ≤ length (now out)) × (textSuits n (rangeAt (now values) body) (now text) ≡ true)) ⌝ }
+        × ((slot + n ≤ length (now out)) × (textSuits false n (rangeAt (now values) body) (now text) ≡ true)) ⌝ }
     ensures { λ _. ⌜ now (out .exit)
         ≡ sets (now (out .entry)) slot
         (blankFilled n (part (now (text .entry)) (rangeAt (now (values .entry)) body))) ⌝ }
@@ -285,7 +293,7 @@ fn text_points(values: &[u8], body: usize, text: &[u8]) -> usize
 // With the blanks up to n bytes, each of which is one.
 fn char_points(values: &[u8], body: usize, n: usize, text: &[u8]) -> usize
     requires { ⌜ (body + 4 ≤ length (now values))
-        × ((n ≤ 65535) × (textSuits n (rangeAt (now values) body) (now text) ≡ true)) ⌝ }
+        × ((n ≤ 65535) × (textSuits false n (rangeAt (now values) body) (now text) ≡ true)) ⌝ }
     ensures { λ r. ⌜ (r ≡ points (blankFilled n (part (now (text .entry)) (rangeAt (now (values .entry)) body))))
         × (r ≤ n) ⌝ }
 {

@@ -1,5 +1,5 @@
 -- The version of the C interface as a number. It is ours: no paper has one. A minor version is a series: within it no
--- call changes its form, in another one it may; an added call raises
+-- call changes its form, in another one it may; an added call or kind raises
 -- the patch. FORMAT 7.7.
 use Prim.Native.Nat.{ℕ, _+_, _*_}
 
@@ -7,4 +7,4 @@ abbrev pub versionNumber : ℕ → ℕ → ℕ → ℕ
 versionNumber major minor patch = 65536 * major + 256 * minor + patch
 
 abbrev pub version : ℕ
-version = versionNumber 0 3 1
+version = versionNumber 0 3 2

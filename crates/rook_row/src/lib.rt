@@ -315,12 +315,12 @@ pub extern "C" fn rook_occupations_print(list: &[u8], out: &mut [u8]) -> RowAnsw
     row_answer(occupation_list::print(list, out), 0)
 }
 
-// The version of this interface, 0.3.1, with a byte for each of its numbers.
+// The version of this interface, 0.3.2, with a byte for each of its numbers.
 #[no_mangle]
 pub extern "C" fn rook_row_version() -> u32
     ensures { λ r. ⌜ r ≡ version ⌝ }
 {
-    0x000301
+    0x000302
 }
 
 // The same, by a name that says the series: what is made for another one does not link.

@@ -101,7 +101,7 @@ module _ (w : ℕ) (p : Bool) (ts : List DataType) (r : List ℕ) (octets : AllB
 
   slot-in : isVarlen t ≡ false → slotPlace w p (map shapeOf ts) i + sizeOf t ≤ length r
   slot-in f =
-      let s : getD (map shapeOf ts) i Varlen ≡ Fixed (sizeOf t) (alignmentOf t) = at-map shapeOf i ts (T.Varchar 0)
+      let s : getD (map shapeOf ts) i Varlen ≡ Fixed (sizeOf t) (alignmentOf t) = at-map shapeOf i ts (T.Varchar false 0)
       ∙ rw f in
       let q = rw (ap slotSize s) at (slot-inside p (map shapeOf ts) i (all-aligned ts) (rw length-map h)) in
       omega (arith, q, long)

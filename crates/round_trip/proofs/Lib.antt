@@ -9,3 +9,4 @@ pub mod Same
 pub mod Types
 pub mod Columns
 pub mod SameBuilt
+pub mod Layouts

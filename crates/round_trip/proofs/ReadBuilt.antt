@@ -195,7 +195,7 @@ module _ (w : ℕ) (ts : List DataType) (vs : List DataValue) (area : List ℕ) 
     null-built = null-of-cell (getD cs i none) refl (cell-at area ts vs e n i h)
 
     shape-is : getD ss i Varlen ≡ shapeOf t
-    shape-is = at-map shapeOf i ts (T.Varchar 0)
+    shape-is = at-map shapeOf i ts (T.Varchar false 0)
 
     module _ (fits : length r < 256 ^ w) (sized : AllSized vs) where
       module _ (f : getD cs i none ≡ some form) where

@@ -1,7 +1,7 @@
 -- A row that reads has the same content as what is built of its own values.
 use Prim.Native.Nat.{ℕ, zero, suc, _+_, _^_, _<_}
 use mathlib.Core.Path.{_≡_, sym, ap, _∙_}
-use mathlib.Core.Bool.{Bool, true}
+use mathlib.Core.Bool.{Bool, true, false}
 use mathlib.Core.List.{List, [], _∷_, map}
 use native.Mathlib.Omega.{arith}
 use lib.ListN.{length, getD, drop, drop-of-length-le}
@@ -85,7 +85,7 @@ module _ {w limit : ℕ} {schema list r out : List ℕ} {n : ℕ} {after : List 
   columns-same (suc m) i e =
       let h : i < length (b .columns) = omega arith in
       rw (
-        drop-cons (b .columns) i (T.Varchar 0) h,
+        drop-cons (b .columns) i (T.Varchar false 0) h,
         drop-cons (b .given) i Null
             (rw (taken b .count) h),
         column-same i h,

@@ -1,6 +1,7 @@
 -- Schema and value list walked together: the records that are left of both.
 use Prim.Native.Nat.{ℕ, zero, suc, _+_, _-_, _≤_, _<_}
 use mathlib.Core.Path.{_≡_, sym, ap, _∙_, subst}
+use mathlib.Core.Bool.{false}
 use mathlib.Core.List.{List, [], _∷_}
 use native.Mathlib.Numerals.{add-one}
 use native.Mathlib.Omega.{arith}
@@ -55,10 +56,10 @@ module _ {s : List ℕ} {i at : ℕ} (w : Columns s i at) (h : i < length (types
     first = first-left s at (256 - i) (w .columns) column-there (256 - (i + 1)) (omega (arith, few)) e
 
     split : t ∷ first .tail ≡ typeAt types i ∷ drop (i + 1) types
-    split = sym (first .split) ∙ rw (add-one i) (drop-cons types i (T.Varchar 0) h)
+    split = sym (first .split) ∙ rw (add-one i) (drop-cons types i (T.Varchar false 0) h)
 
     pub type-there : t ≡ typeAt types i
-    type-there = ap (λ (us : List DataType). getD us 0 (T.Varchar 0)) split
+    type-there = ap (λ (us : List DataType). getD us 0 (T.Varchar false 0)) split
 
     pub columns-next : Columns s (i + 1) next
     columns-next = record { within = omega arith; columns = first .ahead ∙ ap ok (ap (λ (us : List DataType). drop 1 us) split) }
@@ -126,7 +127,7 @@ module _ {s : List ℕ} {l : RowLayout} {list area : List ℕ} (b : Buildable s 
     value-given = ap valueIn same-record
 
     pub types-split : drop i ts ≡ g .ty ∷ drop (i + 1) ts
-    types-split = rw (type-given, add-one i) (drop-cons ts i (T.Varchar 0) h)
+    types-split = rw (type-given, add-one i) (drop-cons ts i (T.Varchar false 0) h)
 
     pub values-split : drop i vs ≡ g .value ∷ drop (i + 1) vs
     values-split = rw (value-given, add-one i) (drop-cons vs i Null (rw (b .count) h))

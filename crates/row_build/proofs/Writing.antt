@@ -62,7 +62,7 @@ packed-more b (T.Decimal p s) = refl
 packed-more b T.Bool = refl
 packed-more b (T.Char n) = refl
 packed-more b (T.Character n) = refl
-packed-more b (T.Varchar n) = omega arith
+packed-more b (T.Varchar p n) = omega arith
 packed-more b T.Date = refl
 packed-more b T.Time = refl
 packed-more b (T.Bit n) = refl
@@ -139,7 +139,7 @@ module _ {s : List ℕ} {l : RowLayout} {list area out₀ : List ℕ} (f : Filla
       entry-at = k .entry-is ∙ rw (columns-are, rank-is)
 
       shape-is : getD ss i Varlen ≡ shapeOf (g .ty)
-      shape-is = at-map shapeOf i ts (T.Varchar 0) ∙ ap shapeOf (sym (type-given (f .given) (k .walk) h r))
+      shape-is = at-map shapeOf i ts (T.Varchar false 0) ∙ ap shapeOf (sym (type-given (f .given) (k .walk) h r))
 
       fixed-is : isVarlen (g .ty) ≡ false → getD ss i Varlen ≡ Fixed (sizeOf (g .ty)) (alignmentOf (g .ty))
       fixed-is e = shape-is ∙ rw e

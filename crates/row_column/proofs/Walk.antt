@@ -63,7 +63,7 @@ column-same t i r q q' at at' f g =
     (λ v. ap (λ (n : ℕ). readBytes t i r n (n + sizeOf t)) (g v)))
 
 pub shape-at : (ts : List DataType) (i : ℕ) → getD (map shapeOf ts) i Varlen ≡ shapeOf (typeAt ts i)
-shape-at ts i = at-map shapeOf i ts (Varchar 0)
+shape-at ts i = at-map shapeOf i ts (Varchar false 0)
 
 pub shape-fixed : (ts : List DataType) (i : ℕ) → isVarlen (typeAt ts i) ≡ false
     → getD (map shapeOf ts) i Varlen ≡ Fixed (sizeOf (typeAt ts i)) (alignmentOf (typeAt ts i))

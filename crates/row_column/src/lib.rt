@@ -66,7 +66,10 @@ fn column_here(schema: &[u8], at: usize, before: RowLayout) -> Column
     match datatype::record_at(schema, at) {
         Record::Refused(_) => Column {
             before,
-            ty: DataType::Varchar(0),
+            ty: DataType::Varchar {
+                by_points: false,
+                n: 0,
+            },
         },
         Record::Column(ty, _) => Column { before, ty },
     }

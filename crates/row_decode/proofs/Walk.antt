@@ -1,7 +1,7 @@
 -- The walk over all columns gives what the definition gives by their numbers.
 use Prim.Native.Nat.{ℕ, zero, suc, _+_, _<_}
 use mathlib.Core.Path.{_≡_, sym, ap, ap₂, _∙_}
-use mathlib.Core.Bool.{Bool}
+use mathlib.Core.Bool.{Bool, false}
 use mathlib.Core.List.{List}
 use native.Mathlib.Numerals.{add-one}
 use native.Mathlib.Omega.{arith}
@@ -33,7 +33,7 @@ module _ (p : Bool) (ts : List DataType) (wanted : ℕ → Bool) (r : List ℕ) 
       let b : RowLayout = layoutBefore ts i in
       let t : DataType = typeAt ts i in
       let here : Bool → ColumnRead = λ x. wantedValue x (walkedColumn l p b t r) in
-      ap (walkedRead l p wanted r b) (drop-cons ts i (Varchar 0) h)
+      ap (walkedRead l p wanted r b) (drop-cons ts i (Varchar false 0) h)
       ∙ ap₂ (λ (n : ℕ) (k : RowLayout). onColumn (here (wanted n)) (walkedRead l p wanted r k (drop (suc i) ts)))
       (columns-before ts i (omega arith)) (sym (rw (add-one i) at (before-next ts i h)))
 

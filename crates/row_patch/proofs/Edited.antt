@@ -45,7 +45,7 @@ module _ (ts : List DataType) (p : Bool) (i : ℕ) (c : Cell) (r : List ℕ) (a 
   same-before = ap layoutOf (sym (take-map shapeOf i ts))
 
   same-shape : getD ss i Varlen ≡ shapeOf ty
-  same-shape = at-map shapeOf i ts (Varchar 0)
+  same-shape = at-map shapeOf i ts (Varchar false 0)
 
   -- by whether the column is a Varchar
   by-type : (v : Bool) → shapeOf ty ≡ cond v Varlen (Fixed (sizeOf ty) (alignmentOf ty)) → (v ≡ true → RangeOf (layoutFor ts) before a e r)

@@ -14,7 +14,7 @@ use Rattle.error.specs.declared.Flag.the-variants.{Is}
 use Rattle.error.specs.Result.{ok, refused}
 use Rattle.laws.specs.Bytes.{entryAt}
 use Rattle.laws.proofs.Truths.{by-cond}
-use Rattle.text.specs.Rfc3629.{isText}
+use Rattle.text_limit.specs.Limit.{fitsText}
 use Rattle.row_format.specs.Places.{tableStart, offsetWidth}
 use Rattle.row_format.specs.Table.{rangeEnd}
 use Rattle.row_layout.specs.declared.RowLayout.{RowLayout}
@@ -67,20 +67,15 @@ range-inside table v k r =
     (λ x. by-cond (Inside r) (ltb (length r) e) Range.Outside (Range.Bytes a e) (λ y. tt)
     (λ y. (ltb-false e a x, ltb-false (length r) e y))))
 
-text-cases : (t u : Bool) (i : ℕ) (v : DataValue)
-    → reads (slotValue i (cond t Slot.NoValue (valueIf u v))) ≡ cond t false u
-text-cases true u i v = refl
-text-cases false true i v = refl
-text-cases false false i v = refl
+text-cases : (t : Bool) (i : ℕ) (v : DataValue) → t ≡ reads (slotValue i (valueIf t v))
+text-cases true i v = refl
+text-cases false i v = refl
 
-pub range-reads : (n i : ℕ) (r : List ℕ) (q : VarlenRange) → Inside r q
-    → rangeReads n r q ≡ reads (varlenValue (Varchar n) i r q)
-range-reads n i r Range.Null h = refl
-range-reads n i r Range.Outside h = refl
-range-reads n i r (Range.Bytes a e) h =
-    let m : length (take (e - a) (drop a r)) ≡ e - a =
-    length-take-le (e - a) (drop a r) (rw length-drop (omega (arith, h .0, h .1))) in
-    sym (rw m (text-cases (ltb n (e - a)) (isText (take (e - a) (drop a r))) i _))
+pub range-reads : (p : Bool) (n i : ℕ) (r : List ℕ) (q : VarlenRange)
+    → rangeReads p n r q ≡ reads (varlenValue (Varchar p n) i r q)
+range-reads p n i r Range.Null = refl
+range-reads p n i r Range.Outside = refl
+range-reads p n i r (Range.Bytes a e) = text-cases (fitsText p n (take (e - a) (drop a r))) i _
 
 -- ---- the columns: what is left of them decides
 

@@ -1,14 +1,13 @@
 -- For the proofs: whether columns read, without the values, and the place that a walk over a schema has come to.
 use Prim.Native.Nat.{ℕ, _-_, _≤_}
-use mathlib.Core.Bool.{Bool, true, false, cond}
+use mathlib.Core.Bool.{Bool, true, false}
 use mathlib.Core.List.{List}
 use mathlib.Core.Path.{_≡_}
-use lib.Dec.{ltb}
 use lib.ListN.{length, take, drop}
 use Rattle.error.specs.declared.Flag.{Flag}
 use Rattle.error.specs.declared.Flag.the-variants.{Is, Refused}
 use Rattle.error.specs.Result.{ok, refused}
-use Rattle.text.specs.Rfc3629.{isText}
+use Rattle.text_limit.specs.Limit.{fitsText}
 use Rattle.row_layout.specs.declared.RowLayout.{RowLayout}
 use Rattle.row_layout.specs.declared.VarlenRange.{VarlenRange}
 use Rattle.row_layout.specs.declared.VarlenRange.the-variants as Range
@@ -20,11 +19,11 @@ use Rattle.value_list.specs.Lists.{Values}
 use Rattle.row_column.specs.declared.ColumnRead.{ColumnRead}
 use Rattle.row_column.specs.declared.ColumnRead.the-variants as Column
 
--- whether the range of a Varchar(n) reads: that of an offset 0 as null
-abbrev pub rangeReads : ℕ → List ℕ → VarlenRange → Bool
-rangeReads n r Range.Null = true
-rangeReads n r (Range.Bytes a e) = cond (ltb n (e - a)) false (isText (take (e - a) (drop a r)))
-rangeReads n r Range.Outside = false
+-- whether the range of a Varchar reads: that of an offset 0 as null
+abbrev pub rangeReads : Bool → ℕ → List ℕ → VarlenRange → Bool
+rangeReads byPoints n r Range.Null = true
+rangeReads byPoints n r (Range.Bytes a e) = fitsText byPoints n (take (e - a) (drop a r))
+rangeReads byPoints n r Range.Outside = false
 
 -- the refusal of a column that does not read
 abbrev pub refusalIn : ColumnRead → Flag

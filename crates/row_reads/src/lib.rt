@@ -20,21 +20,23 @@ ghost use Rattle.row_sound.specs.InnerSlots.{Recorded};
 ghost use Rattle.row_decode.specs.InnerWalk.{walkedRead};
 ghost use Rattle.row_reads.specs.InnerReads.{rangeReads, refusalIn, readAll, WalkAt};
 
-// The range of a Varchar(n) that is not marked null.
-fn range_reads(n: usize, row: &[u8], table: usize, varlens: usize, rank: usize) -> bool
+// The range of a Varchar that is not marked null, whose n counts bytes or code points.
+fn range_reads(
+    by_points: bool,
+    n: usize,
+    row: &[u8],
+    table: usize,
+    varlens: usize,
+    rank: usize,
+) -> bool
     requires { ⌜ (rank < varlens) × (table + varlens * offsetWidth ≤ length (now row)) ⌝ }
-    ensures { λ r.
-        ⌜ r ≡ rangeReads n (now (row .entry)) (varlenRange offsetWidth table varlens rank (now (row .entry))) ⌝ }
+    ensures { λ r. ⌜ r ≡ rangeReads «by_points» n (now (row .entry))
+        (varlenRange offsetWidth table varlens rank (now (row .entry))) ⌝ }
 {
     match row_layout::varlen_range(row, table, varlens, rank) {
         VarlenRange::Null => true,
         VarlenRange::Outside => false,
-        VarlenRange::Bytes(start, end) => {
-            if n < end - start {
-                return false;
-            }
-            text::is_valid(&row[start..end])
-        }
+        VarlenRange::Bytes(start, end) => text_limit::is_within(&row[start..end], by_points, n),
     }
 }
 
@@ -57,14 +59,17 @@ fn body_reads(
     if null_bitmap::column_bit_is_set(row, before.num_columns) {
         return true;
     }
-    match kind {
-        schema_kinds::VARCHAR => range_reads(
+    if datatype::is_varchar(kind) {
+        return range_reads(
+            kind == schema_kinds::VARCHAR_CHARS,
             n as usize,
             row,
             layout.varlen_table_offset(),
             layout.num_varlen_cols,
             before.num_varlen_cols,
-        ),
+        );
+    }
+    match kind {
         schema_kinds::CHAR => row_sound::char_sound(n, layout, packed, before, row),
         schema_kinds::CHARACTER => row_sound::char_sound(n, layout, packed, before, row),
         schema_kinds::BIT => true,

@@ -133,7 +133,7 @@ module _ {ts : List DataType} {cs : List Cell} {slots : List (List ℕ)} (writte
     below = rw (length-map ts shapeOf) h
 
     holds : holdsForm (typeAt ts i) cell ≡ true
-    holds = writes-form (forall-get written i h (Varchar 0) none)
+    holds = writes-form (forall-get written i h (Varchar false 0) none)
 
     bit-is : bitAt i bits ≡ nullBit cell
     bit-is =

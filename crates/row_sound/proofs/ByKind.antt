@@ -17,8 +17,8 @@ use Rattle.datatype.specs.declared.Record.{Record}
 use Rattle.datatype.specs.declared.Record.the-variants.{Column, Refused}
 use Rattle.datatype.specs.Types.{sizeOf, alignmentOf, isVarlen}
 use Rattle.datatype.specs.Schema.{Kind, unknown, plain, sized, digits, columnKind, goodDigits, columnRecordOf, columnRecordAt}
-use Rattle.datatype.specs.InnerSteps.{plainSize, plainType, typeIn}
-use Rattle.datatype.proofs.KindTable.{Bodied, no, word, pair, bodied}
+use Rattle.datatype.specs.InnerSteps.{plainSize, plainType, isVarcharKind, typeIn}
+use Rattle.datatype.proofs.KindTable.{Bodied, no, word, pair, bodied, varchar-kind, no-varchar}
 use Rattle.datatype.proofs.Again.{Ahead, ahead-column}
 use Rattle.stored_form.specs.Read.{readSlot}
 use Rattle.row_sound.specs.InnerSlots.{Recorded}
@@ -75,7 +75,8 @@ any-of k d t s =
     (either-any (eqb k 9) _ _ (body-any word)
     (either-any (eqb k 10) _ _ (body-any word)
     (either-any (eqb k 11) _ _ (body-any word)
-    (either-any (eqb k 14) _ _ (body-any word) (body-any no)))))))))))))
+    (either-any (eqb k 14) _ _ (body-any word)
+    (either-any (eqb k 16) _ _ (body-any word) (body-any no))))))))))))))
 
 any-in : {q : Kind} → AnyBytes q → 0 < plainSize q → (a : ℕ) (bs : List ℕ) → true ≡ isValue (readSlot (plainType q) a bs)
 any-in (any f) h = f
@@ -103,9 +104,10 @@ module _ (s : List ℕ) (at k : ℕ) where
   fixed-line true x y p q = p
   fixed-line false x y p q = q
 
-  pub body-fixed : (k ≡ 11 → ⊥) → isVarlen (bodyType s at (columnKind k)) ≡ false
+  pub body-fixed : isVarcharKind k ≡ false → isVarlen (bodyType s at (columnKind k)) ≡ false
   body-fixed h =
-      rw (ne-eqb k 11 h)
+      let no = no-varchar k h in
+      rw (ne-eqb k 11 (no .0), ne-eqb k 16 (no .1))
       (fixed-line (eqb k 1) (plain T.SmallInt) _ refl
       (fixed-line (eqb k 2) (plain T.Int) _ refl
       (fixed-line (eqb k 3) (plain T.BigInt) _ refl
@@ -160,6 +162,10 @@ body-typed b = ap typeIn (b .is)
 
 pub typed-as : {s : List ℕ} {at k : ℕ} → Bodily s at k → {j : ℕ} → k ≡ j → typeIn (columnRecordAt s at) ≡ bodyType s at (columnKind j)
 typed-as {s} {at} b e = body-typed b ∙ ap (λ (i : ℕ). bodyType s at (columnKind i)) e
+
+-- a Varchar's
+pub varchar-typed : {s : List ℕ} {at k : ℕ} → Bodily s at k → isVarcharKind k ≡ true → typeIn (columnRecordAt s at) ≡ T.Varchar (eqb k 16) (fromLe (take 2 (drop (at + 1) s)))
+varchar-typed {s} {at} {k} b e = body-typed b ∙ ap (bodyType s at) (varchar-kind k e)
 
 pub recorded-good : {s : List ℕ} {at : ℕ} → Recorded s at → {e : Refusal} → columnRecordAt s at ≡ Refused e → ⊥
 recorded-good c e = subst IsColumn (sym (c .is) ∙ e) tt

@@ -9,7 +9,7 @@ use borrow.Author.Tests.{ne-eqb}
 use lib.Dec.{eqb, ltb}
 use lib.ListN.{length, take, drop}
 use lib.Seq.{take-all}
-use Rattle.text.specs.Rfc3629.{isText}
+use Rattle.text_limit.specs.Limit.{fitsText}
 use Rattle.row_format.specs.Table.{Cell, bytes, offset}
 use Rattle.row_format.specs.Row.{nullBit}
 use Rattle.datatype.specs.declared.DataType.{DataType}
@@ -129,12 +129,11 @@ varchar-text (T.Decimal p s) i b v f = absurd (false≢true v)
 varchar-text T.Bool i b v f = absurd (false≢true v)
 varchar-text (T.Char n) i b v f = absurd (false≢true v)
 varchar-text (T.Character n) i b v f = absurd (false≢true v)
-varchar-text (T.Varchar n) i b v f = by-tests (ltb n (length b)) (isText b) f
+varchar-text (T.Varchar p n) i b v f = by-test (fitsText p n b) f
   where
-    by-tests : (x y : Bool) → isValue (cond x Slot.NoValue (valueIf y (D.Varchar (whole 0 b)))) ≡ true → content b (slotValue i (cond x Slot.NoValue (valueIf y (D.Varchar (whole 0 b))))) .1 ≡ b
-    by-tests true y g = absurd (false≢true g)
-    by-tests false true g = take-all (length b) b (omega arith)
-    by-tests false false g = absurd (false≢true g)
+    by-test : (x : Bool) → isValue (valueIf x (D.Varchar (whole 0 b))) ≡ true → content b (slotValue i (valueIf x (D.Varchar (whole 0 b)))) .1 ≡ b
+    by-test true g = take-all (length b) b (omega arith)
+    by-test false g = absurd (false≢true g)
 varchar-text T.Date i b v f = absurd (false≢true v)
 varchar-text T.Time i b v f = absurd (false≢true v)
 varchar-text (T.Bit n) i b v f = absurd (false≢true v)

@@ -4,14 +4,12 @@ use mathlib.Core.Path.{_≡_, refl, sym, _∙_}
 use mathlib.Core.Bool.{Bool, true, false, cond, not}
 use mathlib.Core.List.{List}
 use native.Mathlib.Omega.{arith}
-use borrow.Author.Tests.{ltb-false}
 use lib.Dec.{eqb, ltb}
-use lib.ListN.{length, take, drop, length-drop}
-use lib.Seq.{length-take-le}
+use lib.ListN.{length, take, drop}
 use Rattle.laws.specs.Bits.{bitAt}
 use Rattle.laws.specs.Bytes.{entryAt}
 use Rattle.laws.proofs.Truths.{by-cond}
-use Rattle.text.specs.Rfc3629.{isText}
+use Rattle.text_limit.specs.Limit.{fitsText}
 use Rattle.row_format.specs.Places.{bitmapStart, tableStart, fixedStart, startAt, offsetWidth}
 use Rattle.row_format.specs.Table.{rangeEnd}
 use Rattle.row_layout.specs.declared.RowLayout.{RowLayout}
@@ -58,10 +56,9 @@ either-way false e = e
 pub so-many : (a z : ℕ) → a + z - a ≡ z
 so-many a z = omega arith
 
-text-cases : (t u : Bool) (i : ℕ) (v : DataValue) → cond (reads (slotValue i (cond t Slot.NoValue (valueIf u v)))) true false ≡ cond t false u
-text-cases true u i v = refl
-text-cases false true i v = refl
-text-cases false false i v = refl
+text-cases : (t : Bool) (i : ℕ) (v : DataValue) → cond (reads (slotValue i (valueIf t v))) true false ≡ t
+text-cases true i v = refl
+text-cases false i v = refl
 
 module _ (l : RowLayout) (p : Bool) (b : RowLayout) (r : List ℕ) where
   fixed-sound : (t : DataType) → isVarlen t ≡ false → walkedSound l p b t r
@@ -96,21 +93,16 @@ module _ (l : RowLayout) (p : Bool) (b : RowLayout) (r : List ℕ) where
 
   -- ---- a Varchar
 
-  module _ (n i : ℕ) where
+  module _ (q : Bool) (n i : ℕ) where
     abbrev Same : VarlenRange → Type 0
-    Same g = cond (reads (varlenValue (Varchar n) i r g)) true false ≡ rangeSound n r g
-
-    bytes-same : (a e : ℕ) → a ≤ e → e ≤ length r → Same (Range.Bytes a e)
-    bytes-same a e h k =
-        let m : length (take (e - a) (drop a r)) ≡ e - a = length-take-le (e - a) (drop a r) (rw length-drop (omega arith)) in
-        rw m (text-cases (ltb n (e - a)) (isText (take (e - a) (drop a r))) i _)
+    Same g = cond (reads (varlenValue (Varchar q n) i r g)) true false ≡ rangeSound q n r g
 
     part-same : (a e : ℕ) → Same (partOf (length r) a e)
     part-same a e =
         by-cond Same (ltb e a) Range.Outside _ (λ f. refl)
-        (λ f. by-cond Same (ltb (length r) e) Range.Outside (Range.Bytes a e) (λ g. refl) (λ g. bytes-same a e (ltb-false e a f) (ltb-false (length r) e g)))
+        (λ f. by-cond Same (ltb (length r) e) Range.Outside (Range.Bytes a e) (λ g. refl) (λ g. text-cases (fitsText q n (take (e - a) (drop a r))) i _))
 
-    range-cases : (z : Bool) (g : VarlenRange) → Same g → cond (reads (varlenValue (Varchar n) i r (cond z Range.Null g))) (not z) false ≡ rangeSound n r (cond z Range.Null g)
+    range-cases : (z : Bool) (g : VarlenRange) → Same g → cond (reads (varlenValue (Varchar q n) i r (cond z Range.Null g))) (not z) false ≡ rangeSound q n r (cond z Range.Null g)
     range-cases true g h = refl
     range-cases false g h = h
 
@@ -124,13 +116,13 @@ module _ (l : RowLayout) (p : Bool) (b : RowLayout) (r : List ℕ) where
   abbrev rangeIn : VarlenRange
   rangeIn = varlenRange offsetWidth (tableStart (l .«num_columns»)) (l .«num_varlen_cols») (b .«num_varlen_cols») r
 
-  pub varchar-told : (n : ℕ) → walkedSound l p b (Varchar n) r
-      ≡ cond (markedNull b r) (eqb offsetOf 0) (rangeSound n r rangeIn)
+  pub varchar-told : (q : Bool) (n : ℕ) → walkedSound l p b (Varchar q n) r
+      ≡ cond (markedNull b r) (eqb offsetOf 0) (rangeSound q n r rangeIn)
   unfolding walkedSound
-  varchar-told n =
+  varchar-told q n =
       let i : ℕ = b .«num_columns» in
-      varchar-cases (markedNull b r) (eqb offsetOf 0) (varlenValue (Varchar n) i r rangeIn) (rangeSound n r rangeIn)
-      (range-cases n i (eqb offsetOf 0) (partOf (length r) offsetOf
+      varchar-cases (markedNull b r) (eqb offsetOf 0) (varlenValue (Varchar q n) i r rangeIn) (rangeSound q n r rangeIn)
+      (range-cases q n i (eqb offsetOf 0) (partOf (length r) offsetOf
       (rangeEnd offsetWidth (tableStart (l .«num_columns»)) (l .«num_varlen_cols») (b .«num_varlen_cols») r))
-      (part-same n i offsetOf (rangeEnd offsetWidth (tableStart (l .«num_columns»)) (l .«num_varlen_cols»)
+      (part-same q n i offsetOf (rangeEnd offsetWidth (tableStart (l .«num_columns»)) (l .«num_varlen_cols»)
       (b .«num_varlen_cols») r)))

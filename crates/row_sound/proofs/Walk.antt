@@ -50,7 +50,7 @@ module _ (p : Bool) (ts : List DataType) (r : List ℕ) where
   walked-next : (i : ℕ) → i < length ts → walkedColumns l p r (layoutBefore ts i) (drop i ts)
       ≡ cond (walkedSound l p (layoutBefore ts i) (typeAt ts i) r)
       (walkedColumns l p r (layoutBefore ts (suc i)) (drop (suc i) ts)) false
-  walked-next i h = rw (drop-cons ts i (Varchar 0) h, rw (add-one i) at (before-next ts i h))
+  walked-next i h = rw (drop-cons ts i (Varchar false 0) h, rw (add-one i) at (before-next ts i h))
 
   from-walked : (n i : ℕ) → i + n ≡ length ts
       → soundFrom offsetWidth p ts r i n ≡ walkedColumns l p r (layoutBefore ts i) (drop i ts)

@@ -89,28 +89,38 @@ pub fn plain_sound(
     slot_sound(kind, row, start)
 }
 
-// The range of a Varchar(n) that is not null.
-fn range_sound(n: usize, row: &[u8], table: usize, varlens: usize, rank: usize) -> bool
+// The range of a Varchar that is not null, whose n counts bytes or code points.
+fn range_sound(
+    by_points: bool,
+    n: usize,
+    row: &[u8],
+    table: usize,
+    varlens: usize,
+    rank: usize,
+) -> bool
     requires { ⌜ (rank < varlens) × (table + varlens * offsetWidth ≤ length (now row)) ⌝ }
     ensures { λ r. ⌜ r
-        ≡ rangeSound n (now (row .entry)) (varlenRange offsetWidth table varlens rank (now (row .entry))) ⌝ }
+        ≡ rangeSound «by_points» n (now (row .entry))
+        (varlenRange offsetWidth table varlens rank (now (row .entry))) ⌝ }
 {
     match row_layout::varlen_range(row, table, varlens, rank) {
         VarlenRange::Null => false,
         VarlenRange::Outside => false,
-        VarlenRange::Bytes(start, end) => {
-            if n < end - start {
-                return false;
-            }
-            text::is_valid(&row[start..end])
-        }
+        VarlenRange::Bytes(start, end) => text_limit::is_within(&row[start..end], by_points, n),
     }
 }
 
 // A Varchar: the offset of a null is 0, and another has a range.
-fn varchar_sound(n: u16, layout: RowLayout, packed: bool, before: RowLayout, row: &[u8]) -> bool
-    requires { ⌜ Reachable layout packed before (Varchar n) (now row) ⌝ }
-    ensures { λ r. ⌜ r ≡ walkedSound layout packed before (Varchar n) (now (row .entry)) ⌝ }
+fn varchar_sound(
+    by_points: bool,
+    n: u16,
+    layout: RowLayout,
+    packed: bool,
+    before: RowLayout,
+    row: &[u8],
+) -> bool
+    requires { ⌜ Reachable layout packed before (Varchar «by_points» n) (now row) ⌝ }
+    ensures { λ r. ⌜ r ≡ walkedSound layout packed before (Varchar «by_points» n) (now (row .entry)) ⌝ }
 {
     let table = layout.varlen_table_offset();
     let rank = before.num_varlen_cols;
@@ -118,7 +128,14 @@ fn varchar_sound(n: u16, layout: RowLayout, packed: bool, before: RowLayout, row
         let offset = row_layout::offset_at(row, table, rank);
         return offset == 0;
     }
-    range_sound(n as usize, row, table, layout.num_varlen_cols, rank)
+    range_sound(
+        by_points,
+        n as usize,
+        row,
+        table,
+        layout.num_varlen_cols,
+        rank,
+    )
 }
 
 // The slot of a Char(n).
@@ -187,8 +204,9 @@ fn body_sound(
         (now (row .entry)) ⌝ }
 {
     let n = endian::read_u16(schema, at + 1);
-    if kind == schema_kinds::VARCHAR {
-        return varchar_sound(n, layout, packed, before, row);
+    if datatype::is_varchar(kind) {
+        let by_points = kind == schema_kinds::VARCHAR_CHARS;
+        return varchar_sound(by_points, n, layout, packed, before, row);
     }
     if null_bitmap::column_bit_is_set(row, before.num_columns) {
         return true;

@@ -1,13 +1,13 @@
 -- For the proofs: what reading a slot leaves in a value list, its record at a place with the code points n of its text,
 -- or the refusal 8 of column i.
 use Prim.Native.Nat.{ℕ, _+_}
-use mathlib.Core.Bool.{cond}
+use mathlib.Core.Bool.{Bool, cond}
 use mathlib.Core.List.{List, _∷_}
 use lib.ListN.{length}
 use lib.Seq.{sets}
 use Rattle.error.specs.declared.Refusal.the-variants.{NoValue as NoValueOf}
-use Rattle.text.specs.Rfc3629.{isText}
 use Rattle.text.specs.Check.{points}
+use Rattle.text_limit.specs.Limit.{fitsText}
 use Rattle.value_list.specs.Records.{rangeBody, recordOf}
 use Rattle.stored_form.specs.declared.SlotRead.{SlotRead}
 use Rattle.stored_form.specs.declared.SlotRead.the-variants.{Value, NoValue}
@@ -19,8 +19,8 @@ abbrev pub recorded : List ℕ → ℕ → ℕ → ℕ → SlotRead → Recorded
 recorded out at i n (Value v) = (Done (at + length (recordOf v)) n, sets out at (recordOf v))
 recorded out at i n NoValue = (Refused (NoValueOf i), out)
 
--- the text bs, which stands at `start` of a row, as a value of kind k
-abbrev pub textRecorded : List ℕ → ℕ → ℕ → ℕ → ℕ → List ℕ → Recorded × List ℕ
-textRecorded out at i k start bs =
-    cond (isText bs) (Done (at + 5) (points bs), sets out at (k ∷ rangeBody (whole start bs)))
+-- the text bs of at most n, which stands at `start` of a row, as a value of kind k
+abbrev pub textRecorded : Bool → ℕ → List ℕ → ℕ → ℕ → ℕ → ℕ → List ℕ → Recorded × List ℕ
+textRecorded byPoints n out at i k start bs =
+    cond (fitsText byPoints n bs) (Done (at + 5) (points bs), sets out at (k ∷ rangeBody (whole start bs)))
     (Refused (NoValueOf i), out)

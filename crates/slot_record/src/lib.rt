@@ -118,9 +118,11 @@ pub fn plain_record(kind: u8, i: usize, bytes: &[u8], out: &mut [u8], at: usize)
     }
 }
 
-// The text from `start` up to `end` of a row, as a value of this kind.
+// The text from `start` up to `end` of a row, of at most n bytes or code points, as a value of this kind.
 fn text_record(
     kind: u8,
+    by_points: bool,
+    n: usize,
     i: usize,
     row: &[u8],
     start: usize,
@@ -131,14 +133,18 @@ fn text_record(
     requires { ⌜ (start ≤ end)
         × ((end ≤ length (now row)) × ((length (now row) ≤ 65535) × (at + 18 ≤ length (now out)))) ⌝ }
     ensures { λ r. ⌜ (r, now (out .exit))
-        ≡ textRecorded (now (out .entry)) at i kind start (take (end - start) (drop start (now (row .entry)))) ⌝ }
+        ≡ textRecorded «by_points» n (now (out .entry)) at i kind start
+        (take (end - start) (drop start (now (row .entry)))) ⌝ }
 {
-    match text::check(&row[start..end]) {
+    match text_limit::check_within(&row[start..end], by_points, n) {
         TextCheck::Invalid => Recorded::Refused(Refusal::NoValue(i)),
-        TextCheck::Valid(n) => {
+        TextCheck::Valid(points) => {
             let length = end - start;
             let range = TextRange { start, length };
-            Recorded::Done(record_encode::write_range(out, at, kind, range), n as u32)
+            Recorded::Done(
+                record_encode::write_range(out, at, kind, range),
+                points as u32,
+            )
         }
     }
 }
@@ -158,11 +164,22 @@ pub fn char_record(
         ≡ recorded (now (out .entry)) at i (points (take (end - start) (drop start (now (row .entry)))))
         (readSlot (CharType 0) start (take (end - start) (drop start (now (row .entry))))) ⌝ }
 {
-    text_record(value_kinds::CHAR, i, row, start, end, out, at)
+    text_record(
+        value_kinds::CHAR,
+        false,
+        end - start,
+        i,
+        row,
+        start,
+        end,
+        out,
+        at,
+    )
 }
 
-// The same of a Varchar(n).
+// The same of a Varchar, whose n counts bytes or code points.
 pub fn varchar_record(
+    by_points: bool,
     n: usize,
     i: usize,
     row: &[u8],
@@ -175,10 +192,17 @@ pub fn varchar_record(
         × ((end ≤ length (now row)) × ((length (now row) ≤ 65535) × (at + 18 ≤ length (now out)))) ⌝ }
     ensures { λ r. ⌜ (r, now (out .exit))
         ≡ recorded (now (out .entry)) at i (points (take (end - start) (drop start (now (row .entry)))))
-        (readSlot (VarcharType n) start (take (end - start) (drop start (now (row .entry))))) ⌝ }
+        (readSlot (VarcharType «by_points» n) start (take (end - start) (drop start (now (row .entry))))) ⌝ }
 {
-    if n < end - start {
-        return Recorded::Refused(Refusal::NoValue(i));
-    }
-    text_record(value_kinds::VARCHAR, i, row, start, end, out, at)
+    text_record(
+        value_kinds::VARCHAR,
+        by_points,
+        n,
+        i,
+        row,
+        start,
+        end,
+        out,
+        at,
+    )
 }

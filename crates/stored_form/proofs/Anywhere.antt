@@ -3,12 +3,13 @@ use Prim.Native.Nat.{ℕ}
 use mathlib.Core.Path.{_≡_, refl}
 use mathlib.Core.Bool.{Bool, true, false, cond}
 use mathlib.Core.List.{List}
-use lib.Dec.{eqb, ltb}
+use lib.Dec.{eqb}
 use lib.ListN.{length}
 use mir.Syntax.{w32, w64}
 use mir.Val.{toZ}
 use Rattle.laws.specs.Bytes.{fromLe}
 use Rattle.text.specs.Rfc3629.{isText}
+use Rattle.text_limit.specs.Limit.{fitsText}
 use Rattle.temporal.specs.declared.TimeOfDay.{TimeOfDay}
 use Rattle.temporal.specs.declared.TimeOfDay.the-variants.{Micros, OutOfRange}
 use Rattle.temporal.specs.Ranges.{isDate, isTimestamp}
@@ -65,9 +66,7 @@ module _ (a b : ℕ) (bs : List ℕ) where
   both T.Bool = alike refl
   both (T.Char n) = both-if (isText bs) (D.Char (whole a bs)) (D.Char (whole b bs)) char
   both (T.Character n) = both-if (isText bs) (D.Char (whole a bs)) (D.Char (whole b bs)) char
-  both (T.Varchar n) =
-      by-both (ltb n (length bs)) NoValue (cond (isText bs) (Value (D.Varchar (whole a bs))) NoValue) NoValue (cond (isText bs) (Value (D.Varchar (whole b bs))) NoValue) tt
-      (both-if (isText bs) (D.Varchar (whole a bs)) (D.Varchar (whole b bs)) varchar)
+  both (T.Varchar p n) = both-if (fitsText p n bs) (D.Varchar (whole a bs)) (D.Varchar (whole b bs)) varchar
   both T.Date = both-if (isDate (toZ w32 (fromLe bs))) (D.Date (toZ w32 (fromLe bs))) (D.Date (toZ w32 (fromLe bs))) (alike refl)
   both T.Time = both-time (timeOf (toZ w64 (fromLe bs)))
   both (T.Bit n) = bit

@@ -1,14 +1,15 @@
 -- How long stored forms are: as long as the slot, a Varchar's as its text.
 use Prim.Native.Nat.{ℕ, _+_, _-_, _^_, _≤_, _<_}
 use mathlib.Core.Path.{_≡_, refl}
-use mathlib.Core.Bool.{true, cond}
+use mathlib.Core.Bool.{true, false, cond}
 use mathlib.Core.List.{List, _++_}
 use native.Mathlib.Omega.{arith}
 use borrow.Author.Tests.{leb-true, ltb-true}
-use lib.Dec.{eqb, leb, ltb}
+use lib.Dec.{eqb, ltb}
 use lib.ListN.{length, replicate, length-append, length-replicate}
 use Rattle.laws.proofs.Truths.{both}
-use Rattle.text.specs.Rfc3629.{isText}
+use Rattle.text_limit.specs.Limit.{fitsText}
+use Rattle.text_limit.proofs.Limits.{fits-size}
 use Rattle.bit_utils.specs.Bits.{bytesFor}
 use Rattle.bit_utils.proofs.Packing.{length-packed}
 use Rattle.numeric.proofs.Packing.{length-encode}
@@ -18,7 +19,7 @@ use Rattle.value.specs.declared.DataValue.{DataValue}
 use Rattle.value.specs.Kinds.{matches}
 use Rattle.value.specs.Ranges.{rangeOf, inArea, textOf}
 use Rattle.stored_form.specs.Number.{isNegative, magnitude}
-use Rattle.stored_form.specs.Write.{fitsDigits, fitsText, suits, accepted, storedForm}
+use Rattle.stored_form.specs.Write.{fitsDigits, suits, accepted, storedForm}
 use Rattle.stored_form.proofs.Matched.{Matched, smallint, int, bigint, real, double, numeric, decimal, bool, char, character, varchar, date, time, bit, timestamp, matched}
 
 -- a number whose digits fit
@@ -26,15 +27,8 @@ pub fits-below : (t : DataType) (s m : ℕ) → fitsDigits t s m ≡ true → m 
 fits-below t s m e = ltb-true m (10 ^ precisionOf t) (both (eqb s (scaleOf t)) (ltb m (10 ^ precisionOf t)) e .1)
 
 -- a text that fits n bytes
-module _ (n : ℕ) (x : List ℕ) (e : fitsText n x ≡ true) where
-  pub fits-length : length x ≤ n
-  fits-length = leb-true (length x) n (both (leb (length x) n) (isText x) e .0)
-
-  pub fits-valid : isText x ≡ true
-  fits-valid = both (leb (length x) n) (isText x) e .1
-
-  pub length-char : length (x ++ replicate (n - length x) 0x20) ≡ n
-  length-char = let l = fits-length in simp (length-append, length-replicate) (omega arith)
+pub length-char : (n : ℕ) (x : List ℕ) → fitsText false n x ≡ true → length (x ++ replicate (n - length x) 0x20) ≡ n
+length-char n x e = let l = fits-size false n x e in simp (length-append, length-replicate) (omega arith)
 
 -- a value that the type holds, with its text in the area
 module _ (t : DataType) (v : DataValue) (area : List ℕ) (e : accepted t v area ≡ true) where
@@ -56,7 +50,7 @@ of-matched t v x (decimal p s n) e = length-encode p (isNegative (n .high)) (mag
 of-matched t v x (bool b) e = refl
 of-matched t v x (char n r) e = length-char n x e
 of-matched t v x (character n r) e = length-char n x e
-of-matched t v x (varchar n r) e = refl
+of-matched t v x (varchar p n r) e = refl
 of-matched t v x (date z) e = refl
 of-matched t v x (time z) e = refl
 of-matched t v x (bit n r) e = length-packed (bytesFor n) _

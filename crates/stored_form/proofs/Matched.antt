@@ -1,7 +1,7 @@
 -- A value that matches its type, by cases: one for each type.
 use Prim.Native.Nat.{ℕ}
 use mathlib.Core.Path.{_≡_, subst}
-use mathlib.Core.Bool.{true}
+use mathlib.Core.Bool.{Bool, true}
 use borrow.Author.Tests.{eqb-true}
 use lib.IntN.{ℤ}
 use Rattle.datatype.specs.declared.DataType.{DataType}
@@ -23,7 +23,7 @@ pub data Matched : DataType → DataValue → Type 0 where
   bool : (b : ℕ) → Matched T.Bool (D.Bool b)
   char : (n : ℕ) (r : TextRange) → Matched (T.Char n) (D.Char r)
   character : (n : ℕ) (r : TextRange) → Matched (T.Character n) (D.Char r)
-  varchar : (n : ℕ) (r : TextRange) → Matched (T.Varchar n) (D.Varchar r)
+  varchar : (p : Bool) (n : ℕ) (r : TextRange) → Matched (T.Varchar p n) (D.Varchar r)
   date : (z : ℤ) → Matched T.Date (D.Date z)
   time : (z : ℤ) → Matched T.Time (D.Time z)
   bit : (n : ℕ) (r : TextRange) → Matched (T.Bit n) (D.Bit r)
@@ -73,7 +73,7 @@ by-kind (T.Decimal p s) v (Kinded.numeric n) = decimal p s n
 by-kind T.Bool v (Kinded.bool b) = bool b
 by-kind (T.Char n) v (Kinded.char r) = char n r
 by-kind (T.Character n) v (Kinded.char r) = character n r
-by-kind (T.Varchar n) v (Kinded.varchar r) = varchar n r
+by-kind (T.Varchar p n) v (Kinded.varchar r) = varchar p n r
 by-kind T.Date v (Kinded.date z) = date z
 by-kind T.Time v (Kinded.time z) = time z
 by-kind (T.Bit n) v (Kinded.bit r) = bit n r

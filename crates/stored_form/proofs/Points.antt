@@ -4,12 +4,13 @@ use mathlib.Core.Path.{_≡_, refl, ap, _∙_}
 use mathlib.Core.Bool.{Bool, true, false, cond, _||_, false≢true}
 use mathlib.Core.List.{List}
 use borrow.Author.Tests.{eqb-true}
-use lib.Dec.{eqb, ltb}
+use lib.Dec.{eqb}
 use lib.ListN.{length}
 use mir.Syntax.{w32, w64}
 use mir.Val.{toZ}
 use Rattle.laws.specs.Bytes.{fromLe}
 use Rattle.text.specs.Rfc3629.{isText}
+use Rattle.text_limit.specs.Limit.{fitsText}
 use Rattle.temporal.specs.declared.TimeOfDay.{TimeOfDay}
 use Rattle.temporal.specs.declared.TimeOfDay.the-variants.{Micros, OutOfRange}
 use Rattle.temporal.specs.Ranges.{isDate, isTimestamp}
@@ -37,10 +38,6 @@ if-texts : (b t : Bool) (v : DataValue) → isTextValue v ≡ b → Texts b (val
 if-texts b true v e = e
 if-texts b false v e = tt
 
-unless-texts : (b t : Bool) (x : SlotRead) → Texts b x → Texts b (cond t NoValue x)
-unless-texts b true x h = tt
-unless-texts b false x h = h
-
 digits-texts : (s : ℕ) (bs : List ℕ) (d : Decoded) → Texts false (decoded s bs d)
 digits-texts s bs (Bcd.Value negative high low) = refl
 digits-texts s bs Bcd.Broken = if-texts false (eqb (length bs) 17) _ refl
@@ -60,7 +57,7 @@ slot-texts (T.Decimal p s) start bs = digits-texts s bs (decodeBcd p bs)
 slot-texts T.Bool start bs = refl
 slot-texts (T.Char n) start bs = if-texts true (isText bs) _ refl
 slot-texts (T.Character n) start bs = if-texts true (isText bs) _ refl
-slot-texts (T.Varchar n) start bs = unless-texts true (ltb n (length bs)) _ (if-texts true (isText bs) _ refl)
+slot-texts (T.Varchar p n) start bs = if-texts true (fitsText p n bs) _ refl
 slot-texts T.Date start bs = if-texts false (isDate (toZ w32 (fromLe bs))) _ refl
 slot-texts T.Time start bs = time-texts (timeOf (toZ w64 (fromLe bs)))
 slot-texts (T.Bit n) start bs = refl

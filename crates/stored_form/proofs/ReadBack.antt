@@ -4,7 +4,7 @@ use mathlib.Core.Path.{_≡_, refl, sym, ap, _∙_}
 use mathlib.Core.Bool.{Bool, true, false, cond, false≢true}
 use mathlib.Core.List.{List, _++_}
 use native.Mathlib.Omega.{arith}
-use borrow.Author.Tests.{eqb-true, ltb-true, le-ltb}
+use borrow.Author.Tests.{eqb-true, ltb-true}
 use lib.Dec.{eqb, ltb}
 use lib.IntN.{ℤ}
 use lib.ListN.{length, replicate}
@@ -13,6 +13,8 @@ use Rattle.laws.proofs.Parts.{part-at}
 use Rattle.laws.proofs.Truths.{both}
 use Rattle.text.specs.Rfc3629.{isText}
 use Rattle.text.proofs.Append.{text-append, blanks}
+use Rattle.text_limit.specs.Limit.{fitsText}
+use Rattle.text_limit.proofs.Limits.{fits-valid}
 use Rattle.temporal.specs.Ranges.{isDate, isTimestamp}
 use Rattle.temporal.specs.Time.{timeOf}
 use Rattle.temporal.proofs.Counts.{time-read}
@@ -32,11 +34,11 @@ use Rattle.value.specs.Ranges.{rangeOf, textOf, part}
 use Rattle.value_list.specs.Records.{SizedNumeric, Sized}
 use Rattle.stored_form.specs.declared.SlotRead.the-variants.{Value}
 use Rattle.stored_form.specs.Number.{isNegative, magnitude}
-use Rattle.stored_form.specs.Write.{fitsText, suits, storedForm}
+use Rattle.stored_form.specs.Write.{suits, storedForm}
 use Rattle.stored_form.specs.Read.{valueIf, decoded, timed, whole, readSlot}
 use Rattle.stored_form.specs.ReadBack.{readBack, hasText}
 use Rattle.stored_form.proofs.Matched.{Matched, smallint, int, bigint, real, double, numeric, decimal, bool, char, character, varchar, date, time, bit, timestamp, matched}
-use Rattle.stored_form.proofs.Lengths.{fits-length, fits-valid, length-char}
+use Rattle.stored_form.proofs.Lengths.{length-char}
 use Rattle.stored_form.proofs.Numbers.{unsigned-back, signed-back, bool-back, number-back}
 
 -- the digits of a number that fits
@@ -53,10 +55,10 @@ tested : (test : ℤ → Bool) (make : ℤ → DataValue) (y z : ℤ) → y ≡ 
 tested test make y z e h = rw (e, h)
 
 -- a text with its blanks is text, and fills the slot
-char-back : (n start : ℕ) (x : List ℕ) → fitsText n x ≡ true
+char-back : (n start : ℕ) (x : List ℕ) → fitsText false n x ≡ true
     → (let bs = x ++ replicate (n - length x) 0x20 in valueIf (isText bs) (D.Char (whole start bs))) ≡ Value (D.Char (record { start = start; length = n }))
 char-back n start x e =
-    let valid : isText (x ++ replicate (n - length x) 0x20) ≡ true = text-append x (replicate (n - length x) 0x20) (fits-valid n x e) (blanks (n - length x)) in
+    let valid : isText (x ++ replicate (n - length x) 0x20) ≡ true = text-append x (replicate (n - length x) 0x20) (fits-valid false n x e) (blanks (n - length x)) in
     rw (valid, length-char n x e)
 
 of-matched : (t : DataType) (v : DataValue) (x : List ℕ) (start : ℕ) → Matched t v → suits t v x ≡ true → Sized v → readSlot t start (storedForm t v x) ≡ Value (readBack t start v x)
@@ -70,7 +72,7 @@ of-matched t v x start (decimal p s n) e f = numeric-back p s n (storedForm t v 
 of-matched t v x start (bool b) e f = ap (λ (y : ℕ). Value (D.Bool y)) (bool-back b e)
 of-matched t v x start (char n r) e f = char-back n start x e
 of-matched t v x start (character n r) e f = char-back n start x e
-of-matched t v x start (varchar n r) e f = rw (le-ltb n (length x) (fits-length n x e), fits-valid n x e)
+of-matched t v x start (varchar p n r) e f = rw e
 of-matched t v x start (date z) e f = tested isDate D.Date _ z (signed-back w32 4 refl z f) e
 of-matched t v x start (time z) e f = ap (λ (y : ℤ). timed (timeOf y)) (signed-back w64 8 refl z f) ∙ ap timed (time-read z e)
 of-matched t v x start (bit n r) e f = ap (λ (k : ℕ). Value (D.Bit (record { start = start; length = k }))) (length-packed (bytesFor n) _)
@@ -92,7 +94,7 @@ range-matched t v x start (decimal p s n) e f = absurd (false≢true f)
 range-matched t v x start (bool b) e f = absurd (false≢true f)
 range-matched t v x start (char n r) e f = ap (λ (k : ℕ). record { start = start; length = k }) (sym (length-char n x e))
 range-matched t v x start (character n r) e f = ap (λ (k : ℕ). record { start = start; length = k }) (sym (length-char n x e))
-range-matched t v x start (varchar n r) e f = refl
+range-matched t v x start (varchar p n r) e f = refl
 range-matched t v x start (date z) e f = absurd (false≢true f)
 range-matched t v x start (time z) e f = absurd (false≢true f)
 range-matched t v x start (bit n r) e f = ap (λ (k : ℕ). record { start = start; length = k }) (sym (length-packed (bytesFor n) _))

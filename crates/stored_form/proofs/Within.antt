@@ -2,13 +2,14 @@
 use Prim.Native.Nat.{ℕ, _+_, _≤_}
 use mathlib.Core.List.{List}
 use native.Mathlib.Omega.{arith}
-use lib.Dec.{eqb, ltb}
+use lib.Dec.{eqb}
 use lib.ListN.{length}
 use mir.Syntax.{w32, w64}
 use mir.Val.{toZ}
 use Rattle.laws.specs.Bytes.{fromLe}
 use Rattle.laws.proofs.Truths.{by-cond}
 use Rattle.text.specs.Rfc3629.{isText}
+use Rattle.text_limit.specs.Limit.{fitsText}
 use Rattle.temporal.specs.declared.TimeOfDay.{TimeOfDay}
 use Rattle.temporal.specs.declared.TimeOfDay.the-variants.{Micros, OutOfRange}
 use Rattle.temporal.specs.Ranges.{isDate, isTimestamp}
@@ -23,7 +24,7 @@ use Rattle.value.specs.declared.TextRange.{TextRange}
 use Rattle.value.specs.Ranges.{noText, rangeOf}
 use Rattle.stored_form.specs.declared.SlotRead.{SlotRead}
 use Rattle.stored_form.specs.declared.SlotRead.the-variants.{Value, NoValue}
-use Rattle.stored_form.specs.Read.{valueIf, twosComplement, decoded, timed, whole, readSlot}
+use Rattle.stored_form.specs.Read.{twosComplement, decoded, timed, whole, readSlot}
 
 -- what holds of the range of a value that was read
 abbrev pub OfRange : (TextRange → Type 0) → SlotRead → Type 0
@@ -52,9 +53,7 @@ module _ (P : TextRange → Type 0) (none : P noText) where
     slot-range T.Bool = none
     slot-range (T.Char m) = by-cond (OfRange P) (isText bs) (Value (D.Char (whole start bs))) NoValue (λ e. h) (λ e. tt)
     slot-range (T.Character m) = by-cond (OfRange P) (isText bs) (Value (D.Char (whole start bs))) NoValue (λ e. h) (λ e. tt)
-    slot-range (T.Varchar m) =
-        by-cond (OfRange P) (ltb m (length bs)) NoValue (valueIf (isText bs) (D.Varchar (whole start bs))) (λ e. tt)
-        (λ e. by-cond (OfRange P) (isText bs) (Value (D.Varchar (whole start bs))) NoValue (λ f. h) (λ f. tt))
+    slot-range (T.Varchar p m) = by-cond (OfRange P) (fitsText p m bs) (Value (D.Varchar (whole start bs))) NoValue (λ e. h) (λ e. tt)
     slot-range T.Date = by-cond (OfRange P) (isDate (toZ w32 (fromLe bs))) (Value (D.Date (toZ w32 (fromLe bs)))) NoValue (λ e. none) (λ e. tt)
     slot-range T.Time = of-time (timeOf (toZ w64 (fromLe bs)))
     slot-range (T.Bit m) = h

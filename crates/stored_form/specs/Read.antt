@@ -3,12 +3,13 @@
 use Prim.Native.Nat.{ℕ}
 use mathlib.Core.Bool.{Bool, cond}
 use mathlib.Core.List.{List}
-use lib.Dec.{eqb, ltb}
+use lib.Dec.{eqb}
 use lib.ListN.{length, getD, take, drop}
 use mir.Syntax.{w16, w32, w64}
 use mir.Val.{toZ}
 use Rattle.laws.specs.Bytes.{fromLe}
 use Rattle.text.specs.Rfc3629.{isText}
+use Rattle.text_limit.specs.Limit.{fitsText}
 use Rattle.temporal.specs.declared.TimeOfDay.{TimeOfDay}
 use Rattle.temporal.specs.declared.TimeOfDay.the-variants.{Micros, OutOfRange}
 use Rattle.temporal.specs.Ranges.{isDate, isTimestamp}
@@ -60,7 +61,7 @@ readSlot (T.Decimal p s) start bs = decoded s bs (decodeBcd p bs)
 readSlot T.Bool start bs = Value (D.Bool (cond (eqb (getD bs 0 0) 0) 0 1))
 readSlot (T.Char n) start bs = valueIf (isText bs) (D.Char (whole start bs))
 readSlot (T.Character n) start bs = valueIf (isText bs) (D.Char (whole start bs))
-readSlot (T.Varchar n) start bs = cond (ltb n (length bs)) NoValue (valueIf (isText bs) (D.Varchar (whole start bs)))
+readSlot (T.Varchar p n) start bs = valueIf (fitsText p n bs) (D.Varchar (whole start bs))
 readSlot T.Date start bs = valueIf (isDate (toZ w32 (fromLe bs))) (D.Date (toZ w32 (fromLe bs)))
 readSlot T.Time start bs = timed (timeOf (toZ w64 (fromLe bs)))
 readSlot (T.Bit n) start bs = Value (D.Bit (whole start bs))

@@ -8,12 +8,12 @@ use lib.ListN.{length, replicate}
 use mir.Syntax.{w16, w32, w64}
 use mir.Val.{ofZ}
 use Rattle.laws.specs.Bytes.{toLe}
-use Rattle.text.specs.Rfc3629.{isText}
+use Rattle.text_limit.specs.Limit.{fitsText}
 use Rattle.bit_utils.specs.Bits.{bytesFor, packBits, unpackBits}
 use Rattle.temporal.specs.Ranges.{isDate, isTime, isTimestamp}
 use Rattle.numeric.specs.Packed.{encodeBcd}
 use Rattle.datatype.specs.declared.DataType.{DataType}
-use Rattle.datatype.specs.Types.{precisionOf, scaleOf, lengthOf}
+use Rattle.datatype.specs.Types.{precisionOf, scaleOf, lengthOf, countsPoints}
 use Rattle.value.specs.declared.DataValue.{DataValue}
 use Rattle.value.specs.declared.DataValue.the-variants as D
 use Rattle.value.specs.Ranges.{rangeOf, inArea, textOf}
@@ -22,10 +22,6 @@ use Rattle.stored_form.specs.Number.{isNegative, magnitude}
 -- "the scale must equal the type's", and the digits must do: the least 128-bit number has 39
 abbrev pub fitsDigits : DataType → ℕ → ℕ → Bool
 fitsDigits t s m = cond (eqb s (scaleOf t)) (ltb m (10 ^ precisionOf t)) false
-
--- "RFC 3629 decides which text is valid, on writing too"; a text has at most n bytes
-abbrev pub fitsText : ℕ → List ℕ → Bool
-fitsText n x = cond (leb (length x) n) (isText x) false
 
 -- 12: "value does not suit the type"
 abbrev pub suits : DataType → DataValue → List ℕ → Bool
@@ -37,8 +33,8 @@ suits t (D.Real b) x = true
 suits t (D.DoublePrecision b) x = true
 suits t (D.Numeric n) x = fitsDigits t (n .scale) (magnitude (n .high) (n .low))
 suits t (D.Bool b) x = leb b 1
-suits t (D.Char r) x = fitsText (lengthOf t) x
-suits t (D.Varchar r) x = fitsText (lengthOf t) x
+suits t (D.Char r) x = fitsText false (lengthOf t) x
+suits t (D.Varchar r) x = fitsText (countsPoints t) (lengthOf t) x
 suits t (D.Date z) x = isDate z
 suits t (D.Time z) x = isTime z
 suits t (D.Bit r) x = eqb (length x) (bytesFor (lengthOf t))

@@ -139,7 +139,7 @@ pub fn value_kind(ty: DataType) -> u8
         DataType::Bool => value_kinds::BOOL,
         DataType::Char(_) => value_kinds::CHAR,
         DataType::Character(_) => value_kinds::CHAR,
-        DataType::Varchar(_) => value_kinds::VARCHAR,
+        DataType::Varchar { by_points: _, n: _ } => value_kinds::VARCHAR,
         DataType::Date => value_kinds::DATE,
         DataType::Time => value_kinds::TIME,
         DataType::Bit(_) => value_kinds::BIT,
@@ -167,6 +167,7 @@ pub fn held_kind(kind: u8) -> u8
         schema_kinds::TIME => value_kinds::TIME,
         schema_kinds::BIT => value_kinds::BIT,
         schema_kinds::TIMESTAMP => value_kinds::TIMESTAMP,
+        schema_kinds::VARCHAR_CHARS => value_kinds::VARCHAR,
         _ => value_kinds::NULL,
     }
 }

@@ -10,12 +10,13 @@ use value::TextRange;
 ghost use mathlib.Core.Path.{_≡_};
 ghost use mathlib.Core.Bool.{true, false, cond};
 ghost use Prim.Native.Nat.{_+_, _/_, _^_, _<_, _≤_};
-ghost use lib.Dec.{eqb, ltb};
+ghost use lib.Dec.{eqb};
 ghost use lib.ListN.{length, getD};
 ghost use mir.Syntax.{w32, w64};
 ghost use mir.Val.{toZ};
 ghost use Rattle.laws.specs.Bytes.{fromLe};
 ghost use Rattle.text.specs.Rfc3629.{isText};
+ghost use Rattle.text_limit.specs.Limit.{fitsText};
 ghost use Rattle.temporal.specs.Ranges.{isDate, isTimestamp};
 ghost use Rattle.temporal.specs.Time.{timeOf};
 ghost use Rattle.numeric.specs.Decimal.{halves};
@@ -112,16 +113,12 @@ fn read_char(bytes: &[u8], start: usize) -> SlotRead
     SlotRead::NoValue
 }
 
-fn read_varchar(bytes: &[u8], start: usize, n: usize) -> SlotRead
+fn read_varchar(bytes: &[u8], start: usize, by_points: bool, n: usize) -> SlotRead
     ensures { λ r. ⌜ r
-        ≡ cond (ltb n (length (now (bytes .entry)))) NoValue
-        (valueIf (isText (now (bytes .entry))) (VarcharValue (whole start (now (bytes .entry))))) ⌝ }
+        ≡ valueIf (fitsText «by_points» n (now (bytes .entry))) (VarcharValue (whole start (now (bytes .entry)))) ⌝ }
 {
-    let length = bytes.len();
-    if n < length {
-        return SlotRead::NoValue;
-    }
-    if text::is_valid(bytes) {
+    if text_limit::is_within(bytes, by_points, n) {
+        let length = bytes.len();
         return SlotRead::Value(DataValue::Varchar(TextRange { start, length }));
     }
     SlotRead::NoValue
@@ -181,7 +178,7 @@ pub fn from_bytes(ty: DataType, bytes: &[u8], start: usize) -> SlotRead
         DataType::Bool => read_bool(bytes),
         DataType::Char(_) => read_char(bytes, start),
         DataType::Character(_) => read_char(bytes, start),
-        DataType::Varchar(n) => read_varchar(bytes, start, n as usize),
+        DataType::Varchar { by_points, n } => read_varchar(bytes, start, by_points, n as usize),
         DataType::Date => read_date(bytes),
         DataType::Time => read_time(bytes),
         DataType::Bit(_) => SlotRead::Value(DataValue::Bit(TextRange { start, length })),

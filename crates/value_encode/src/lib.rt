@@ -16,7 +16,7 @@ ghost use Rattle.datatype.specs.declared.DataType.the-variants.{Numeric as Nume
 ghost use Rattle.datatype.specs.Types.{precisionOf};
 ghost use Rattle.value.specs.Ranges.{textOf};
 ghost use Rattle.stored_form.specs.Number.{isNegative, magnitude as sizeOfNumber};
-ghost use Rattle.stored_form.specs.Write.{fitsDigits, fitsText, suits as suitsType, accepted, storedForm};
+ghost use Rattle.stored_form.specs.Write.{fitsDigits, suits as suitsType, accepted, storedForm};
 
 pub struct Halves {
     pub high: u64,
@@ -63,15 +63,6 @@ fn fits_digits(ty: DataType, n: NumericValue) -> bool
     fits_number(n.high, n.low, n.scale, ty.precision() as usize, ty.scale())
 }
 
-fn fits_text(text: &[u8], n: usize) -> bool
-    ensures { λ r. ⌜ r ≡ fitsText n (now (text .entry)) ⌝ }
-{
-    if text.len() <= n {
-        return text::is_valid(text);
-    }
-    false
-}
-
 // Whether the type holds a value whose text is at hand.
 fn suits_text(ty: DataType, value: DataValue, text: &[u8]) -> bool
     requires { ⌜ precisionOf ty ≤ 38 ⌝ }
@@ -87,8 +78,8 @@ fn suits_text(ty: DataType, value: DataValue, text: &[u8]) -> bool
         DataValue::DoublePrecision(_) => true,
         DataValue::Numeric(x) => fits_digits(ty, x),
         DataValue::Bool(b) => b <= 1,
-        DataValue::Char(_) => fits_text(text, n),
-        DataValue::Varchar(_) => fits_text(text, n),
+        DataValue::Char(_) => text_limit::is_within(text, false, n),
+        DataValue::Varchar(_) => text_limit::is_within(text, ty.counts_points(), n),
         DataValue::Date(days) => temporal::is_date(days),
         DataValue::Time(micros) => temporal::is_time(micros),
         DataValue::Bit(_) => text.len() == bit_utils::byte_count(n),

@@ -17,6 +17,7 @@ use Rattle.laws.specs.Bytes.{fromLe}
 use Rattle.laws.proofs.Bytes.{AllBytes, from-part}
 use Rattle.laws.proofs.Truths.{by-cond}
 use Rattle.text.specs.Rfc3629.{isText}
+use Rattle.text_limit.specs.Limit.{fitsText}
 use Rattle.temporal.specs.declared.TimeOfDay.{TimeOfDay}
 use Rattle.temporal.specs.declared.TimeOfDay.the-variants.{Micros, OutOfRange}
 use Rattle.temporal.specs.Ranges.{isDate, isTimestamp}
@@ -65,10 +66,6 @@ module _ (P : DataValue → Type 0) where
   time-holds (Micros z) e = e z
   time-holds OutOfRange e = tt
 
-  short-holds : (b : Bool) (s : SlotRead) → Holds P s → Holds P (cond b NoValue s)
-  short-holds true s e = tt
-  short-holds false s e = e
-
   read-holds : (s : SlotRead) (v : DataValue) → Holds P s → s ≡ Value v → P v
   read-holds s v h e = subst (Holds P) e h
 
@@ -108,10 +105,9 @@ module _ (start : ℕ) (bs row : List ℕ) (h : start + length bs ≤ length row
   slot-placed (T.Char n) l = if-holds (Placed (T.Char n) row) (isText bs) (D.Char (whole start bs)) (char (l refl))
   slot-placed (T.Character n) l =
       if-holds (Placed (T.Character n) row) (isText bs) (D.Char (whole start bs)) (char (l refl))
-  slot-placed (T.Varchar n) l =
-      short-holds (Placed (T.Varchar n) row) (ltb n (length bs)) (valueIf (isText bs) (D.Varchar (whole start bs)))
-      (if-holds (Placed (T.Varchar n) row) (isText bs) (D.Varchar (whole start bs))
-      (record { inside = h; chars = λ k. absurd (omega arith); bits = λ k. absurd (omega arith) }))
+  slot-placed (T.Varchar p n) l =
+      if-holds (Placed (T.Varchar p n) row) (fitsText p n bs) (D.Varchar (whole start bs))
+      (record { inside = h; chars = λ k. absurd (omega arith); bits = λ k. absurd (omega arith) })
   slot-placed T.Date l =
       if-holds (Placed T.Date row) (isDate (toZ w32 (fromLe bs))) (D.Date (toZ w32 (fromLe bs)))
       (none (D.Date (toZ w32 (fromLe bs))) refl refl refl)
@@ -200,9 +196,7 @@ module _ (start : ℕ) (bs : List ℕ) (a : AllBytes bs) where
       (λ _. record { fits = omega arith })
   slot-sized (T.Char m) l n p s = if-holds Sized (isText bs) (D.Char (whole start bs)) (narrow n)
   slot-sized (T.Character m) l n p s = if-holds Sized (isText bs) (D.Char (whole start bs)) (narrow n)
-  slot-sized (T.Varchar m) l n p s =
-      short-holds Sized (ltb m (length bs)) (valueIf (isText bs) (D.Varchar (whole start bs)))
-      (if-holds Sized (isText bs) (D.Varchar (whole start bs)) (narrow n))
+  slot-sized (T.Varchar q m) l n p s = if-holds Sized (fitsText q m bs) (D.Varchar (whole start bs)) (narrow n)
   slot-sized T.Date l n p s =
       if-holds Sized (isDate (toZ w32 (fromLe bs))) (D.Date (toZ w32 (fromLe bs))) (signed w32 4 refl (l refl))
   slot-sized T.Time l n p s = time-sized (toZ w64 (fromLe bs)) (signed w64 8 refl (l refl))

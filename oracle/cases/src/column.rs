@@ -1,5 +1,6 @@
 //! The type of a column, as 01 has it, and the Rust's type for it. The Rust may
-//! not know a kind: then it is no judge of rows with such a column, and makes none.
+//! not know a kind, as that of Varchars counted in characters: then it is no judge of
+//! rows with such a column, and makes none.
 
 use rookdb::types::datatype::DataType;
 
@@ -16,6 +17,7 @@ pub enum ColumnType {
     Char(u16),
     Character(u16),
     Varchar(u16),
+    VarcharChars(u16),
     Date,
     Time,
     Bit(u16),
@@ -37,7 +39,7 @@ impl ColumnType {
             }
             ColumnType::Char(n) | ColumnType::Character(n) => Some(n.into()),
             ColumnType::Bit(n) => Some(usize::from(n).div_ceil(8)),
-            ColumnType::Varchar(_) => None,
+            ColumnType::Varchar(_) | ColumnType::VarcharChars(_) => None,
         }
     }
 
@@ -58,10 +60,7 @@ impl ColumnType {
 
     /// Whether its values are text.
     pub fn is_text(&self) -> bool {
-        matches!(
-            self,
-            ColumnType::Char(_) | ColumnType::Character(_) | ColumnType::Varchar(_)
-        )
+        matches!(self, ColumnType::Char(_) | ColumnType::Character(_)) || self.is_variable_length()
     }
 
     /// The Rust's type for it; `None` if the Rust does not know the kind.
@@ -78,6 +77,7 @@ impl ColumnType {
             ColumnType::Char(n) => DataType::Char(n),
             ColumnType::Character(n) => DataType::Character(n),
             ColumnType::Varchar(n) => DataType::Varchar(n),
+            ColumnType::VarcharChars(_) => return None,
             ColumnType::Date => DataType::Date,
             ColumnType::Time => DataType::Time,
             ColumnType::Bit(n) => DataType::Bit(n),

@@ -10,6 +10,7 @@
 //!   refusal 10, and which values lie outside 01's domain;
 //! - `layout`: places in packed and padded rows;
 //! - `row`: the padded form of a row, soundness, null slots zeroed;
+//! - `laid_out`: rows of columns that the Rust does not know;
 //! - `history`: a history of edits and what the Rust makes of it;
 //! - `expected`: what each call must answer, from what the Rust answers;
 //! - `printed`: the same for the printed list.
@@ -29,6 +30,7 @@ pub mod column;
 pub mod expected;
 pub mod generate;
 pub mod history;
+pub mod laid_out;
 pub mod layout;
 pub mod printed;
 pub mod rng;

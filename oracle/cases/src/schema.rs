@@ -5,6 +5,19 @@ use crate::column::ColumnType;
 use crate::layout::Layout;
 use crate::{LIMIT, MAX_COLUMNS, Refusal};
 
+/// The kinds of Varchars, by bytes and by characters.
+pub const VARCHAR: u8 = 11;
+pub const VARCHAR_CHARS: u8 = 16;
+
+/// The body length of a kind; `None` if it is unknown.
+pub fn body_length(kind: u8) -> Option<usize> {
+    match kind {
+        6 | 7 | 9 | 10 | 11 | 14 | 16 => Some(2),
+        1..=15 => Some(0),
+        _ => None,
+    }
+}
+
 /// The schema of these columns. It writes any list of types, refused or not.
 pub fn write_schema(types: &[ColumnType]) -> Vec<u8> {
     let mut bytes = Vec::new();
@@ -23,6 +36,7 @@ pub fn write_record(ty: &ColumnType, out: &mut Vec<u8>) {
         ColumnType::Char(n)
         | ColumnType::Character(n)
         | ColumnType::Varchar(n)
+        | ColumnType::VarcharChars(n)
         | ColumnType::Bit(n) => {
             out.extend(n.to_le_bytes());
         }
@@ -42,11 +56,12 @@ fn kind(ty: &ColumnType) -> u8 {
         ColumnType::Bool => 8,
         ColumnType::Char(_) => 9,
         ColumnType::Character(_) => 10,
-        ColumnType::Varchar(_) => 11,
+        ColumnType::Varchar(_) => VARCHAR,
         ColumnType::Date => 12,
         ColumnType::Time => 13,
         ColumnType::Bit(_) => 14,
         ColumnType::Timestamp => 15,
+        ColumnType::VarcharChars(_) => VARCHAR_CHARS,
     }
 }
 
@@ -79,11 +94,7 @@ pub fn read_records(bytes: &[u8]) -> Result<Vec<ColumnType>, Refusal> {
 /// The type of the record that starts `bytes` and the record's length, or the
 /// refusal's number. A cut record gives 1, whatever its body begins with.
 fn read_record(bytes: &[u8]) -> Result<(ColumnType, usize), u32> {
-    let body = match bytes[0] {
-        6 | 7 | 9 | 10 | 11 | 14 => 2,
-        1..=15 => 0,
-        _ => return Err(1),
-    };
+    let body = body_length(bytes[0]).ok_or(1_u32)?;
     let Some(body) = bytes.get(1..1 + body) else {
         return Err(1);
     };
@@ -107,7 +118,8 @@ fn read_type(kind: u8, body: &[u8]) -> Result<ColumnType, u32> {
         12 => ColumnType::Date,
         13 => ColumnType::Time,
         14 => ColumnType::Bit(n()),
-        _ => ColumnType::Timestamp,
+        15 => ColumnType::Timestamp,
+        _ => ColumnType::VarcharChars(n()),
     })
 }
 

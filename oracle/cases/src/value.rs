@@ -168,7 +168,7 @@ impl Record {
             ColumnType::Numeric { .. } | ColumnType::Decimal { .. } => 6,
             ColumnType::Bool => 7,
             ColumnType::Char(_) | ColumnType::Character(_) => 8,
-            ColumnType::Varchar(_) => 9,
+            ColumnType::Varchar(_) | ColumnType::VarcharChars(_) => 9,
             ColumnType::Date => 10,
             ColumnType::Time => 11,
             ColumnType::Bit(_) => 12,

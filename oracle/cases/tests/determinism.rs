@@ -1,5 +1,6 @@
 //! The same seed gives the same inputs, another seed others.
 
+use cases::generate::kinds::Kinds;
 use cases::generate::{history, list, pair, row, row_list, schema, text, wanted};
 use cases::rng::Rng;
 
@@ -9,6 +10,7 @@ fn everything(seed: u64) -> String {
     let mut out = String::new();
     for _ in 0..100 {
         let types = schema::any_types(&mut rng);
+        let types = Kinds::All.types(&mut rng, types);
         let fault = rng.pick(&text::Fault::ALL);
         out += &format!(
             "{:?}{:?}{:?}{:?}{:?}{:?}{:?}{:?}{:?}",

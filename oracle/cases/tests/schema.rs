@@ -42,7 +42,7 @@ fn read_as_made() {
 
 #[test]
 fn every_type_both_ways() {
-    let examples: [(ColumnType, &[u8]); 15] = [
+    let examples: [(ColumnType, &[u8]); 16] = [
         (ColumnType::SmallInt, &[1]),
         (ColumnType::Int, &[2]),
         (ColumnType::BigInt, &[3]),
@@ -70,6 +70,7 @@ fn every_type_both_ways() {
         (ColumnType::Time, &[13]),
         (ColumnType::Bit(258), &[14, 2, 1]),
         (ColumnType::Timestamp, &[15]),
+        (ColumnType::VarcharChars(515), &[16, 3, 2]),
     ];
     for (ty, bytes) in examples {
         assert_eq!(write_schema(std::slice::from_ref(&ty)), bytes);
@@ -80,9 +81,9 @@ fn every_type_both_ways() {
 #[test]
 fn refusals() {
     let bools = |count: usize, then: &[u8]| [&vec![8; count][..], then].concat();
-    let examples: [(&[u8], u32, usize); 23] = [
+    let examples: [(&[u8], u32, usize); 25] = [
         (&[0], 1, 0),
-        (&[16], 1, 0),
+        (&[17], 1, 0),
         (&[255], 1, 0),
         // Cut off, even if the body begins badly.
         (&[6], 1, 0),
@@ -93,6 +94,8 @@ fn refusals() {
         (&[2, 10, 1], 1, 1),
         (&[2, 11, 1], 1, 1),
         (&[2, 14], 1, 1),
+        (&[16], 1, 0),
+        (&[2, 16, 5], 1, 1),
         // Precision and scale.
         (&[6, 0, 0], 2, 0),
         (&[7, 39, 0], 2, 0),
@@ -245,7 +248,7 @@ fn every_fault_is_generated() {
         let padded = Layout::padded(&before).minimum;
         if let Some(kind) = bytes.get(place) {
             let rest = bytes.len() - place;
-            let known = if (1..=15).contains(kind) {
+            let known = if (1..=16).contains(kind) {
                 "known"
             } else {
                 "unknown"
@@ -266,7 +269,7 @@ fn every_fault_is_generated() {
         "UnknownKind at column 0",
         "UnknownKind at column 255",
         "UnknownKind of kind 0",
-        "UnknownKind of kind 16",
+        "UnknownKind of kind 17",
         "UnknownKind of kind 255",
         "UnknownKind, minimum above: true",
         "Cut at column 0",

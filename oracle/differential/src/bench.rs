@@ -3,7 +3,12 @@
 //! that other work on the machine counts little. There are so many rows that the
 //! processor cannot learn them.
 
+use cases::column::ColumnType;
+use cases::generate::value::points;
+use cases::laid_out;
 use cases::rng::Rng;
+use cases::schema::write_schema;
+use cases::value::{Record, TextRange, ValueList, append};
 use rookdb::chrono::{Duration, NaiveDate, NaiveDateTime};
 use rookdb::types::datatype::DataType;
 use rookdb::types::value::{DataValue, NumericValue, OrderedF32, OrderedF64};
@@ -11,6 +16,9 @@ use std::hint::black_box;
 use std::time::Instant;
 
 const ROUNDS: usize = 101;
+
+/// Of two schemas beside each other, whose times differ little.
+const ROUNDS_BESIDE: usize = 501;
 
 /// A platform's occupation: station, platform, track, train, line, arrival,
 /// departure, whether it is out of plan.
@@ -172,6 +180,146 @@ pub fn tables() -> [Table; 4] {
     ]
 }
 
+/// What the characters of a text are.
+#[derive(Clone, Copy)]
+enum Letters {
+    Ascii,
+    /// Every third is of two bytes.
+    Accented,
+    TwoBytes,
+    ThreeBytes,
+}
+
+impl Letters {
+    fn name(self) -> &'static str {
+        match self {
+            Letters::Ascii => "ASCII",
+            Letters::Accented => "accented",
+            Letters::TwoBytes => "two bytes",
+            Letters::ThreeBytes => "three bytes",
+        }
+    }
+
+    fn pick(self, rng: &mut Rng, at: usize) -> char {
+        match self {
+            Letters::Accented if at % 3 != 1 => Letters::Ascii.pick(rng, at),
+            Letters::Ascii => char::from(b'a' + rng.below(26) as u8),
+            Letters::Accented | Letters::TwoBytes => rng.pick(&['é', 'ü', 'ß', 'ø', 'č', 'ö']),
+            Letters::ThreeBytes => rng.pick(&['東', '京', '都', '駅', '線', '口']),
+        }
+    }
+}
+
+/// Rows of names, under a schema whose Varchars count characters and under one whose
+/// Varchars count bytes and have room for as many.
+pub struct Names {
+    pub name: String,
+    /// By characters, by bytes.
+    pub schemas: [Vec<u8>; 2],
+    pub types: Vec<ColumnType>,
+    pub lists: Vec<ValueList>,
+    pub rows: Vec<Vec<u8>>,
+}
+
+impl Names {
+    /// Texts of so many characters between an Int and a Timestamp. With `exact` n is
+    /// their number, else there is room for as many bytes.
+    fn new(rng: &mut Rng, letters: Letters, counts: &[usize], exact: bool) -> Self {
+        let types = |text: &dyn Fn(usize) -> ColumnType| {
+            let texts = counts.iter().map(|&count| text(count));
+            let first = [ColumnType::Int].into_iter();
+            first.chain(texts).chain([ColumnType::Timestamp]).collect()
+        };
+        let by_bytes: Vec<_> = types(&|count| ColumnType::Varchar(4 * count as u16));
+        let n = |count: usize| (if exact { count } else { 4 * count }) as u16;
+        let by_chars: Vec<_> = types(&|count| ColumnType::VarcharChars(n(count)));
+        let list = |rng: &mut Rng| {
+            let mut area = Vec::new();
+            let mut records = vec![Record::Int(rng.below(1_000_000) as i32)];
+            for &count in counts {
+                let text: String = (0..count).map(|at| letters.pick(rng, at)).collect();
+                assert_eq!(points(text.as_bytes()), Some(count));
+                let range = append(text.as_bytes(), &mut area).expect("short texts");
+                records.push(Record::Varchar(range));
+            }
+            records.push(Record::Timestamp(rng.below(1_000_000_000) as i64));
+            ValueList::of_records(&records, area)
+        };
+        let lists: Vec<_> = (0..1000).map(|_| list(rng)).collect();
+        let length = if counts.len() > 1 { "" } else { "long, " };
+        let unit = if exact { "characters" } else { "bytes" };
+        Names {
+            name: format!("{length}{}, n of the {unit}", letters.name()),
+            schemas: [write_schema(&by_chars), write_schema(&by_bytes)],
+            rows: lists
+                .iter()
+                .map(|list| laid_out::built(&by_chars, list))
+                .collect(),
+            types: by_chars,
+            lists,
+        }
+    }
+
+    /// The text of a column of a row, and its record.
+    pub fn text(&self, row: usize, column: usize) -> (Record, Vec<u8>) {
+        let list = &self.lists[row];
+        let records = list.records(self.types.len()).expect("a good list");
+        let range = records[column].range().expect("a text");
+        let text = range.of(&list.text).expect("a range inside").to_vec();
+        let length = text.len();
+        (Record::Varchar(TextRange { start: 0, length }), text)
+    }
+}
+
+/// Texts of 8 to 64 characters, and of some 1,000 bytes.
+pub fn names() -> [Names; 10] {
+    let rng = &mut Rng::new(3);
+    let short = &[8, 16, 32, 64][..];
+    let sorts = [
+        (Letters::Ascii, short, true),
+        (Letters::Accented, short, false),
+        (Letters::Accented, short, true),
+        (Letters::TwoBytes, short, true),
+        (Letters::ThreeBytes, short, false),
+        (Letters::ThreeBytes, short, true),
+        (Letters::Ascii, &[1000], true),
+        (Letters::Accented, &[750], false),
+        (Letters::Accented, &[750], true),
+        (Letters::ThreeBytes, &[333], true),
+    ];
+    sorts.map(|(letters, counts, exact)| Names::new(rng, letters, counts, exact))
+}
+
+/// Nanoseconds for one of the items under each of two schemas, which take turns, each
+/// before the other in every second round.
+pub fn beside<T>(schemas: &[Vec<u8>; 2], items: &[T], mut call: impl FnMut(&[u8], &T)) -> [f64; 2] {
+    let mut first = 0;
+    least_of(ROUNDS_BESIDE, || {
+        first = 1 - first;
+        let mut times = [0.0; 2];
+        for which in [first, 1 - first] {
+            let schema = black_box(&schemas[which]);
+            times[which] = time(items, |item| call(schema, item));
+        }
+        times
+    })
+}
+
+pub fn say_beside_header(what: &str) {
+    let what = format!("{what}, ns for a row");
+    println!(
+        "{what:<56}{:>10}{:>10}{:>10}",
+        "kind 11", "kind 16", "ratio"
+    );
+}
+
+pub fn say_beside(name: &str, [by_chars, by_bytes]: [f64; 2]) {
+    println!(
+        "{name:<56}{by_bytes:>10.1}{by_chars:>10.1}{:>10.3}",
+        by_chars / by_bytes
+    );
+}
+
 /// Nanoseconds for one of the items.
 #[inline(never)]
 pub fn time<T>(items: &[T], mut call: impl FnMut(&T)) -> f64 {
@@ -183,9 +331,13 @@ pub fn time<T>(items: &[T], mut call: impl FnMut(&T)) -> f64 {
 }
 
 /// The least of each time over the rounds.
-pub fn least<const N: usize>(mut round: impl FnMut() -> [f64; N]) -> [f64; N] {
+pub fn least<const N: usize>(round: impl FnMut() -> [f64; N]) -> [f64; N] {
+    least_of(ROUNDS, round)
+}
+
+fn least_of<const N: usize>(rounds: usize, mut round: impl FnMut() -> [f64; N]) -> [f64; N] {
     let mut least = [f64::MAX; N];
-    for _ in 0..ROUNDS {
+    for _ in 0..rounds {
         for (least, time) in least.iter_mut().zip(round()) {
             *least = least.min(time);
         }

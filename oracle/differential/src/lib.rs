@@ -1,14 +1,16 @@
 //! The port compared with the Rust. `compare` has a module for each call, with
 //! one comparison on one generated input; `port` reaches the port's calls on
 //! rows, `probe` its inner functions, `lent` tells what a call left, `memory` is
-//! where slices are lent from. The program `differential` runs comparisons for a
-//! time, the program `record` writes a sample of the Rust's answers to a file.
-//! `attack` compares the exported calls with the model alone, many times; the
-//! program of that name runs it. `bench_read`, `bench_build`, `bench_edit`,
-//! `bench_same` and `bench_print` measure with what `bench` has.
+//! where slices are lent from, `chars` tells what a call shows of kind 16. The
+//! program `differential` runs comparisons for a time, the program `record` writes
+//! a sample of the Rust's answers to a file. `attack` compares the exported calls
+//! with the model alone, many times; the program of that name runs it.
+//! `bench_read`, `bench_build`, `bench_edit`, `bench_same` and `bench_print`
+//! measure with what `bench` has.
 
 pub mod attack;
 pub mod bench;
+pub mod chars;
 pub mod compare;
 pub mod lent;
 pub mod memory;

@@ -28,6 +28,7 @@ use cases::LIMIT;
 use cases::column::{RustColumns, to_rust_types};
 use cases::expected::{self, Refusal};
 use cases::generate::history::{self, Sort};
+use cases::generate::kinds::Kinds;
 use cases::generate::list;
 use cases::generate::row::sound_row;
 use cases::generate::schema::any_schema;
@@ -54,6 +55,9 @@ const PLANTED: u8 = 128;
 const SEED: u64 = 20_261_115;
 
 const BLOCK: usize = 65_536;
+
+/// The columns of the inputs: the file stays as it is, whatever else is compared.
+const KINDS: Kinds = Kinds::OfRust;
 
 /// The longest input of a record, so that the file stays small.
 const LONGEST: usize = 1500;
@@ -101,7 +105,7 @@ fn text(rng: &mut Rng) -> Option<Record> {
 }
 
 fn null_flag(rng: &mut Rng) -> Option<Record> {
-    let (_, row, column) = null_flag::input(rng);
+    let (_, row, column) = null_flag::input(rng, KINDS);
     if row.len() > LONGEST.min(LIMIT) {
         return None;
     }
@@ -154,7 +158,7 @@ fn short(kind: u8, inputs: Vec<Vec<u8>>, answer: Vec<u8>) -> Option<Record> {
 }
 
 fn value_stored(rng: &mut Rng) -> Option<Record> {
-    let ty = value::any_column(rng);
+    let ty = value::any_column(rng, KINDS);
     let (_, list) = value::any_list(rng, &ty);
     let answer = value::rust_form(&ty, &list)?;
     let inputs = vec![write_schema(&[ty]), list.bytes, list.text];
@@ -162,7 +166,7 @@ fn value_stored(rng: &mut Rng) -> Option<Record> {
 }
 
 fn slot_read(rng: &mut Rng) -> Option<Record> {
-    let ty = value::any_column(rng);
+    let ty = value::any_column(rng, KINDS);
     let (_, bytes) = value::any_slot(rng, &ty);
     let start = value::any_start(rng);
     if value::refused_slot(&ty, &bytes, start, LONGEST).is_some() {
@@ -188,7 +192,7 @@ fn read_by_both(schema: &[u8], row: &[u8], wanted: &[u16]) -> Option<Handed> {
 }
 
 fn row_read(rng: &mut Rng) -> Option<Record> {
-    let given = rows::any_given(rng);
+    let given = rows::any_given(rng, KINDS);
     let (_, wanted) = any_wanted(rng, given.types.len());
     if wanted.len() > MOST_WANTED || given.row.len() > LONGEST {
         return None;
@@ -200,8 +204,8 @@ fn row_read(rng: &mut Rng) -> Option<Record> {
 
 fn row_built(rng: &mut Rng) -> Option<Record> {
     let given = match rng.below(3) {
-        0 => build::refused_given(rng)?,
-        _ => build::any_given(rng),
+        0 => build::refused_given(rng, KINDS)?,
+        _ => build::any_given(rng, KINDS),
     };
     let list = given.list;
     let columns = RustColumns::of(&given.types)?;
@@ -216,7 +220,7 @@ fn row_built(rng: &mut Rng) -> Option<Record> {
 }
 
 fn row_fresh(rng: &mut Rng) -> Option<Record> {
-    let types = rows::any_types(rng);
+    let types = rows::any_types(rng, KINDS);
     let row = rust::fresh(&to_rust_types(&types)?).ok()?;
     handed(FRESH, vec![write_schema(&types)], Ok(row))
 }
@@ -241,7 +245,7 @@ fn column_set_null(rng: &mut Rng) -> Option<Record> {
 
 /// An edit of this sort, of a sound row in a buffer with room for the result.
 fn edited(rng: &mut Rng, sort: Sort) -> Option<Record> {
-    let types = rows::any_types(rng);
+    let types = rows::any_types(rng, KINDS);
     let call = history::call(rng, &types, sort)?;
     let row = sound_row(rng, &types);
     let spare = rng.between(0, 60);

@@ -127,7 +127,7 @@ fn text_value(schema: &[u8], row: &[u8], column: usize) -> Result<Value, Refusal
     let types = schema::check(schema)?;
     match types.get(column) {
         None => Err((9, 0)),
-        Some(Type::Char(_) | Type::Character(_) | Type::Varchar(_)) => {
+        Some(ty) if ty.is_text() => {
             let values = columns(&types, row, |wanted| wanted == column)?;
             Ok(values[column])
         }

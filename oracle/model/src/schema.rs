@@ -4,7 +4,8 @@
 use crate::layout::Layout;
 use crate::{LIMIT, MAX_COLUMNS, Refusal};
 
-/// A column's type.
+/// A column's type. A Varchar has at most n bytes, a VarcharChars at most n code
+/// points; all else is the same for both.
 #[derive(Debug, Clone, Copy, PartialEq, Eq)]
 pub enum Type {
     SmallInt,
@@ -18,6 +19,7 @@ pub enum Type {
     Char(usize),
     Character(usize),
     Varchar(usize),
+    VarcharChars(usize),
     Date,
     Time,
     Bit(usize),
@@ -38,7 +40,7 @@ impl Type {
             }
             Type::Char(n) | Type::Character(n) => Some(n),
             Type::Bit(n) => Some(n.div_ceil(8)),
-            Type::Varchar(_) => None,
+            Type::Varchar(_) | Type::VarcharChars(_) => None,
         }
     }
 
@@ -54,6 +56,11 @@ impl Type {
 
     pub fn is_varchar(self) -> bool {
         self.fixed_size().is_none()
+    }
+
+    /// Whether its values are text.
+    pub fn is_text(self) -> bool {
+        matches!(self, Type::Char(_) | Type::Character(_)) || self.is_varchar()
     }
 }
 
@@ -84,7 +91,7 @@ fn record(bytes: &[u8]) -> Result<(Type, usize), u32> {
     let kind = bytes[0];
     let length = match kind {
         1..=5 | 8 | 12 | 13 | 15 => 1,
-        6 | 7 | 9 | 10 | 11 | 14 => 3,
+        6 | 7 | 9 | 10 | 11 | 14 | 16 => 3,
         _ => return Err(1),
     };
     if bytes.len() < length {
@@ -117,7 +124,8 @@ fn record(bytes: &[u8]) -> Result<(Type, usize), u32> {
         12 => Type::Date,
         13 => Type::Time,
         14 => Type::Bit(n()),
-        _ => Type::Timestamp,
+        15 => Type::Timestamp,
+        _ => Type::VarcharChars(n()),
     };
     Ok((ty, length))
 }

@@ -31,8 +31,8 @@ pub fn suits(ty: Type, value: &Value, area: &[u8]) -> bool {
                 scale: given,
             },
         ) => given == scale && digits(unscaled).len() <= usize::from(precision),
-        (Type::Char(n) | Type::Character(n) | Type::Varchar(n), _) => {
-            text_of(value, area).is_some_and(|text| text.len() <= n && is_text(text))
+        (_, Value::Char(_) | Value::Varchar(_)) => {
+            text_of(value, area).is_some_and(|text| holds(ty, text))
         }
         // Exactly the bytes that n bits fill; spare bits may be set.
         (Type::Bit(n), _) => text_of(value, area).is_some_and(|bytes| bytes.len() == n.div_ceil(8)),
@@ -42,6 +42,19 @@ pub fn suits(ty: Type, value: &Value, area: &[u8]) -> bool {
         (_, Value::Timestamp(count)) => TIMESTAMPS.contains(&count),
         // Every integer and float suits.
         _ => true,
+    }
+}
+
+/// Whether bytes are a text that a column of this type holds: valid, and at most n of
+/// what n counts.
+fn holds(ty: Type, text: &[u8]) -> bool {
+    let Some(points) = code_points(text) else {
+        return false;
+    };
+    match ty {
+        Type::Char(n) | Type::Character(n) | Type::Varchar(n) => text.len() <= n,
+        Type::VarcharChars(n) => points <= n,
+        _ => unreachable!("a type of text"),
     }
 }
 
@@ -57,7 +70,7 @@ pub fn text_of<'a>(value: &Value, area: &'a [u8]) -> Option<&'a [u8]> {
 /// The code points of a column's stored bytes, a Char's blanks with them; 0 if the
 /// type is none of text.
 pub fn points(ty: Type, stored: &[u8]) -> u32 {
-    if !matches!(ty, Type::Char(_) | Type::Character(_) | Type::Varchar(_)) {
+    if !ty.is_text() {
         return 0;
     }
     let points = code_points(stored).expect("text of a column");
@@ -143,9 +156,12 @@ pub fn read(ty: Type, bytes: &[u8], start: usize) -> Option<Value> {
         }
         // True for any non-zero byte.
         Type::Bool => Some(Value::Bool(u8::from(bytes[0] != 0))),
+        // A slot has n bytes.
         Type::Char(_) | Type::Character(_) => is_text(bytes).then_some(Value::Char(range)),
         // A text longer than n is no value of the type.
-        Type::Varchar(n) => (bytes.len() <= n && is_text(bytes)).then_some(Value::Varchar(range)),
+        Type::Varchar(_) | Type::VarcharChars(_) => {
+            holds(ty, bytes).then_some(Value::Varchar(range))
+        }
         Type::Date => {
             let days = i32::from_le_bytes(array(bytes));
             DATES.contains(&days).then_some(Value::Date(days))

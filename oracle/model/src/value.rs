@@ -71,7 +71,7 @@ impl Value {
             Type::Numeric { .. } | Type::Decimal { .. } => 6,
             Type::Bool => 7,
             Type::Char(_) | Type::Character(_) => 8,
-            Type::Varchar(_) => 9,
+            Type::Varchar(_) | Type::VarcharChars(_) => 9,
             Type::Date => 10,
             Type::Time => 11,
             Type::Bit(_) => 12,

@@ -62,6 +62,7 @@ fn sizes_and_alignments() {
         (Type::Char(0), Some(0), 1),
         (Type::Character(9), Some(9), 1),
         (Type::Varchar(9), None, 1),
+        (Type::VarcharChars(9), None, 1),
         (Type::Date, Some(4), 4),
         (Type::Time, Some(8), 8),
         (Type::Bit(0), Some(0), 1),

@@ -14,6 +14,8 @@ fn bad_schemas() -> Vec<(Vec<u8>, u32, usize)> {
         // Unknown kinds and cut records.
         (hex("00"), 1, 0),
         (hex("10"), 1, 0),
+        (hex("10 05"), 1, 0),
+        (hex("11 01 00"), 1, 0),
         (hex("02 0B 05 00 FF"), 1, 4),
         (hex("01 06"), 1, 1),
         (hex("09 01"), 1, 0),
@@ -86,8 +88,9 @@ fn build_10() {
         (answer.number == 10).then_some(answer.place)
     };
     assert_eq!(place(&good, b"AB"), None);
-    // An unknown kind: 14 and 255, the first record and a later one.
+    // An unknown kind: 14, 16 and 255, the first record and a later one.
     assert_eq!(place(&hex("0E"), b"AB"), Some(0));
+    assert_eq!(place(&hex("10 00 00 02 00"), b"AB"), Some(0));
     assert_eq!(place(&[&good[..5], &[255]].concat(), b"AB"), Some(5));
     // A cut body of each kind.
     for kind in 1..=13 {

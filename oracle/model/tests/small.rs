@@ -8,47 +8,15 @@ use cases::expected::{self, Refusal};
 use cases::history::Call;
 use cases::schema::write_schema;
 use cases::value::{Record, TextRange, ValueList};
-use common::{FILL, done, refused, with_counts};
+use common::{FILL, done, refused, small_rows, with_counts};
 
 /// A letter and the two bytes of another.
 const BYTES: [u8; 3] = [b'A', 0xC3, 0xA9];
 
-/// All lists of this length of these members.
-fn lists<T: Copy>(members: &[T], length: usize) -> Vec<Vec<T>> {
-    (0..length).fold(vec![vec![]], |shorter, _| {
-        let longer = |list: &Vec<T>| {
-            let mut lists = Vec::new();
-            for &member in members {
-                lists.push([&list[..], &[member]].concat());
-            }
-            lists
-        };
-        shorter.iter().flat_map(longer).collect()
-    })
-}
-
 /// All rows of up to this many bytes past the offset table.
 fn rows(types: &[ColumnType], past: usize) -> Vec<Vec<u8>> {
     let varchars = types.iter().filter(|ty| ty.is_variable_length()).count();
-    let table = 5;
-    let most = table + 2 * varchars + past;
-    let offsets: Vec<u16> = (0..=most as u16 + 1).collect();
-    let mut rows = Vec::new();
-    for flag in [0x80, 0] {
-        for bitmap in 0..1 << types.len() {
-            for offsets in lists(&offsets, varchars) {
-                for length in 0..=past {
-                    for payload in lists(&BYTES, length) {
-                        let mut row = vec![types.len() as u8, 0, varchars as u8, flag, bitmap];
-                        row.extend(offsets.iter().flat_map(|offset| offset.to_le_bytes()));
-                        row.extend(payload);
-                        rows.push(row);
-                    }
-                }
-            }
-        }
-    }
-    rows
+    small_rows(types.len(), varchars, &BYTES, past)
 }
 
 fn reads(types: &[ColumnType], row: &[u8], wanted: &[u16]) {

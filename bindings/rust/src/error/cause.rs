@@ -128,7 +128,12 @@ impl Error {
     /// 3 to 6: the row and the schema do not go together.
     fn bad_row(number: u32, call: &Call<'_>) -> Error {
         let (columns, length) = (call.columns(), call.row().len());
-        let varchar = |column: &&Column| matches!(column.data_type(), DataType::Varchar(_));
+        let varchar = |column: &&Column| {
+            matches!(
+                column.data_type(),
+                DataType::Varchar(_) | DataType::VarcharChars(_)
+            )
+        };
         match number {
             3 => Error::RowTooShort { length },
             4 => Error::RowTooLong { length },
@@ -231,6 +236,9 @@ impl SchemaFault {
 impl Misfit {
     fn of(data_type: DataType, value: Option<&Value<'_>>) -> Misfit {
         match (value, data_type) {
+            (Some(Value::Text(text)), DataType::VarcharChars(_)) => {
+                Misfit::Characters(text.chars().count())
+            }
             (Some(Value::Text(text)), _) => Misfit::Bytes(text.len()),
             (
                 Some(Value::Numeric(number)),
@@ -274,7 +282,7 @@ mod tests {
             let error = Error::new(refusal, call);
             assert_eq!((error.number(), error.place()), (31, 7));
             let message =
-                "the library refuses at 7 for a reason that rook_row 0.3.1 does not know (31)";
+                "the library refuses at 7 for a reason that rook_row 0.3.2 does not know (31)";
             assert_eq!(alloc::format!("{error}"), message);
         }
     }

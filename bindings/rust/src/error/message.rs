@@ -44,6 +44,7 @@ impl fmt::Display for RowListFault {
 fn misfit(f: &mut fmt::Formatter<'_>, misfit: Misfit, data_type: DataType) -> fmt::Result {
     match (misfit, data_type) {
         (Misfit::Bytes(bytes), _) => write!(f, "{bytes} bytes do not fit {data_type}"),
+        (Misfit::Characters(count), _) => write!(f, "{count} characters do not fit {data_type}"),
         (Misfit::Scale(scale), _) => write!(f, "scale {scale} is not that of {data_type}"),
         (Misfit::Digits(digits), _) => write!(f, "{digits} digits do not fit {data_type}"),
         (Misfit::Bits(bits), _) => write!(f, "{bits} bits are not those of {data_type}"),

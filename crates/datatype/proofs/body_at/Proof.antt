@@ -84,9 +84,14 @@ returns-9 c =
 
 returns-10 : tie.Need-returns-10
 returns-10 c =
+    let a = c .before .before .before .before .before .before .args in
+    rw (c .match .keys7) (there (now (a .schema)) (a .at) _ _ (omega arith) (rw (c .before .read-u16 .ensures)))
+
+returns-11 : tie.Need-returns-11
+returns-11 c =
     let r = c .match .rest in
     let b = c .before .before .before .before .before .before in
-    rw (no-kind (b .args .kind) (b .pre .1) (r .0 .0 .0 .0 .0 .1) (r .0 .0 .0 .0 .1) (r .0 .0 .0 .1) (r .0 .0 .1) (r .0 .1) (r .1))
+    rw (no-kind (b .args .kind) (b .pre .1) (r .0 .0 .0 .0 .0 .0 .1) (r .0 .0 .0 .0 .0 .1) (r .0 .0 .0 .0 .1) (r .0 .0 .0 .1) (r .0 .0 .1) (r .0 .1) (r .1))
 
 pub body-at-spec : {M : Type 1} → statement M
 body-at-spec =
@@ -111,4 +116,5 @@ body-at-spec =
     returns-7
     returns-8
     returns-9
-    returns-10)
+    returns-10
+    returns-11)

@@ -1,3 +1,4 @@
+use mathlib.Core.Bool.{false}
 use borrow.Author.Needs.{needs}
 use Rattle.record_slot.proofs.char_points.Statement.{statement}
 use native.Mathlib.Omega.{arith}
@@ -22,7 +23,7 @@ text-points-requires : tie.Need-text-points-requires
 text-points-requires c κs =
     let entry = c .before .before .before in
     let a = entry .args in
-    (entry .pre .0, text-there (a .n) (rangeAt (now (a .values)) (a .body)) (now (a .text)) (entry .pre .1 .1))
+    (entry .pre .0, text-there false (a .n) (rangeAt (now (a .values)) (a .body)) (now (a .text)) (entry .pre .1 .1))
 
 sub-result : tie.Need-sub-result
 sub-result c =
@@ -43,7 +44,7 @@ returns c =
     let l = c .before .read-u16 .ensures in
     let k = c .text-points .ensures .0 in
     let h = range-within (a .n) q (now (a .text)) s in
-    let f = rw (← k) at (few-points q (now (a .text)) (text-there (a .n) q (now (a .text)) s)) in
+    let f = rw (← k) at (few-points q (now (a .text)) (text-there false (a .n) q (now (a .text)) s)) in
     (filled-points (a .n) q (now (a .text)) s k l, omega (arith, l, f, h))
 
 pub char-points-spec : {M : Type 1} → statement M

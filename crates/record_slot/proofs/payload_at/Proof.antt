@@ -19,8 +19,8 @@ returns c =
     let entry = c .before .before .before .before .before in
     (null-payload (entry .pre .0) (entry .args .column) (now (entry .args .text)) (c .if1 .taken), omega arith)
 
-shared-slice-read-held-kind : tie.Need-shared-slice-read-held-kind
-shared-slice-read-held-kind c = search needs
+shared-slice-read-column-kind : tie.Need-shared-slice-read-column-kind
+shared-slice-read-column-kind c = search needs
 
 held-kind-requires : tie.Need-held-kind-requires
 held-kind-requires c κs = search needs
@@ -74,7 +74,7 @@ payload-at-spec =
     (tie.spec
     shared-slice-read-kind
     returns
-    shared-slice-read-held-kind
+    shared-slice-read-column-kind
     held-kind-requires
     returns-2
     declared-length-requires

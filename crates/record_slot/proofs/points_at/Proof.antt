@@ -1,3 +1,6 @@
+use Rattle.datatype.specs.Types.{countsPoints}
+use Rattle.datatype.specs.Schema.{columnRecordAt}
+use Rattle.datatype.specs.InnerSteps.{typeIn}
 use borrow.Author.Needs.{needs}
 use Rattle.record_slot.proofs.points_at.Statement.{statement}
 use native.Mathlib.Omega.{arith}
@@ -41,7 +44,7 @@ text-points-requires c κs =
     let a = entry .args in
     let p = entry .pre in
     let k = c .match .keys2 in
-    (within-at (p .0) 9 k, text-there (declaredAt (now (a .schema)) (a .at)) (rangeAt (now (a .values)) (a .from + 1)) (now (a .text)) (text-ready (p .0) (p .1) 9 k (omega arith)))
+    (within-at (p .0) 9 k, text-there (countsPoints (typeIn (columnRecordAt (now (a .schema)) (a .at)))) (declaredAt (now (a .schema)) (a .at)) (rangeAt (now (a .values)) (a .from + 1)) (now (a .text)) (text-ready (p .0) (p .1) 9 k (omega arith)))
 
 cast-result-2 : tie.Need-cast-result-2
 cast-result-2 c =

@@ -1,3 +1,4 @@
+use mathlib.Core.Bool.{false}
 use borrow.Author.Needs.{needs}
 use Rattle.record_slot.proofs.write_char.Statement.{statement}
 use native.Mathlib.Omega.{arith}
@@ -38,7 +39,7 @@ part-write-char-end : tie.Need-part-write-char-end
 part-write-char-end c =
     let entry = c .before .before .before .before .before .before in
     let a = entry .args in
-    let h = rw (← c .before .before .read-u16 .ensures, ← c .before .read-u162 .ensures) at (text-inside (a .n) (rangeAt (now (a .values)) (a .body)) (now (a .text)) (entry .pre .1 .1)) in
+    let h = rw (← c .before .before .read-u16 .ensures, ← c .before .read-u162 .ensures) at (text-inside false (a .n) (rangeAt (now (a .values)) (a .body)) (now (a .text)) (entry .pre .1 .1)) in
     search needs
 
 write-char-requires : tie.Need-write-char-requires
@@ -48,7 +49,7 @@ write-char-requires c κs =
     let s = c .before .before .before .read-u16 .result in
     let l = c .before .before .read-u162 .result in
     let e : s + l - s ≡ l = omega arith in
-    rw (e, c .before .before .before .read-u16 .ensures, c .before .before .read-u162 .ensures) (text-within (a .n) (rangeAt (now (a .values)) (a .body)) (now (a .text)) (entry .pre .1 .1), entry .pre .1 .0)
+    rw (e, c .before .before .before .read-u16 .ensures, c .before .before .read-u162 .ensures) (text-within false (a .n) (rangeAt (now (a .values)) (a .body)) (now (a .text)) (entry .pre .1 .1), entry .pre .1 .0)
 
 same-length : tie.Need-same-length
 same-length c = search needs

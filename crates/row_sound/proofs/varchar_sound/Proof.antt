@@ -20,7 +20,7 @@ offset-at-requires c κs =
 returns : tie.Need-returns
 returns c =
     let a = c .before .before .before .before .before .args in
-    rw (varchar-told (a .layout) (a .packed) (a .before) (now (a .row)) (a .n), ← c .before .before .column-bit-is-set .ensures, c .before .if1 .taken, ← c .before .before .before .varlen-table-offset .ensures, ← c .offset-at .ensures .0)
+    rw (varchar-told (a .layout) (a .packed) (a .before) (now (a .row)) (a .by-points) (a .n), ← c .before .before .column-bit-is-set .ensures, c .before .if1 .taken, ← c .before .before .before .varlen-table-offset .ensures, ← c .offset-at .ensures .0)
 
 range-sound-requires : tie.Need-range-sound-requires
 range-sound-requires c κs =
@@ -30,7 +30,7 @@ range-sound-requires c κs =
 returns-2 : tie.Need-returns-2
 returns-2 c =
     let a = c .before .before .before .before .before .args in
-    rw (varchar-told (a .layout) (a .packed) (a .before) (now (a .row)) (a .n), ← c .before .before .column-bit-is-set .ensures, c .before .if1 .left, ← c .before .before .before .varlen-table-offset .ensures) (c .range-sound .ensures)
+    rw (varchar-told (a .layout) (a .packed) (a .before) (now (a .row)) (a .by-points) (a .n), ← c .before .before .column-bit-is-set .ensures, c .before .if1 .left, ← c .before .before .before .varlen-table-offset .ensures) (c .range-sound .ensures)
 
 pub varchar-sound-spec : {M : Type 1} → statement M
 varchar-sound-spec =

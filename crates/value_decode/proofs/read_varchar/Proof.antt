@@ -1,19 +1,15 @@
-use Rattle.laws.proofs.Tests.{by-tests}
 use borrow.Author.Needs.{needs}
 use Rattle.value_decode.proofs.read_varchar.Statement.{statement}
 use Rattle.value_decode.proofs.read_varchar.Tie as tie
 
-returns : tie.Need-returns
-returns c = search by-tests
+is-within-requires : tie.Need-is-within-requires
+is-within-requires c κs = search needs
 
-is-valid-requires : tie.Need-is-valid-requires
-is-valid-requires c κs = search needs
+returns : tie.Need-returns
+returns c = rw (← c .before .is-within .ensures, c .if1 .taken)
 
 returns-2 : tie.Need-returns-2
-returns-2 c = rw (← c .before .is-valid .ensures, c .if2 .taken) (search by-tests)
-
-returns-3 : tie.Need-returns-3
-returns-3 c = rw (← c .before .is-valid .ensures, c .if2 .left) (search by-tests)
+returns-2 c = rw (← c .before .is-within .ensures, c .if1 .left)
 
 pub read-varchar-spec : {M : Type 1} → statement M
-read-varchar-spec = tie.close (tie.spec returns is-valid-requires returns-2 returns-3)
+read-varchar-spec = tie.close (tie.spec is-within-requires returns returns-2)

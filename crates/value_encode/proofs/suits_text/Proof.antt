@@ -41,14 +41,17 @@ enum-known-value-2 c = search needs
 enum-told-7 : tie.Need-enum-told-7
 enum-told-7 c = search needs
 
-fits-text-requires : tie.Need-fits-text-requires
-fits-text-requires c κs = search needs
+is-within-requires : tie.Need-is-within-requires
+is-within-requires c κs = search needs
 
 enum-told-8 : tie.Need-enum-told-8
 enum-told-8 c = search needs
 
-fits-text-requires-2 : tie.Need-fits-text-requires-2
-fits-text-requires-2 c κs = search needs
+counts-points-requires : tie.Need-counts-points-requires
+counts-points-requires c κs = search needs
+
+is-within-requires-2 : tie.Need-is-within-requires-2
+is-within-requires-2 c κs = search needs
 
 enum-known-value-3 : tie.Need-enum-known-value-3
 enum-known-value-3 c = search needs
@@ -99,10 +102,10 @@ returns-8 : tie.Need-returns-8
 returns-8 c = rw (c .before .value2 .given .1)
 
 returns-9 : tie.Need-returns-9
-returns-9 c = rw (c .before .enum-told7 .given .1) (rw (← c .before .before .before .declared-length .ensures) (c .fits-text .ensures))
+returns-9 c = rw (c .before .enum-told7 .given .1) (rw (← c .before .before .before .declared-length .ensures) (c .is-within .ensures))
 
 returns-10 : tie.Need-returns-10
-returns-10 c = rw (c .before .enum-told8 .given .1) (rw (← c .before .before .before .declared-length .ensures) (c .fits-text2 .ensures))
+returns-10 c = rw (c .before .before .enum-told8 .given .1) (rw (← c .before .before .before .before .declared-length .ensures, ← c .before .counts-points .ensures) (c .is-within2 .ensures))
 
 returns-11 : tie.Need-returns-11
 returns-11 c = let v = c .before .before .value3 .given in rw (v .1) (handed w32 isDate (v .0 .0) (search needs) (c .is-date .ensures))
@@ -132,9 +135,10 @@ suits-text-spec =
     fits-digits-requires
     enum-known-value-2
     enum-told-7
-    fits-text-requires
+    is-within-requires
     enum-told-8
-    fits-text-requires-2
+    counts-points-requires
+    is-within-requires-2
     enum-known-value-3
     is-date-requires
     enum-known-value-4

@@ -1,4 +1,6 @@
-use Rattle.stored_form.proofs.Lengths.{fits-below, fits-length, length-char}
+use mathlib.Core.Bool.{false}
+use Rattle.text_limit.proofs.Limits.{fits-size}
+use Rattle.stored_form.proofs.Lengths.{fits-below, length-char}
 use Rattle.bit_utils.proofs.Packing.{length-packed}
 use Rattle.numeric.proofs.Packing.{length-encode}
 use Rattle.signed.proofs.Casts.{handed}
@@ -87,7 +89,7 @@ write-char-requires c κs =
     let a = entry .args in
     let e = rw (c .before .enum-told2 .given .1) at (entry .pre .1 .0) in
     let h = rw (c .before .enum-told2 .given .1, length-char _ (now (a .text)) e) at (entry .pre .1 .1) in
-    rw (c .before .before .before .before .declared-length .ensures) (fits-length _ (now (a .text)) e, h)
+    rw (c .before .before .before .before .declared-length .ensures) (fits-size false _ (now (a .text)) e, h)
 
 enum-told-3 : tie.Need-enum-told-3
 enum-told-3 c = search needs

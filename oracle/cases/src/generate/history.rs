@@ -2,6 +2,7 @@
 
 use super::list::{self, Sort as ListSort};
 use super::row::unknown_column;
+use super::text::densest;
 use crate::LIMIT;
 use crate::column::ColumnType;
 use crate::history::Call;
@@ -61,13 +62,17 @@ pub fn call(rng: &mut Rng, types: &[ColumnType], sort: Sort) -> Option<Call> {
 
 /// A text for a Varchar that brings a row without other payloads to this length.
 fn long(types: &[ColumnType], column: usize, row: usize) -> Option<ValueList> {
-    let ColumnType::Varchar(n) = types[column] else {
-        return None;
-    };
     let length = row - Layout::packed(types).minimum;
-    let text = vec![b'x'; length];
+    let (text, fits) = match types[column] {
+        ColumnType::Varchar(n) => (vec![b'x'; length], length <= n.into()),
+        ColumnType::VarcharChars(n) => {
+            let fits = length.div_ceil(4) <= n.into() && length <= LIMIT;
+            (densest(length), fits)
+        }
+        _ => return None,
+    };
     let record = Record::Varchar(TextRange { start: 0, length });
-    (length <= n.into()).then(|| ValueList::of_records(&[record], text))
+    fits.then(|| ValueList::of_records(&[record], text))
 }
 
 fn on_unknown_column(rng: &mut Rng, types: &[ColumnType]) -> Call {

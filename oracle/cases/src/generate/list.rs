@@ -192,21 +192,50 @@ fn text_above(rng: &mut Rng, types: &[ColumnType]) -> List {
 }
 
 /// Suitable values that make a packed row of exactly this length, the Varchars
-/// sharing one text; `None` if the Varchars do not reach so far.
+/// sharing one text; `None` if the Varchars do not reach so far. The text is one of
+/// characters of one byte, behind characters of four where Varchars that count
+/// characters take some.
 fn row_of(rng: &mut Rng, types: &[ColumnType], length: usize) -> Option<Draft> {
     let mut missing = length.checked_sub(Layout::packed(types).minimum)?;
     let mut draft = nulls(types);
     let mut columns: Vec<usize> = (0..types.len()).collect();
     shuffle(rng, &mut columns);
+    // Of each column the characters of four bytes, and the length.
+    let mut parts = Vec::new();
     for column in columns {
-        if let ColumnType::Varchar(n) = types[column] {
-            let length = missing.min(n.into());
-            draft.records[column] = Record::Varchar(TextRange { start: 0, length });
-            missing -= length;
-        }
+        let (wide, length) = match types[column] {
+            ColumnType::Varchar(n) => (0, missing.min(n.into())),
+            ColumnType::VarcharChars(n) => wide_part(rng, missing, n.into()),
+            _ => continue,
+        };
+        parts.push((column, wide, length));
+        missing -= length;
     }
-    draft.area.bytes = vec![b'x'; LIMIT];
+    let wide = parts.iter().map(|part| part.1).max().unwrap_or(0);
+    let mut text = "\u{10FFFF}".repeat(wide).into_bytes();
+    for (column, own, length) in parts {
+        let start = 4 * (wide - own);
+        draft.records[column] = Record::Varchar(TextRange { start, length });
+        // What leaves the text area stays missing.
+        missing += (start + length).saturating_sub(LIMIT);
+    }
+    text.resize(LIMIT, b'x');
+    draft.area.bytes = text;
     (missing == 0).then_some(draft)
+}
+
+/// How many characters of four bytes, and how many bytes in all, a text of at most n
+/// characters takes of so many bytes that are missing.
+fn wide_part(rng: &mut Rng, missing: usize, n: usize) -> (usize, usize) {
+    let length = missing.min(4 * n);
+    // Each of them spares three characters.
+    let least = length.saturating_sub(n).div_ceil(3);
+    let most = length / 4;
+    match least <= most {
+        true if rng.one_in(2) => (rng.between(least, most), length),
+        true => (least, length),
+        false => (most, 4 * most),
+    }
 }
 
 fn row_above(rng: &mut Rng, types: &[ColumnType]) -> Option<List> {

@@ -1,35 +1,38 @@
-//! Rows as the Rust makes them; the other rows are made from these. What makes
-//! rows of a kind that the Rust does not know has its place here.
+//! Rows as the Rust makes them; rows with columns that it does not know are laid out
+//! without it. The other rows are made from these.
 
 use crate::column::{ColumnType, RustColumns};
-use crate::rust;
 use crate::value::ValueList;
-
-fn known(types: &[ColumnType]) -> RustColumns<'_> {
-    RustColumns::of(types).expect("columns that the Rust knows")
-}
+use crate::{laid_out, rust};
 
 /// The row of nulls.
 pub fn fresh(types: &[ColumnType]) -> Vec<u8> {
-    let row = rust::fresh(&known(types).rust);
-    row.ok().expect("a fresh row")
+    let Some(columns) = RustColumns::of(types) else {
+        return laid_out::fresh(types);
+    };
+    rust::fresh(&columns.rust).ok().expect("a fresh row")
 }
 
 /// The row of a list without a bad value, of any length.
 pub fn built(types: &[ColumnType], list: &ValueList) -> Vec<u8> {
+    let Some(columns) = RustColumns::of(types) else {
+        return laid_out::built(types, list);
+    };
     let given = list.to_rust(types).expect("a good list");
-    let row = rust::build(&known(types).rust, &given.values);
+    let row = rust::build(&columns.rust, &given.values);
     row.ok().expect("a row of a good list")
 }
 
-/// The row with a column set to the one value of such a list, or to null; of any
-/// length.
+/// The row, sound, with a column set to the one value of such a list, or to null; of
+/// any length.
 pub fn edited(types: &[ColumnType], row: &[u8], column: usize, list: &ValueList) -> Vec<u8> {
+    let Some(columns) = RustColumns::of(types) else {
+        return laid_out::edited(types, row, column, list);
+    };
     let given = list.to_rust(&types[column..=column]).expect("a good list");
-    let types = &known(types).rust;
     let edit = match &given.values[0] {
-        Some(value) => rust::set(types, row, column, value),
-        None => rust::set_null(types, row, column),
+        Some(value) => rust::set(&columns.rust, row, column, value),
+        None => rust::set_null(&columns.rust, row, column),
     };
     edit.ok().expect("an edit with a suitable value")
 }

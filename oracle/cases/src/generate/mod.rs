@@ -4,6 +4,7 @@
 use crate::Refusal;
 
 pub mod history;
+pub mod kinds;
 pub mod list;
 pub mod made;
 pub mod pair;

@@ -24,7 +24,7 @@ pub enum Sort {
     // Changed by hand, sound or not.
     /// A slot with a stored form at the edge of its type, or no value of it.
     Stored,
-    /// A Varchar's payload made invalid text.
+    /// A Varchar's payload made invalid text, or of more characters than it counts.
     Payload,
     FlippedBits,
     Cut,
@@ -346,8 +346,15 @@ fn payload(rng: &mut Rng, types: &[ColumnType]) -> Option<Vec<u8>> {
         .map(|rank| usize::from(target.offset(rank)))
         .find(|&offset| offset != 0)
         .unwrap_or(target.row.len());
-    let fault = rng.pick(&Fault::ALL);
-    let bytes = text::invalid(rng, fault, end - start)?;
+    let bytes = match types[target.column] {
+        ColumnType::VarcharChars(n) if end - start > n.into() && rng.one_in(2) => {
+            text::valid(rng, text::Sort::Ascii, end - start)
+        }
+        _ => {
+            let fault = rng.pick(&Fault::ALL);
+            text::invalid(rng, fault, end - start)?
+        }
+    };
     target.row[start..end].copy_from_slice(&bytes);
     Some(target.row)
 }

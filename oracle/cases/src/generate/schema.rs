@@ -263,9 +263,9 @@ fn bad_record(rng: &mut Rng, sort: Sort) -> Vec<u8> {
     match sort {
         Sort::UnknownKind => vec![match rng.below(4) {
             0 => 0,
-            1 => 16,
+            1 => 17,
             2 => 255,
-            _ => rng.between(16, 255) as u8,
+            _ => rng.between(17, 255) as u8,
         }],
         Sort::Precision => {
             let precision = match rng.below(4) {

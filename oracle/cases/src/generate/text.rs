@@ -60,17 +60,40 @@ impl Fault {
 pub fn valid(rng: &mut Rng, sort: Sort, length: usize) -> Vec<u8> {
     let mut bytes = Vec::with_capacity(length);
     while bytes.len() < length {
-        let wide = match sort {
-            Sort::Ascii => 1,
-            Sort::Accented => 2,
-            Sort::ThreeByte => 3,
-            Sort::FourByte => 4,
-            Sort::Mixed => rng.between(1, 4),
-        };
+        let wide = width(rng, sort);
         let rest = length - bytes.len();
         push_character(rng, if wide <= rest { wide } else { 1 }, &mut bytes);
     }
     bytes
+}
+
+fn width(rng: &mut Rng, sort: Sort) -> usize {
+    match sort {
+        Sort::Ascii => 1,
+        Sort::Accented => 2,
+        Sort::ThreeByte => 3,
+        Sort::FourByte => 4,
+        Sort::Mixed => rng.between(1, 4),
+    }
+}
+
+/// A valid text of exactly so many characters, of a sort at random.
+pub fn of_points(rng: &mut Rng, points: usize) -> Vec<u8> {
+    let sort = rng.pick(&Sort::ALL);
+    let mut bytes = Vec::new();
+    for _ in 0..points {
+        let width = width(rng, sort);
+        push_character(rng, width, &mut bytes);
+    }
+    bytes
+}
+
+/// The valid text of exactly `length` bytes with the fewest characters.
+pub fn densest(length: usize) -> Vec<u8> {
+    let last = ["", "x", "é", "€"][length % 4];
+    ["\u{10FFFF}".repeat(length / 4).as_str(), last]
+        .concat()
+        .into_bytes()
 }
 
 /// A valid text of a sort at random.
@@ -110,7 +133,8 @@ fn push_character(rng: &mut Rng, width: usize, bytes: &mut Vec<u8>) {
     bytes.extend(character.encode_utf8(&mut [0; 4]).as_bytes());
 }
 
-fn sequence(rng: &mut Rng, fault: Fault) -> Vec<u8> {
+/// The bytes of a fault.
+pub fn sequence(rng: &mut Rng, fault: Fault) -> Vec<u8> {
     match fault {
         Fault::Continuation => continued(rng, &[], 1),
         Fault::OverlongTwo => {

@@ -107,6 +107,7 @@ pub fn suitable(rng: &mut Rng, ty: &ColumnType, area: &mut TextArea) -> Record {
         ColumnType::Bool => Record::Bool(rng.below(2) as u8),
         ColumnType::Char(n) | ColumnType::Character(n) => Record::Char(text_range(rng, n, area)),
         ColumnType::Varchar(n) => Record::Varchar(text_range(rng, n, area)),
+        ColumnType::VarcharChars(n) => Record::Varchar(points_range(rng, n, area)),
         ColumnType::Date => Record::Date(integer(rng, dates()) as i32),
         ColumnType::Time => Record::Time(integer(rng, TIMES)),
         ColumnType::Bit(n) => {
@@ -178,6 +179,32 @@ fn text_range(rng: &mut Rng, n: u16, area: &mut TextArea) -> TextRange {
     area.put(rng, &bytes)
 }
 
+/// A valid text of at most n characters; where n is small, often of exactly n or one
+/// less.
+fn points_range(rng: &mut Rng, n: u16, area: &mut TextArea) -> TextRange {
+    let n = usize::from(n);
+    if rng.one_in(8)
+        && let Some(range) = area.earlier(rng, |bytes| points(bytes).is_some_and(|p| p <= n))
+    {
+        return range;
+    }
+    // Four bytes a character have room.
+    let most = n.min(area.room() / 4);
+    let count = match rng.below(8) {
+        0 => most.saturating_sub(1).min(300),
+        1 | 2 => most.min(300),
+        _ => text_length(rng, n, most),
+    };
+    let bytes = text::of_points(rng, count);
+    area.put(rng, &bytes)
+}
+
+/// The characters of a text; `None` if it is invalid.
+pub fn points(bytes: &[u8]) -> Option<usize> {
+    let text = std::str::from_utf8(bytes).ok()?;
+    Some(text.chars().count())
+}
+
 /// Any bytes, 8,192 at most; from inside the area where it has no room.
 fn bytes_range(rng: &mut Rng, length: usize, area: &mut TextArea) -> TextRange {
     if length > area.room() {
@@ -210,6 +237,7 @@ pub fn unsuitable(rng: &mut Rng, ty: &ColumnType, area: &mut TextArea) -> Option
             Record::Char(unsuitable_text(rng, n, area)?)
         }
         ColumnType::Varchar(n) => Record::Varchar(unsuitable_text(rng, n, area)?),
+        ColumnType::VarcharChars(n) => Record::Varchar(unsuitable_points(rng, n, area)?),
         ColumnType::Date => {
             Record::Date(past(rng, dates(), i32::MIN.into()..=i32::MAX.into()) as i32)
         }
@@ -278,6 +306,27 @@ fn unsuitable_text(rng: &mut Rng, n: u16, area: &mut TextArea) -> Option<TextRan
     Some(area.put(rng, &bytes))
 }
 
+/// A text of n + 1 characters or some more, or an invalid one: of few bytes, or of n
+/// characters and a cut one.
+fn unsuitable_points(rng: &mut Rng, n: u16, area: &mut TextArea) -> Option<TextRange> {
+    let n = usize::from(n);
+    let room = area.room();
+    let over = n + rng.pick(&[1, 1, 1, 2, 12]);
+    let fits = 4 * over + 3 <= room;
+    let bytes = match rng.below(8) {
+        0..=4 if fits && (n <= 300 || rng.one_in(64)) => text::of_points(rng, over),
+        5 if fits && n <= 300 => {
+            let fault = rng.pick(&[Fault::CutTwo, Fault::CutThree, Fault::CutFour]);
+            [text::of_points(rng, n), text::sequence(rng, fault)].concat()
+        }
+        _ => {
+            let length = rng.between(1, 24).min(room);
+            any_invalid(rng, length)?
+        }
+    };
+    Some(area.put(rng, &bytes))
+}
+
 /// An invalid text of this length; `None` only for length 0.
 fn any_invalid(rng: &mut Rng, length: usize) -> Option<Vec<u8>> {
     let fault = rng.pick(&Fault::ALL);
@@ -304,7 +353,7 @@ pub fn outside(rng: &mut Rng, ty: &ColumnType, text: usize) -> Option<Record> {
     let range = outside_range(rng, text);
     match ty {
         ColumnType::Char(_) | ColumnType::Character(_) => Some(Record::Char(range)),
-        ColumnType::Varchar(_) => Some(Record::Varchar(range)),
+        ColumnType::Varchar(_) | ColumnType::VarcharChars(_) => Some(Record::Varchar(range)),
         ColumnType::Bit(_) => Some(Record::Bit(range)),
         _ => None,
     }
@@ -326,7 +375,7 @@ fn outside_range(rng: &mut Rng, text: usize) -> TextRange {
     TextRange { start, length }
 }
 
-/// One type of each schema kind.
+/// One type of each schema kind that the Rust knows.
 pub const TYPES: [ColumnType; 15] = [
     ColumnType::SmallInt,
     ColumnType::Int,

@@ -5,7 +5,7 @@ use super::judge::{Told, checked, told};
 use super::slots::{Given, Role};
 use super::{Attack, Call, Lent};
 use crate::memory::Part;
-use crate::port;
+use crate::{chars, port};
 
 impl Attack {
     pub(super) fn fresh(&mut self, schema: &[u8], out: &[u8]) -> Told {
@@ -53,9 +53,11 @@ impl Attack {
             );
             told!(answer, length)
         };
-        self.run(Call::Build, lent, port, |[out, counts]| {
+        let told = self.run(Call::Build, lent, port, |[out, counts]| {
             on_numbers(counts, |counts| judge(schema, values, text, out, counts))
-        })
+        });
+        self.shown(chars::build(schema, values, text, told.answer()));
+        told
     }
 
     pub(super) fn read(
@@ -92,9 +94,12 @@ impl Attack {
             );
             told!(answer, length)
         };
-        self.run(Call::Read, lent, port, |[out, counts]| {
+        let told = self.run(Call::Read, lent, port, |[out, counts]| {
             on_numbers(counts, |counts| judge(schema, row, wanted, out, counts))
-        })
+        });
+        let is_wanted = |column| wanted.iter().any(|&n| usize::from(n) == column);
+        self.shown(chars::read(schema, row, is_wanted, told.answer()));
+        told
     }
 
     pub(super) fn set(
@@ -118,9 +123,10 @@ impl Attack {
             );
             told!(answer, length)
         };
-        self.run(Call::Set, lent, port, |[buffer]| {
+        let told = self.run(Call::Set, lent, port, |[buffer]| {
             judge(schema, buffer, length, column, values, text)
-        })
+        });
+        self.shown_edit(schema, buffer, [length, column], Some((values, text)), told)
     }
 
     pub(super) fn set_null(
@@ -140,9 +146,10 @@ impl Attack {
                 port::rook_row_set_null(s.pointer, s.length, b.pointer, b.length, length, column);
             told!(answer, length)
         };
-        self.run(Call::SetNull, lent, port, |[buffer]| {
+        let told = self.run(Call::SetNull, lent, port, |[buffer]| {
             judge(schema, buffer, length, column)
-        })
+        });
+        self.shown_edit(schema, buffer, [length, column], None, told)
     }
 
     pub(super) fn handle_set(
@@ -168,11 +175,12 @@ impl Attack {
             );
             told!(answer, length)
         };
-        self.run(Call::HandleSet, lent, port, |[buffer, handle]| {
+        let told = self.run(Call::HandleSet, lent, port, |[buffer, handle]| {
             let told = judge(schema, buffer, length, column, values, text);
             handle.copy_from_slice(&handle::after(told, schema, buffer, before));
             told
-        })
+        });
+        self.shown_edit(schema, buffer, [length, column], Some((values, text)), told)
     }
 
     pub(super) fn handle_set_null(
@@ -195,11 +203,26 @@ impl Attack {
             );
             told!(answer, length)
         };
-        self.run(Call::HandleSetNull, lent, port, |[buffer, handle]| {
+        let told = self.run(Call::HandleSetNull, lent, port, |[buffer, handle]| {
             let told = judge(schema, buffer, length, column);
             handle.copy_from_slice(&handle::after(told, schema, buffer, before));
             told
-        })
+        });
+        self.shown_edit(schema, buffer, [length, column], None, told)
+    }
+
+    /// Counts what an edit showed.
+    fn shown_edit(
+        &mut self,
+        schema: &[u8],
+        buffer: &[u8],
+        [length, column]: [usize; 2],
+        list: Option<(&[u8], &[u8])>,
+        told: Told,
+    ) -> Told {
+        let row = buffer.get(..length);
+        self.shown(chars::edit(schema, row, column, list, told.answer()));
+        told
     }
 
     pub(super) fn text(&mut self, schema: &[u8], row: &[u8], column: usize) -> Told {
@@ -213,7 +236,10 @@ impl Attack {
             let answer = port::rook_row_text(s.pointer, s.length, r.pointer, r.length, column);
             told!(answer, start, length)
         };
-        self.run(Call::Text, lent, port, |[]| judge(schema, row, column))
+        let told = self.run(Call::Text, lent, port, |[]| judge(schema, row, column));
+        let is_wanted = |wanted| wanted == column;
+        self.shown(chars::read(schema, row, is_wanted, told.answer()));
+        told
     }
 
     pub(super) fn same_content(&mut self, schema: &[u8], a: &[u8], b: &[u8]) -> Told {
@@ -229,7 +255,10 @@ impl Attack {
             );
             told!(answer, flag)
         };
-        self.run(Call::SameContent, lent, port, |[]| judge(schema, a, b))
+        let told = self.run(Call::SameContent, lent, port, |[]| judge(schema, a, b));
+        let shown = |row| chars::read(schema, row, |_| true, told.answer());
+        self.shown(shown(a).or_else(|| shown(b)));
+        told
     }
 
     pub(super) fn is_null(&mut self, row: &[u8], column: usize) -> Told {

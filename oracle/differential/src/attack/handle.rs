@@ -39,7 +39,7 @@ fn laid_out(length: usize, mut schema: &[u8], packed: bool) -> Option<Handle> {
         }
         fixed += size;
         columns += 1;
-        varchars += usize::from(*kind == 11);
+        varchars += usize::from(matches!(kind, 11 | 16));
         schema = rest;
     }
     let numbers = [length, columns, varchars, fixed, usize::from(packed)];

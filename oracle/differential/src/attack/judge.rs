@@ -9,6 +9,13 @@ pub struct Told {
     pub handed: [usize; 2],
 }
 
+impl Told {
+    /// Number and place.
+    pub fn answer(&self) -> (u32, usize) {
+        (self.number, self.place)
+    }
+}
+
 pub type Build = fn(&[u8], &[u8], &[u8], &mut [u8], &mut [u32]) -> Told;
 pub type Read = fn(&[u8], &[u8], &[u16], &mut [u8], &mut [u32]) -> Told;
 pub type Edit = fn(&[u8], &mut [u8], usize, usize, &[u8], &[u8]) -> Told;

@@ -9,6 +9,7 @@ pub mod judge;
 mod rounds;
 mod slots;
 
+use crate::chars::Shown;
 use crate::hex;
 use crate::memory::{Part, Side};
 use judge::{Judge, Told};
@@ -80,6 +81,8 @@ pub struct Counts {
     pub wide: u64,
     /// With an input that was damaged.
     pub damaged: u64,
+    /// What calls showed of Varchars that count characters.
+    pub shown: [u64; Shown::ALL.len()],
 }
 
 /// What a call is given: slices that it only reads, slices that it may write to,
@@ -144,6 +147,13 @@ impl Attack {
         }
         self.count(call, wanted, inputs.iter().chain(&outputs));
         told
+    }
+
+    /// Counts what a call showed.
+    fn shown(&mut self, shown: Option<Shown>) {
+        if let Some(shown) = shown {
+            self.counts.shown[shown as usize] += 1;
+        }
     }
 
     /// Counts a call that answers so.

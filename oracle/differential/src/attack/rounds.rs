@@ -10,11 +10,11 @@ use crate::compare::{build, rows, text};
 use cases::LIMIT;
 use cases::column::ColumnType;
 use cases::generate::history::history;
+use cases::generate::kinds::Kinds;
 use cases::generate::list::any_list;
 use cases::generate::pair::any_pair;
 use cases::generate::row::{any_column, any_row, sound_row};
 use cases::generate::row_list;
-use cases::generate::schema::any_schema;
 use cases::generate::wanted::any_wanted;
 use cases::history;
 use cases::rng::Rng;
@@ -101,11 +101,11 @@ struct Given {
 
 impl Given {
     fn new(rng: &mut Rng) -> Self {
-        let types = rows::any_types(rng);
-        let (_, schema) = rows::any_schema_for(rng, &types);
+        let types = rows::any_types(rng, Kinds::All);
+        let (_, schema) = rows::any_schema_for(rng, &types, Kinds::All);
         let (_, (a, b)) = any_pair(rng, &types);
         let rows = [any_row(rng, &types).1, sound_row(rng, &types), a, b];
-        let other = build::any_given(rng);
+        let other = build::any_given(rng, Kinds::All);
         let own = any_list(rng, &types).1.values;
         let sets = history(rng, &types, 6).into_iter().map(|call| match call {
             history::Call::Set { column, values } => (column, values),
@@ -119,7 +119,7 @@ impl Given {
                 (Columns::of(&types), own),
                 (Columns::of(&other.types), other.list),
             ],
-            schemas: [any_schema(rng).1.bytes, schema.clone()],
+            schemas: [rows::any_bytes(rng, Kinds::All).1, schema.clone()],
             texts: [(); 2].map(|()| text::text(rng).1),
             row_list: row_list::any_list(rng).1,
             buffer: rows[1].clone(),

@@ -13,6 +13,7 @@ use cases::rng::Rng;
 use cases::rust;
 use differential::attack::judge::{FAULTY, Judge, MODEL};
 use differential::attack::{Attack, Call};
+use differential::chars::Shown;
 use differential::memory::Side;
 use std::ffi::{c_int, c_void};
 use std::io::Write;
@@ -141,6 +142,9 @@ fn report(attack: &Attack, options: &Options, different: Option<u64>, seconds: f
         counts.wide
     );
     println!("{:>11}  inputs damaged", counts.damaged);
+    for (shown, count) in Shown::ALL.into_iter().zip(counts.shown) {
+        println!("{count:>11}  {}", shown.name());
+    }
     println!(
         "{:>11}  calls with seed {}, {} different, {:.0} a second",
         counts.calls,

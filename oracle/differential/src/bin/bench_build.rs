@@ -3,13 +3,15 @@
 //! same values. The Rust hands back a vector of its own and `Row::new` takes one
 //! of the columns; ours, the raw call, writes to a buffer that is lent. The
 //! `Builder` of the bindings makes the value list too; it keeps its memory. Ours
-//! counts the code points of texts too.
+//! counts the code points of texts too. Then Varchars that count characters beside those
+//! that count bytes, with the same texts, by the raw call.
 
 use cases::column::of_rust_types;
 use cases::rust;
 use cases::schema::write_schema;
 use cases::value::ValueList;
-use differential::bench::{least, possessions, tables, time};
+use differential::bench::{Names, tables, time};
+use differential::bench::{beside, least, names, possessions, say_beside, say_beside_header};
 use rook_row::{Builder, RowRef, Schema};
 use rookdb::types::datatype::DataType;
 use rookdb::types::row::{Row, serialize_nullable_typed_row};
@@ -72,6 +74,25 @@ fn bench_fresh(types: &[DataType]) -> [f64; 2] {
     })
 }
 
+fn bench_names(names: &Names) {
+    let mut out = vec![0; 65_535];
+    let mut counts = vec![0; names.types.len()];
+    let mut raw = |schema: &[u8], list: &ValueList, out: &mut [u8]| {
+        let length = rook_row::raw::build(schema, &list.bytes, &list.text, out, &mut counts);
+        length.expect("a row")
+    };
+    for (list, row) in names.lists.iter().zip(&names.rows) {
+        for schema in &names.schemas {
+            let length = raw(schema, list, &mut out);
+            assert_eq!(&out[..length], row);
+        }
+    }
+    let times = beside(&names.schemas, &names.lists, |schema, list| {
+        black_box((raw(schema, list, &mut out), &out));
+    });
+    say_beside(&names.name, times);
+}
+
 fn say(name: &str, rust: f64, raw: f64) {
     print!("{name:<32}{rust:>10.0}{raw:>8.0}{:>10.2}", raw / rust);
 }
@@ -98,5 +119,9 @@ fn main() {
         let [rust, raw] = bench_fresh(types);
         say(&format!("fresh, {}", table.name), rust, raw);
         println!();
+    }
+    say_beside_header("build");
+    for names in names() {
+        bench_names(&names);
     }
 }

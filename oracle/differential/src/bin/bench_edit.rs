@@ -2,13 +2,15 @@
 //! or `set_null`, then `serialize`, in one run on the same rows. The Rust makes a
 //! new row of each; ours changes a buffer that is lent, and is handed the row anew
 //! each time. Ours is the raw call, and the `Editor` of the bindings, which is
-//! handed a value.
+//! handed a value. Then Varchars that count characters beside those that count bytes,
+//! with the same texts, by the raw call.
 
 use cases::column::of_rust_types;
 use cases::rust;
 use cases::schema::write_schema;
-use cases::value::ValueList;
-use differential::bench::{least, tables, time};
+use cases::value::{Record, ValueList};
+use differential::bench::{Names, beside, least, names, say_beside, say_beside_header};
+use differential::bench::{tables, time};
 use rook_row::{Editor, RowRef, Schema, Value};
 use rookdb::types::datatype::DataType;
 use rookdb::types::row::Row;
@@ -86,6 +88,32 @@ fn edited(name: &str, old: &Option<DataValue>) -> Option<DataValue> {
     }
 }
 
+/// Sets of a column to these values of as many rows, or to null.
+fn bench_names(names: &Names, name: &str, column: usize, value: impl Fn(usize) -> ValueList) {
+    let mut buffer = vec![0; 65_535];
+    let edits = names.rows.iter().enumerate();
+    let edits: Vec<_> = edits.map(|(number, row)| (row, value(number))).collect();
+    let raw = |schema: &[u8], row: &[u8], list: &ValueList, buffer: &mut [u8]| {
+        buffer[..row.len()].copy_from_slice(row);
+        match list.bytes[..] {
+            [0] => rook_row::raw::set_null(schema, buffer, row.len(), column),
+            _ => rook_row::raw::set(schema, buffer, row.len(), column, &list.bytes, &list.text),
+        }
+        .expect("a good edit")
+    };
+    for (row, list) in &edits {
+        let left = names.schemas.each_ref().map(|schema| {
+            let length = raw(schema, row, list, &mut buffer);
+            buffer[..length].to_vec()
+        });
+        assert_eq!(left[0], left[1]);
+    }
+    let times = beside(&names.schemas, &edits, |schema, (row, list)| {
+        black_box((raw(schema, row, list, &mut buffer), &buffer));
+    });
+    say_beside(&format!("{}, {name}", names.name), times);
+}
+
 fn main() {
     println!(
         "{:<46}{:>10}{:>8}{:>10}{:>8}{:>10}{:>8}",
@@ -124,5 +152,19 @@ fn main() {
                 editor / raw
             );
         }
+    }
+    say_beside_header("edit");
+    for names in names() {
+        let list = |record, text| ValueList::of_records(&[record], text);
+        let text = names.types.len() - 2;
+        bench_names(&names, "Int set", 0, |_| list(Record::Int(7), vec![]));
+        // The text of the next row.
+        bench_names(&names, "text set", text, |number| {
+            let (record, text) = names.text((number + 1) % names.rows.len(), text);
+            list(record, text)
+        });
+        bench_names(&names, "text set null", text, |_| {
+            list(Record::Null, vec![])
+        });
     }
 }

@@ -2,12 +2,15 @@
 //! for the call, and `deserialize_nullable_row`, in one run on the same rows. Ours
 //! is the raw call, and the `Reader` of the bindings. Both are measured alone, and
 //! with what they give looked at: each record of the raw call's list by its kind,
-//! each value of the `Reader`. Ours counts the code points of texts too.
+//! each value of the `Reader`. Ours counts the code points of texts too. Then Varchars
+//! that count characters beside those that count bytes, with the same texts, by the raw
+//! call.
 
 use cases::column::of_rust_types;
 use cases::rust;
 use cases::schema::write_schema;
-use differential::bench::{least, possessions, tables, time};
+use differential::bench::{Names, tables, time};
+use differential::bench::{beside, least, names, possessions, say_beside, say_beside_header};
 use rook_row::{Reader, RowRef, Schema};
 use rookdb::types::datatype::DataType;
 use rookdb::types::row::{RowDecoder, deserialize_nullable_row};
@@ -75,6 +78,28 @@ fn bench(name: &str, types: &[DataType], rows: &[Vec<u8>], wanted: &[u16]) {
     );
 }
 
+fn bench_names(names: &Names) {
+    let all: Vec<u16> = (0..names.types.len() as u16).collect();
+    let last = names.types.len() as u16 - 2;
+    let mut out = vec![0; 18 * names.types.len()];
+    let mut counts = vec![0; names.types.len()];
+    for (which, wanted) in [("all", &all[..]), ("one", &[last])] {
+        let mut raw = |schema: &[u8], row: &[u8]| {
+            let length = rook_row::raw::read(schema, row, wanted, &mut out, &mut counts);
+            black_box((&out, &counts));
+            length.expect("a built row")
+        };
+        for row in &names.rows {
+            let [by_chars, by_bytes] = &names.schemas;
+            assert_eq!(raw(by_chars, row), raw(by_bytes, row));
+        }
+        let times = beside(&names.schemas, &names.rows, |schema, row| {
+            black_box(raw(schema, row));
+        });
+        say_beside(&format!("{}, {which}", names.name), times);
+    }
+}
+
 fn main() {
     println!(
         "{:<28}{:>8}{:>8}{:>8}{:>7}{:>8}{:>8}{:>8}{:>8}{:>8}{:>8}{:>6}{:>8}{:>8}{:>6}{:>8}",
@@ -108,5 +133,9 @@ fn main() {
         ] {
             bench(&format!("{}, {which}", table.name), types, &rows, wanted);
         }
+    }
+    say_beside_header("read");
+    for names in names() {
+        bench_names(&names);
     }
 }

@@ -2,13 +2,15 @@
 //! by variant on 01's domain; code points by `chars` of what is stored. The model
 //! judges all of it: number, place, length and every lent byte.
 
-use super::rows::{self, Counted, apart, apart_from_rust, counted};
+use super::rows::{self, Counted, apart, apart_from_rust, chars_sorts, counted};
 use super::rows::{counted_in, fitting, handed_counts};
+use crate::chars::{self, Shown};
 use crate::lent::{After, any_counts, any_output, called_with, written_with};
 use crate::{Compared, hex, port};
 use cases::LIMIT;
 use cases::column::{ColumnType, RustColumns};
 use cases::expected::{self, Refusal};
+use cases::generate::kinds::Kinds;
 use cases::generate::list::{self, any_list};
 use cases::generate::schema::any_type;
 use cases::rng::Rng;
@@ -23,12 +25,12 @@ pub struct Given {
     pub list: ValueList,
 }
 
-pub fn any_given(rng: &mut Rng) -> Given {
+pub fn any_given(rng: &mut Rng, kinds: Kinds) -> Given {
     match rng.below(32) {
-        0 => long_row(rng),
-        1..=3 => area_end(rng),
+        0 => long_row(rng, kinds),
+        1..=3 => area_end(rng, kinds),
         _ => {
-            let types = rows::any_types(rng);
+            let types = rows::any_types(rng, kinds);
             let (sort, list) = any_list(rng, &types);
             of_sort(sort, types, list.values)
         }
@@ -41,15 +43,15 @@ fn of_sort(sort: list::Sort, types: Vec<ColumnType>, list: ValueList) -> Given {
 }
 
 /// A list with a value that the Rust refuses, if the one tried is such.
-pub fn refused_given(rng: &mut Rng) -> Option<Given> {
-    let types = rows::any_types(rng);
+pub fn refused_given(rng: &mut Rng, kinds: Kinds) -> Option<Given> {
+    let types = rows::any_types(rng, kinds);
     let sort = rng.pick(&[list::Sort::OtherKind, list::Sort::Unsuitable]);
     let list = list::list(rng, &types, sort)?;
     Some(of_sort(sort, types, list.values))
 }
 
 /// A row at the limit or above it, with Varchars that reach so far.
-fn long_row(rng: &mut Rng) -> Given {
+fn long_row(rng: &mut Rng, kinds: Kinds) -> Given {
     loop {
         let columns = rng.pick(&[0, 1, 3, 9, 200]);
         let mut types: Vec<_> = (0..columns).map(|_| any_type(rng, 40)).collect();
@@ -61,6 +63,7 @@ fn long_row(rng: &mut Rng) -> Given {
         for n in long {
             types.insert(rng.below(types.len() + 1), ColumnType::Varchar(n));
         }
+        let types = kinds.types(rng, types);
         let sort = rng.pick(&[list::Sort::RowAtLimit, list::Sort::RowAbove]);
         if let Some(list) = list::list(rng, &types, sort) {
             return of_sort(sort, types, list.values);
@@ -70,7 +73,7 @@ fn long_row(rng: &mut Rng) -> Given {
 
 /// A range that ends at the end of the text area or a byte past it, or an empty
 /// one there; the area is empty, short or at its limit.
-fn area_end(rng: &mut Rng) -> Given {
+fn area_end(rng: &mut Rng, kinds: Kinds) -> Given {
     let n = rng.pick(&[0, 1, 5, 8, 9, 40, 65_535]);
     let mut types: Vec<_> = (0..rng.below(3)).map(|_| any_type(rng, 40)).collect();
     let at = rng.below(types.len() + 1);
@@ -102,6 +105,8 @@ fn area_end(rng: &mut Rng) -> Given {
         _ => Record::Char(range),
     };
     let list = ValueList::of_records(&records, vec![b'x'; area]);
+    // As many characters as bytes.
+    let types = kinds.types(rng, types);
     let sort = match range.end() <= area {
         true => "list at the area's end".into(),
         false => "list past the area's end".into(),
@@ -185,6 +190,11 @@ impl Lent<'_> {
         })
     }
 
+    fn shown(&self, answer: RowAnswer) -> Option<Shown> {
+        let answer = (answer.number, answer.place);
+        chars::build(self.schema, &self.list.bytes, &self.list.text, answer)
+    }
+
     fn asked(&self) -> Option<Outcome<Vec<u8>>> {
         let types = rows::columns(self.schema).ok()?;
         rust_row(&RustColumns::of(&types)?, self.list)
@@ -215,8 +225,8 @@ fn output_for(rng: &mut Rng, schema: &[u8], list: &ValueList) -> (String, Vec<u8
 }
 
 pub fn compare(rng: &mut Rng) -> Compared {
-    let Given { sort, types, list } = any_given(rng);
-    let (schema_sort, schema) = rows::any_schema_for(rng, &types);
+    let Given { sort, types, list } = any_given(rng, Kinds::All);
+    let (schema_sort, schema) = rows::any_schema_for(rng, &types, Kinds::All);
     let (room, output) = output_for(rng, &schema, &list);
     let columns = rows::columns(&schema).map_or(3, |types| types.len());
     let (numbers, counts) = any_counts(rng, columns);
@@ -228,21 +238,23 @@ pub fn compare(rng: &mut Rng) -> Compared {
     };
     let (answer, difference) = lent.compare();
     let number = answer.number;
+    let mut sorts = vec![
+        schema_sort,
+        sort,
+        room,
+        format!("counts {numbers:?}"),
+        format!("answer {number}"),
+        lent.judge(number).to_string(),
+        match (answer.length, list.text.len()) {
+            (LIMIT, _) => "row of 65,535 bytes".into(),
+            (_, LIMIT) => "text area of 65,535 bytes".into(),
+            (_, 65_536) => "text area of 65,536 bytes".into(),
+            _ => "row and text area of other lengths".into(),
+        },
+    ];
+    sorts.extend(chars_sorts(&schema, lent.shown(answer)));
     Compared {
-        sorts: counted(vec![
-            schema_sort,
-            sort,
-            room,
-            format!("counts {numbers:?}"),
-            format!("answer {number}"),
-            lent.judge(number).to_string(),
-            match (answer.length, list.text.len()) {
-                (LIMIT, _) => "row of 65,535 bytes".into(),
-                (_, LIMIT) => "text area of 65,535 bytes".into(),
-                (_, 65_536) => "text area of 65,536 bytes".into(),
-                _ => "row and text area of other lengths".into(),
-            },
-        ]),
+        sorts: counted(sorts),
         difference,
     }
 }
@@ -341,7 +353,7 @@ mod tests {
                 [0, n].map(|n| Record::Char(range(n))).to_vec(),
                 vec![Record::Char(range(n + 1))],
             ),
-            ColumnType::Varchar(n) => (
+            ColumnType::Varchar(n) | ColumnType::VarcharChars(n) => (
                 [0, n].map(|n| Record::Varchar(range(n))).to_vec(),
                 vec![Record::Varchar(range(n + 1))],
             ),
@@ -399,6 +411,7 @@ mod tests {
             types.extend([
                 ColumnType::Char(n),
                 ColumnType::Varchar(n),
+                ColumnType::VarcharChars(n),
                 ColumnType::Bit(n),
             ]);
         }

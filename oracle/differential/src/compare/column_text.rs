@@ -1,11 +1,13 @@
 //! A column's text. The Rust has no such call: the model judges, and the part of
 //! the row is that which holds the text of the Rust's read of this column.
 
-use super::rows::{self, Given, apart, apart_from_rust, counted};
+use super::rows::{self, Given, apart, apart_from_rust, chars_sorts, counted};
+use crate::chars;
 use crate::lent::{asked, told};
 use crate::{Compared, hex, port};
 use cases::column::ColumnType;
 use cases::expected::{self, Refusal};
+use cases::generate::kinds::Kinds;
 use cases::generate::row::any_column;
 use cases::rng::Rng;
 use cases::rust;
@@ -44,7 +46,7 @@ pub fn compare(rng: &mut Rng) -> Compared {
         schema,
         types,
         row,
-    } = rows::any_given(rng);
+    } = rows::any_given(rng, Kinds::All);
     let column = column(rng, &types);
     let input = || {
         format!(
@@ -68,6 +70,7 @@ pub fn compare(rng: &mut Rng) -> Compared {
     sorts.extend([
         match types.get(column) {
             Some(ColumnType::Varchar(_)) => "column Varchar".into(),
+            Some(ColumnType::VarcharChars(_)) => "column Varchar of characters".into(),
             Some(ColumnType::Char(_) | ColumnType::Character(_)) => "column Char".into(),
             Some(_) => "column of no text".into(),
             None => "no such column".into(),
@@ -75,6 +78,9 @@ pub fn compare(rng: &mut Rng) -> Compared {
         format!("answer {number}"),
         judge.to_string(),
     ]);
+    let answer = (number, port.answer.place);
+    let shown = chars::read(&schema, &row, |wanted| wanted == column, answer);
+    sorts.extend(chars_sorts(&schema, shown));
     Compared {
         sorts: counted(sorts),
         difference,

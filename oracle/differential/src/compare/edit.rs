@@ -4,12 +4,14 @@
 //! number, place, length and every lent byte. A history from a fresh row leaves
 //! what the builder makes of the last accepted values.
 
-use super::rows::{self, apart, apart_from_rust, fitting, handed};
+use super::rows::{self, apart, apart_from_rust, chars_sorts, fitting, handed};
+use crate::chars::{self, Shown};
 use crate::lent::{After, called, written};
 use crate::{Compared, hex, port};
 use cases::column::{ColumnType, RustColumns};
 use cases::expected::{self, Refusal};
 use cases::generate::history::history;
+use cases::generate::kinds::Kinds;
 use cases::generate::made;
 use cases::generate::row::{any_row, sound_row};
 use cases::history::Call;
@@ -104,6 +106,15 @@ impl Lent<'_> {
             12 => self.asked() == Some(Outcome::TypeMismatch),
             _ => false,
         })
+    }
+
+    fn shown(&self, answer: RowAnswer) -> Option<Shown> {
+        let (column, list) = match self.call {
+            Call::SetNull { column } => (*column, None),
+            Call::Set { column, values } => (*column, Some((&values.bytes[..], &values.text[..]))),
+        };
+        let answer = (answer.number, answer.place);
+        chars::edit(self.schema, self.row(), column, list, answer)
     }
 
     /// What the Rust comes to, where it has this value.
@@ -218,9 +229,9 @@ pub fn compare(rng: &mut Rng) -> Compared {
 
 /// A history of these calls, checked after each.
 pub fn compare_with(calls: &Calls, rng: &mut Rng) -> Compared {
-    let types = rows::any_types(rng);
+    let types = rows::any_types(rng, Kinds::All);
     let (start, row) = any_start(rng, &types);
-    let (schema_sort, schema) = rows::any_schema_for(rng, &types);
+    let (schema_sort, schema) = rows::any_schema_for(rng, &types, Kinds::All);
     let spare = any_spare(rng);
     let mut buffer = rng.bytes(row.len() + spare);
     buffer[..row.len()].copy_from_slice(&row);
@@ -230,6 +241,7 @@ pub fn compare_with(calls: &Calls, rng: &mut Rng) -> Compared {
     let mut sheet = Sheet::of_nulls(types.len());
     let mut sorts = BTreeMap::from([(schema_sort, 1), (format!("history {start}"), 1)]);
     let mut count = |sort: String| *sorts.entry(sort).or_default() += 1;
+    chars_sorts(&schema, None).for_each(&mut count);
     let calls_made = any_length(rng);
     let long = calls_made > SHORT;
     if long {
@@ -251,6 +263,9 @@ pub fn compare_with(calls: &Calls, rng: &mut Rng) -> Compared {
         };
         count(format!("{name}: answer {number}"));
         count(format!("{name}: {}", lent.judge(number)));
+        if let Some(shown) = lent.shown(port.answer) {
+            count(format!("{name}: {}", shown.name()));
+        }
         if long {
             let accepted = if number == 0 { "accepted" } else { "refused" };
             count(format!("call of a long history, {accepted}"));
@@ -278,12 +293,17 @@ pub fn compare_with(calls: &Calls, rng: &mut Rng) -> Compared {
         let columns = RustColumns::of(&types);
         let by_rust = columns.map(|columns| expected::build(&columns, &list));
         difference = apart_from_rust(&Ok(left.clone()), &by_rust, input);
+        let model = written(&vec![0; length], |out| {
+            model::build(&schema, &list.bytes, &list.text, out, &mut [0; 256])
+        });
+        let left = Ok(left);
+        difference = difference.or_else(|| apart("model", &left, &handed(&model), input));
         let built = called(
             &vec![0; length],
             [&schema, &list.bytes, &list.text],
             |[schema, list, text], out| port::build(schema, list, text, out, &mut [0; 256]),
         );
-        difference = difference.or_else(|| apart("port", &Ok(left), &handed(&built), input));
+        difference = difference.or_else(|| apart("port", &left, &handed(&built), input));
     }
     let sorts = sorts.into_iter().collect();
     Compared { sorts, difference }

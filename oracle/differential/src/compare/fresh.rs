@@ -1,17 +1,16 @@
 //! The row of nulls, against `Row::new` then `serialize`, byte for byte. The model
 //! judges number, place, length and every lent byte.
 
-use super::rows::{self, apart, apart_from_rust, counted, fitting, handed, size};
+use super::rows::{self, apart, apart_from_rust, chars_sorts, counted, fitting, handed, size};
 use crate::lent::{any_output, called, written};
 use crate::{Compared, hex, port};
 use cases::expected;
-use cases::generate::schema::any_schema;
+use cases::generate::kinds::Kinds;
 use cases::layout::Layout;
 use cases::rng::Rng;
 
 pub fn compare(rng: &mut Rng) -> Compared {
-    let (sort, schema) = any_schema(rng);
-    let schema = schema.bytes;
+    let (sort, schema) = rows::any_bytes(rng, Kinds::All);
     let types = rows::columns(&schema);
     // The row has no payload.
     let needed = types
@@ -28,14 +27,16 @@ pub fn compare(rng: &mut Rng) -> Compared {
     let difference = apart("model", &port, &model, input)
         .or_else(|| apart_from_rust(&handed(&port), &told, input));
     let number = port.answer.number;
+    let mut sorts = vec![
+        format!("schema {sort:?}"),
+        size.into(),
+        format!("output {room:?}"),
+        format!("answer {number}"),
+        rows::judged(number == 0 && rows::is_known(&schema)).into(),
+    ];
+    sorts.extend(chars_sorts(&schema, None));
     Compared {
-        sorts: counted(vec![
-            format!("schema {sort:?}"),
-            size.into(),
-            format!("output {room:?}"),
-            format!("answer {number}"),
-            rows::judged(number == 0 && rows::is_known(&schema)).into(),
-        ]),
+        sorts: counted(sorts),
         difference,
     }
 }

@@ -1,11 +1,11 @@
 //! Schemas: the refusals, and the counts, sizes and places of a good one. The
 //! model judges, and `RowLayout`.
 
-use super::rows::{apart, apart_from_rust};
+use super::rows::{any_bytes, apart, apart_from_rust, chars_sorts, counted};
 use crate::probe::{self, LayoutProbe};
 use crate::{Compared, hex, lent};
 use cases::column::{ColumnType, to_rust_types};
-use cases::generate::schema::any_schema;
+use cases::generate::kinds::Kinds;
 use cases::rng::Rng;
 use cases::schema::{read_schema, write_schema};
 use model::layout::Place;
@@ -97,14 +97,14 @@ fn port_places(types: &[ColumnType]) -> Vec<(usize, usize)> {
 }
 
 pub fn compare(rng: &mut Rng) -> Compared {
-    let (sort, schema) = any_schema(rng);
-    let input = || format!("schema {}", hex(&schema.bytes));
+    let (sort, schema) = any_bytes(rng, Kinds::All);
+    let input = || format!("schema {}", hex(&schema));
     let mut port = Told {
-        probe: probed(&schema.bytes),
+        probe: probed(&schema),
         places: vec![],
     };
-    let mut model = model(&schema.bytes);
-    let types = read_schema(&schema.bytes);
+    let mut model = model(&schema);
+    let types = read_schema(&schema);
     let mut rust = match &types {
         Ok(types) => rust(types),
         Err(refusal) => Some(refused(refusal.number, refusal.place)),
@@ -117,8 +117,10 @@ pub fn compare(rng: &mut Rng) -> Compared {
             judges.for_each(|told| told.places.clear());
         }
     }
+    let mut sorts = vec![format!("{sort:?}")];
+    sorts.extend(chars_sorts(&schema, None));
     Compared {
-        sorts: vec![(format!("{sort:?}"), 1)],
+        sorts: counted(sorts),
         difference: apart("model", &port, &model, input)
             .or_else(|| apart_from_rust(&port, &rust, input)),
     }

@@ -5,13 +5,14 @@ use super::rows::{any_types, apart, counted, judge};
 use crate::lent::{asked, told};
 use crate::{Compared, hex, port};
 use cases::expected::{self, Refusal};
+use cases::generate::kinds::Kinds;
 use cases::generate::row::{Sort, any_row};
 use cases::rng::Rng;
 use cases::rust;
 
 /// A row of any sort, and a column at or near it or far off.
-pub fn input(rng: &mut Rng) -> (Sort, Vec<u8>, usize) {
-    let types = any_types(rng);
+pub fn input(rng: &mut Rng, kinds: Kinds) -> (Sort, Vec<u8>, usize) {
+    let types = any_types(rng, kinds);
     let (sort, row) = any_row(rng, &types);
     let column = match rng.below(16) {
         0 => rng.any_size() as usize,
@@ -22,7 +23,7 @@ pub fn input(rng: &mut Rng) -> (Sort, Vec<u8>, usize) {
 }
 
 pub fn compare(rng: &mut Rng) -> Compared {
-    let (sort, row, column) = input(rng);
+    let (sort, row, column) = input(rng, Kinds::All);
     let input = || format!("column {column} of row {}", hex(&row));
     let port = asked([&row], |[row]| port::is_null(row, column));
     let answer = port.answer;

@@ -2,11 +2,13 @@
 //! nulls and errors by variant on 01's domain; code points by `chars` of what is
 //! stored. The model judges all of it: number, place, length and every lent byte.
 
-use super::rows::{self, Counted, Given, apart, apart_from_rust, counted};
+use super::rows::{self, Counted, Given, apart, apart_from_rust, chars_sorts, counted};
 use super::rows::{counted_in, fitting, handed_counts};
+use crate::chars::{self, Shown};
 use crate::lent::{After, Room, any_counts, any_output, called_with, numbers, written_with};
 use crate::{Compared, hex, port};
 use cases::expected::{self, Refusal};
+use cases::generate::kinds::Kinds;
 use cases::generate::row::any_row;
 use cases::generate::schema::any_type;
 use cases::generate::wanted::{any_wanted, subsets};
@@ -77,12 +79,12 @@ impl Lent<'_> {
         )
     }
 
-    /// The port's number, and the difference if there is one.
-    fn compare(&self) -> (u32, Option<String>) {
+    /// The port's answer, and the difference if there is one.
+    fn compare(&self) -> (RowAnswer, Option<String>) {
         let port = self.port();
         let difference = apart("model", &port, &self.model(), || self.input());
         (
-            port.answer.number,
+            port.answer,
             difference
                 .or_else(|| apart_from_rust(&handed_counts(&port), &self.told(), || self.input())),
         )
@@ -93,6 +95,12 @@ impl Lent<'_> {
             rust::read(types, self.row, self.wanted)
         })
     }
+
+    fn shown(&self, answer: RowAnswer) -> Option<Shown> {
+        let is_wanted = |column| self.wanted.iter().any(|&n| usize::from(n) == column);
+        let answer = (answer.number, answer.place);
+        chars::read(self.schema, self.row, is_wanted, answer)
+    }
 }
 
 /// A read of a row of any sort.
@@ -102,7 +110,7 @@ pub fn compare(rng: &mut Rng) -> Compared {
         schema,
         types,
         row,
-    } = rows::any_given(rng);
+    } = rows::any_given(rng, Kinds::All);
     let (wanted_sort, wanted) = any_wanted(rng, types.len());
     let (room, output) = output_for(rng, &schema, &row, &wanted);
     let (numbers, counts) = counts_for(rng, &schema);
@@ -113,7 +121,8 @@ pub fn compare(rng: &mut Rng) -> Compared {
         output,
         counts,
     };
-    let (number, difference) = lent.compare();
+    let (answer, difference) = lent.compare();
+    let number = answer.number;
     sorts.extend([
         format!("wanted {wanted_sort:?}"),
         format!("output {room:?}"),
@@ -121,6 +130,7 @@ pub fn compare(rng: &mut Rng) -> Compared {
         format!("answer {number}"),
         lent.judge(number).to_string(),
     ]);
+    sorts.extend(chars_sorts(&schema, lent.shown(answer)));
     Compared {
         sorts: counted(sorts),
         difference,
@@ -130,9 +140,16 @@ pub fn compare(rng: &mut Rng) -> Compared {
 /// The reads of every subset of the columns of a row, five columns at most.
 pub fn every_subset(rng: &mut Rng) -> Compared {
     let columns = rng.pick(&[0, 1, 2, 2, 3, 3, 4, 4, 5]);
-    let types: Vec<_> = (0..columns).map(|_| any_type(rng, 40)).collect();
+    let types = (0..columns).map(|_| any_type(rng, 40)).collect();
+    let types = Kinds::All.types(rng, types);
     let (sort, row) = any_row(rng, &types);
     let schema = write_schema(&types);
+    let mut sorts = vec![
+        (format!("row {sort:?}"), 1),
+        (format!("rows of {columns} columns"), 1),
+        ("subsets read".into(), 1 << columns),
+    ];
+    sorts.extend(counted(chars_sorts(&schema, None).collect()));
     let mut difference = None;
     for wanted in subsets(columns) {
         let (_, output) = output_for(rng, &schema, &row, &wanted);
@@ -144,14 +161,12 @@ pub fn every_subset(rng: &mut Rng) -> Compared {
             output,
             counts,
         };
-        difference = difference.or(lent.compare().1);
+        let (answer, apart) = lent.compare();
+        sorts.extend(
+            lent.shown(answer)
+                .map(|shown| (shown.name().to_string(), 1)),
+        );
+        difference = difference.or(apart);
     }
-    Compared {
-        sorts: vec![
-            (format!("row {sort:?}"), 1),
-            (format!("rows of {columns} columns"), 1),
-            ("subsets read".into(), 1 << columns),
-        ],
-        difference,
-    }
+    Compared { sorts, difference }
 }

@@ -1,9 +1,11 @@
 //! What the comparisons of calls on rows share: a schema with a row, its own or
 //! not, and what the Rust and 01 tell of it.
 
+use crate::chars;
 use crate::lent::After;
 use cases::column::{ColumnType, RustColumns, to_rust_types};
 use cases::expected::Refusal;
+use cases::generate::kinds::Kinds;
 use cases::generate::row::any_row;
 use cases::generate::schema::{self, any_schema, any_type};
 use cases::rng::Rng;
@@ -23,20 +25,24 @@ pub struct Given {
 
 /// Columns of a good schema: often a few with short slots, so that little hides a
 /// fault and much is run.
-pub fn any_types(rng: &mut Rng) -> Vec<ColumnType> {
+pub fn any_types(rng: &mut Rng, kinds: Kinds) -> Vec<ColumnType> {
     let columns = match rng.below(64) {
         0 => rng.pick(&[0, 100, 255, 256, 256]),
-        1..=7 => return schema::any_types(rng),
+        1..=7 => {
+            let types = schema::any_types(rng);
+            return kinds.types(rng, types);
+        }
         8..=40 => rng.between(1, 3),
         _ => rng.between(2, 12),
     };
-    (0..columns).map(|_| any_type(rng, 40)).collect()
+    let types = (0..columns).map(|_| any_type(rng, 40)).collect();
+    kinds.types(rng, types)
 }
 
-pub fn any_given(rng: &mut Rng) -> Given {
-    let types = any_types(rng);
+pub fn any_given(rng: &mut Rng, kinds: Kinds) -> Given {
+    let types = any_types(rng, kinds);
     let (sort, row) = any_row(rng, &types);
-    let (schema_sort, schema) = any_schema_for(rng, &types);
+    let (schema_sort, schema) = any_schema_for(rng, &types, kinds);
     Given {
         sorts: vec![schema_sort, format!("row {sort:?}")],
         schema,
@@ -45,19 +51,54 @@ pub fn any_given(rng: &mut Rng) -> Given {
     }
 }
 
-/// The schema of these columns; seldom one that differs by a column, or any.
-pub fn any_schema_for(rng: &mut Rng, types: &[ColumnType]) -> (String, Vec<u8>) {
+/// Schema bytes, good or not.
+pub fn any_bytes(rng: &mut Rng, kinds: Kinds) -> (schema::Sort, Vec<u8>) {
+    let (sort, schema) = any_schema(rng);
+    (sort, kinds.schema(rng, schema).bytes)
+}
+
+/// The schema of these columns; seldom one that differs by a column, or any. Where
+/// Varchars count characters, now and then one that counts otherwise.
+pub fn any_schema_for(rng: &mut Rng, types: &[ColumnType], kinds: Kinds) -> (String, Vec<u8>) {
     match rng.below(32) {
         0 => {
-            let (sort, schema) = any_schema(rng);
-            (format!("schema {sort:?}"), schema.bytes)
+            let (sort, schema) = any_bytes(rng, kinds);
+            (format!("schema {sort:?}"), schema)
         }
         1 => (
             "schema with another column".into(),
             other_schema(rng, types),
         ),
+        _ if to_rust_types(types).is_none() && rng.one_in(4) => {
+            ("schema with other counts".into(), other_counts(rng, types))
+        }
         _ => (size(types.len()).into(), write_schema(types)),
     }
+}
+
+/// Varchars of n one less or one more or of few, or bytes counted for characters, or the other
+/// way about.
+fn other_counts(rng: &mut Rng, types: &[ColumnType]) -> Vec<u8> {
+    let mut types = types.to_vec();
+    for ty in &mut types {
+        let (ColumnType::Varchar(n) | ColumnType::VarcharChars(n)) = ty else {
+            continue;
+        };
+        let n = *n;
+        let few = rng.below(12) as u16;
+        let other = match rng.below(8) {
+            0..=2 => n.saturating_sub(1),
+            3 => n.saturating_add(1),
+            4 => n.min(few),
+            _ => n,
+        };
+        let by_bytes = matches!(ty, ColumnType::Varchar(_)) != rng.one_in(4);
+        *ty = match by_bytes {
+            true => ColumnType::Varchar(other),
+            false => ColumnType::VarcharChars(other),
+        };
+    }
+    write_schema(&types)
 }
 
 /// A schema's sort by its columns.
@@ -174,6 +215,13 @@ pub fn counted_in(points: &[u32], counts: &[u32]) -> Result<Vec<u32>, Refusal> {
     Ok([points, rest].concat())
 }
 
+/// What is shown of Varchars that count characters, by a schema and an answer.
+pub fn chars_sorts(schema: &[u8], shown: Option<chars::Shown>) -> impl Iterator<Item = String> {
+    let shown = shown.map(chars::Shown::name);
+    let sorts = chars::schema_sort(schema).into_iter().chain(shown);
+    sorts.map(str::to_string)
+}
+
 /// Each sort once.
 pub fn counted(sorts: Vec<String>) -> Vec<(String, u64)> {
     sorts.into_iter().map(|sort| (sort, 1)).collect()
@@ -213,10 +261,19 @@ mod tests {
 
     #[test]
     fn a_refused_schema_is_told() {
-        let told = by_rust(&[2, 16], |columns| Ok(columns.types.len()));
+        let told = by_rust(&[2, 17], |columns| Ok(columns.types.len()));
         assert_eq!(told, Some(Err(Refusal::Number(1, 1))));
         let told = by_rust(&[2, 8], |columns| Ok(columns.rust.len()));
         assert_eq!(told, Some(Ok(2)));
-        assert!(is_known(&[2, 8]) && !is_known(&[2, 16]));
+        assert!(is_known(&[2, 8]) && !is_known(&[2, 17]));
+    }
+
+    #[test]
+    fn of_kind_16_the_rust_tells_nothing() {
+        let told = by_rust(&[2, 16, 9, 0], |columns| Ok(columns.types.len()));
+        assert_eq!(told, None);
+        assert!(!is_known(&[2, 16, 9, 0]));
+        let told = by_rust(&[2, 16, 9], |columns| Ok(columns.types.len()));
+        assert_eq!(told, Some(Err(Refusal::Number(1, 1))));
     }
 }

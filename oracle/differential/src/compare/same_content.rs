@@ -1,10 +1,12 @@
 //! Same content. The Rust has no such call: the model judges, and the values of
 //! the Rust's reads are compared by 01's rules.
 
-use super::rows::{self, apart, apart_from_rust, counted};
+use super::rows::{self, apart, apart_from_rust, chars_sorts, counted};
+use crate::chars;
 use crate::lent::{asked, told};
 use crate::{Compared, hex, port};
 use cases::expected::{self, Refusal};
+use cases::generate::kinds::Kinds;
 use cases::generate::pair::any_pair;
 use cases::rng::Rng;
 use cases::rust::{self, Outcome};
@@ -15,9 +17,9 @@ fn wanted(schema: &[u8], a: &[u8], b: &[u8]) -> Option<Result<bool, Refusal>> {
 }
 
 pub fn compare(rng: &mut Rng) -> Compared {
-    let types = rows::any_types(rng);
+    let types = rows::any_types(rng, Kinds::All);
     let (pair_sort, (a, b)) = any_pair(rng, &types);
-    let (schema_sort, schema) = rows::any_schema_for(rng, &types);
+    let (schema_sort, schema) = rows::any_schema_for(rng, &types, Kinds::All);
     let input = || format!("schema {}, a {}, b {}", hex(&schema), hex(&a), hex(&b));
     let port = asked([&schema, &a, &b], |[schema, a, b]| {
         port::same_content(schema, a, b)
@@ -37,7 +39,7 @@ pub fn compare(rng: &mut Rng) -> Compared {
             refused => refused,
         }
     });
-    let sorts = vec![
+    let mut sorts = vec![
         schema_sort,
         format!("pair {pair_sort:?}"),
         match answer.number {
@@ -47,6 +49,11 @@ pub fn compare(rng: &mut Rng) -> Compared {
         },
         judge.to_string(),
     ];
+    let shown = |row: &[u8]| {
+        let answer = (answer.number, answer.place);
+        chars::read(&schema, row, |_| true, answer)
+    };
+    sorts.extend(chars_sorts(&schema, shown(&a).or_else(|| shown(&b))));
     Compared {
         sorts: counted(sorts),
         difference,

@@ -2,11 +2,13 @@
 //! `data_value_matches_type`; and read, against `from_bytes`. The model of 01
 //! judges all of it, and alone where 01 leaves the Rust's domain.
 
+use super::rows::{chars_sorts, counted};
 use crate::lent::{After, called};
 use crate::probe::{self, ValueProbe};
-use crate::{Compared, hex};
+use crate::{Compared, chars, hex};
 use cases::LIMIT;
 use cases::column::ColumnType;
+use cases::generate::kinds::Kinds;
 use cases::generate::row::stored_form;
 use cases::generate::schema::any_type;
 use cases::generate::text::{self, Fault};
@@ -87,7 +89,7 @@ fn judged(
 }
 
 /// A type: each kind, numbers and times often, long slots seldom.
-pub fn any_column(rng: &mut Rng) -> ColumnType {
+pub fn any_column(rng: &mut Rng, kinds: Kinds) -> ColumnType {
     let precision = rng.between(1, 38) as u8;
     let precision = rng.pick(&[precision, precision, 32, 33]);
     let scale = rng.between(0, precision.into()) as u8;
@@ -104,7 +106,10 @@ pub fn any_column(rng: &mut Rng) -> ColumnType {
             1 => ColumnType::Time,
             _ => ColumnType::Timestamp,
         },
-        _ => any_type(rng, room),
+        _ => {
+            let ty = any_type(rng, room);
+            kinds.column(rng, ty)
+        }
     }
 }
 
@@ -115,10 +120,10 @@ fn bad_schema(rng: &mut Rng, ty: &ColumnType) -> Vec<u8> {
     match rng.below(6) {
         0 => bytes.clear(),
         1 => bytes.truncate(bytes.len() - 1),
-        2 => bytes.extend(write_schema(&[any_column(rng)])),
+        2 => bytes.extend(write_schema(&[any_column(rng, Kinds::All)])),
         3 => bytes.push(rng.byte()),
         4 => bytes = vec![rng.pick(&[6, 7]), digits, rng.between(0, 45) as u8],
-        _ => bytes[0] = rng.pick(&[0, 16, 255, digits]),
+        _ => bytes[0] = rng.pick(&[0, 16, 17, 255, digits]),
     }
     bytes
 }
@@ -127,7 +132,7 @@ fn bad_schema(rng: &mut Rng, ty: &ColumnType) -> Vec<u8> {
 fn one_type(schema: &[u8]) -> Result<ColumnType, u32> {
     let length = match schema.first() {
         None => return Err(1),
-        Some(6 | 7 | 9 | 10 | 11 | 14) => 3,
+        Some(6 | 7 | 9 | 10 | 11 | 14 | 16) => 3,
         Some(_) => 1,
     };
     let first = &schema[..length.min(schema.len())];
@@ -152,6 +157,7 @@ fn model_type(ty: &ColumnType) -> Type {
         ColumnType::Char(n) => Type::Char(n.into()),
         ColumnType::Character(n) => Type::Character(n.into()),
         ColumnType::Varchar(n) => Type::Varchar(n.into()),
+        ColumnType::VarcharChars(n) => Type::VarcharChars(n.into()),
         ColumnType::Date => Type::Date,
         ColumnType::Time => Type::Time,
         ColumnType::Bit(n) => Type::Bit(n.into()),
@@ -291,7 +297,7 @@ fn room(rng: &mut Rng, length: usize) -> usize {
 }
 
 pub fn store(rng: &mut Rng) -> Compared {
-    let ty = any_column(rng);
+    let ty = any_column(rng, Kinds::All);
     let (mut sort, list) = any_list(rng, &ty);
     let mut schema = write_schema(std::slice::from_ref(&ty));
     if rng.one_in(32) {
@@ -311,14 +317,18 @@ pub fn store(rng: &mut Rng) -> Compared {
     let port = called(&output, inputs, |[schema, list, area], out| {
         probe::store(schema, list, area, out)
     });
-    judged((sort, judge), port, &output, &model, rust.as_ref(), || {
+    let shown = chars::build(&schema, &list.bytes, &list.text, (port.answer.number, 0));
+    let mut compared = judged((sort, judge), port, &output, &model, rust.as_ref(), || {
         format!(
             "schema {}, list {}, area {}",
             hex(&schema),
             hex(&list.bytes),
             hex(&list.text)
         )
-    })
+    });
+    let sorts = chars_sorts(&schema, shown).collect();
+    compared.sorts.extend(counted(sorts));
+    compared
 }
 
 // ---- bytes read
@@ -358,6 +368,23 @@ fn bad_payload(rng: &mut Rng, n: u16) -> Vec<u8> {
     }
 }
 
+/// A payload of a VarcharChars(n): of n + 1 characters or n, or invalid, or n whole
+/// characters and a cut one.
+fn edge_payload(rng: &mut Rng, n: u16) -> Vec<u8> {
+    let n = usize::from(n);
+    let points = if n < 300 { n } else { 12 };
+    let fault = rng.pick(&Fault::ALL);
+    match rng.below(5) {
+        0 | 1 => text::of_points(rng, points + 1),
+        2 => text::of_points(rng, points),
+        3 => [text::of_points(rng, points), text::sequence(rng, fault)].concat(),
+        _ => {
+            let length = rng.below(25);
+            text::invalid(rng, fault, length).unwrap_or_default()
+        }
+    }
+}
+
 /// Bytes for a column.
 pub fn any_slot(rng: &mut Rng, ty: &ColumnType) -> (SlotSort, Vec<u8>) {
     let size = ty.fixed_size();
@@ -373,6 +400,7 @@ pub fn any_slot(rng: &mut Rng, ty: &ColumnType) -> (SlotSort, Vec<u8>) {
         }
         8..=12 => match (ty, size) {
             (ColumnType::Varchar(n), _) => (SlotSort::Edge, bad_payload(rng, *n)),
+            (ColumnType::VarcharChars(n), _) => (SlotSort::Edge, edge_payload(rng, *n)),
             (_, Some(size)) => (SlotSort::Edge, stored_form(rng, ty, size)),
             (_, None) => unreachable!("a Varchar alone has no slot"),
         },
@@ -457,7 +485,7 @@ pub fn any_start(rng: &mut Rng) -> usize {
 }
 
 pub fn slot(rng: &mut Rng) -> Compared {
-    let ty = any_column(rng);
+    let ty = any_column(rng, Kinds::All);
     let (mut sort, bytes) = any_slot(rng, &ty);
     let mut schema = write_schema(std::slice::from_ref(&ty));
     let mut start = any_start(rng);
@@ -491,14 +519,18 @@ pub fn slot(rng: &mut Rng) -> Compared {
     let port = called(&output, [&schema, &bytes], |[schema, bytes], out| {
         probe::slot(schema, bytes, start, out)
     });
-    judged((sort, judge), port, &output, &model, rust.as_ref(), || {
+    let shown = chars::slot(&schema, &bytes, port.answer.number);
+    let mut compared = judged((sort, judge), port, &output, &model, rust.as_ref(), || {
         format!("schema {}, bytes {} at {start}", hex(&schema), hex(&bytes))
-    })
+    });
+    let sorts = chars_sorts(&schema, shown).collect();
+    compared.sorts.extend(counted(sorts));
+    compared
 }
 
 #[cfg(test)]
 mod tests {
-    use super::{After, Handed, any_column, called, judged, left};
+    use super::{After, Handed, Kinds, any_column, called, judged, left};
     use crate::probe::ValueProbe;
     use cases::rng::Rng;
     use cases::schema::write_schema;
@@ -536,15 +568,15 @@ mod tests {
     fn every_type_is_met() {
         let mut rng = Rng::new(1);
         let met: BTreeSet<Vec<u8>> = (0..300_000)
-            .map(|_| write_schema(&[any_column(&mut rng)]))
+            .map(|_| write_schema(&[any_column(&mut rng, Kinds::All)]))
             .collect();
-        assert!((1..=15).all(|kind| met.iter().any(|record| record[0] == kind)));
+        assert!((1..=16).all(|kind| met.iter().any(|record| record[0] == kind)));
         for kind in [6, 7] {
             for precision in 1..=38 {
                 assert!((0..=precision).all(|scale| met.contains(&vec![kind, precision, scale])));
             }
         }
-        for kind in [9, 10, 11, 14] {
+        for kind in [9, 10, 11, 14, 16] {
             assert!((0..=40).all(|n| met.contains(&vec![kind, n, 0])));
         }
     }

@@ -37,6 +37,7 @@ fn record(ty: Type) -> Vec<u8> {
         Type::Time => vec![13],
         Type::Bit(n) => with(14, n),
         Type::Timestamp => vec![15],
+        Type::VarcharChars(n) => with(16, n),
     }
 }
 
@@ -212,4 +213,38 @@ pub fn set_null(schema: &[u8], row: &[u8], column: usize) -> (RowAnswer, Vec<u8>
     edit(row, ROOM, |buf| {
         model::set_null(schema, buf, row.len(), column)
     })
+}
+
+/// All lists of this length of these members.
+pub fn lists<T: Copy>(members: &[T], length: usize) -> Vec<Vec<T>> {
+    (0..length).fold(vec![vec![]], |shorter, _| {
+        let longer = |list: &Vec<T>| {
+            let with = |&member: &T| [&list[..], &[member]].concat();
+            members.iter().map(with).collect::<Vec<_>>()
+        };
+        shorter.iter().flat_map(longer).collect()
+    })
+}
+
+/// All rows with these counts and up to so many of these bytes past the offset table:
+/// every bitmap, every offset up to past the row's end.
+pub fn small_rows(columns: usize, varchars: usize, bytes: &[u8], past: usize) -> Vec<Vec<u8>> {
+    let most = 5 + 2 * varchars + past;
+    let offsets: Vec<u16> = (0..=most as u16 + 1).collect();
+    let payloads = (0..=past).flat_map(|length| lists(bytes, length));
+    let payloads: Vec<Vec<u8>> = payloads.collect();
+    let mut rows = Vec::new();
+    for flag in [0x80, 0] {
+        for bitmap in 0..1 << columns {
+            for offsets in lists(&offsets, varchars) {
+                for payload in &payloads {
+                    let mut row = vec![columns as u8, 0, varchars as u8, flag, bitmap];
+                    row.extend(offsets.iter().flat_map(|offset| offset.to_le_bytes()));
+                    row.extend(payload);
+                    rows.push(row);
+                }
+            }
+        }
+    }
+    rows
 }
