@@ -4,14 +4,12 @@ use mathlib.Core.Bool.{true, false}
 use mathlib.Core.List.{List, [], _∷_, _++_}
 use mathlib.Core.Option.{none, some}
 use mathlib.Core.Path.{_≡_}
-use lib.ListN.{replicate}
 use Rattle.error.specs.declared.Refusal.the-variants.{Unsuitable}
-use Rattle.error.specs.declared.Answer.{Answer}
 use Rattle.error.specs.declared.Answer.the-variants.{Done, Refused}
 use Rattle.datatype.specs.declared.DataType.{DataType}
 use Rattle.datatype.specs.declared.DataType.the-variants as T
 use Rattle.value.specs.declared.DataValue.the-variants as D
-use Rattle.history.specs.History.{Call, setValue, State}
+use Rattle.history.specs.History.{Call, setValue}
 use Rattle.history.specs.Demand.{History, left, replies, sheet}
 
 -- 10 03 00 0B 03 00 02: three code points, three bytes, Int

@@ -5,7 +5,7 @@ use mathlib.Core.Bool.{Bool, true, false, cond, false≢true}
 use mathlib.Core.List.{List, [], _∷_, map}
 use native.Mathlib.Omega.{arith}
 use lib.Dec.{eqb, ltb}
-use borrow.Author.Tests.{ltb-true, ltb-false, lt-ltb}
+use borrow.Author.Tests.{ltb-true, lt-ltb}
 use lib.IntN.{ℤ}
 use lib.ListN.{length, getD, take, drop}
 use mir.Syntax.{w64}
@@ -16,7 +16,6 @@ use Rattle.laws.proofs.Truths.{by-cond, cases}
 use Rattle.error.specs.declared.Refusal.{Refusal}
 use Rattle.error.specs.declared.Refusal.the-variants.{RowTooShort, RowTooLong, WrongColumnCount, WrongVarlenCount, Unprintable}
 use Rattle.error.specs.Result.{Result, ok, refused, before}
-use Rattle.text.specs.Rfc3629.{isText}
 use Rattle.text_limit.specs.Limit.{fitsText}
 use Rattle.text_limit.proofs.Limits.{fits-size, fits-valid}
 use Rattle.temporal.specs.Ranges.{isTimestamp}

@@ -3,7 +3,7 @@ use Prim.Native.Nat.{ℕ, _+_}
 use mathlib.Core.Path.{_≡_, refl, sym, ap, _∙_}
 use mathlib.Core.Bool.{Bool, false≢true}
 use mathlib.Core.List.{List, [], _∷_, map}
-use mathlib.Core.Option.{none, some}
+use mathlib.Core.Option.{some}
 use lib.ListN.{length}
 use Rattle.error.specs.Result.{ok}
 use Rattle.row_format.specs.declared.Shape.{Shape}
@@ -13,7 +13,6 @@ use Rattle.datatype.specs.declared.DataType.{DataType}
 use Rattle.datatype.specs.declared.DataType.the-variants.{Varchar}
 use Rattle.datatype.specs.Types.{shapeOf}
 use Rattle.value.specs.declared.DataValue.{DataValue}
-use Rattle.value.specs.Kinds.{matches}
 use Rattle.value.specs.Ranges.{textOf}
 use Rattle.value_list.proofs.Lists.{checked-taken}
 use Rattle.stored_form.specs.Write.{storedForm}

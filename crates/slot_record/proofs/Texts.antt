@@ -1,14 +1,13 @@
 -- What the check of a text answers, and its record.
 use Prim.Native.Nat.{ℕ, _+_, _≤_}
-use mathlib.Core.Path.{_≡_, refl, sym, ap}
+use mathlib.Core.Path.{_≡_, refl, sym}
 use mathlib.Core.Bool.{Bool, true, false, cond}
 use mathlib.Core.List.{List, _∷_}
 use native.Mathlib.Omega.{arith}
 use lib.ListN.{length}
 use lib.Seq.{sets}
 use Rattle.error.specs.declared.Refusal.the-variants.{NoValue}
-use Rattle.text.specs.declared.TextCheck.{TextCheck}
-use Rattle.text.specs.declared.TextCheck.the-variants.{Valid, Invalid}
+use Rattle.text.specs.declared.TextCheck.the-variants.{Valid}
 use Rattle.text.specs.Check.{points}
 use Rattle.text_limit.specs.Limit.{fitsText}
 use Rattle.text_limit.specs.InnerCheck.{checkWithin}

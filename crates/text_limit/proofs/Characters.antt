@@ -1,12 +1,11 @@
 -- Which texts fit n code points.
 use Prim.Native.Nat.{ℕ}
-use mathlib.Core.Path.{_≡_, ap, _∙_}
+use mathlib.Core.Path.{_≡_}
 use mathlib.Core.Bool.{true, false}
 use mathlib.Core.List.{List}
 use native.Mathlib.Omega.{arith}
 use borrow.Author.Tests.{le-leb}
-use Rattle.text.specs.Rfc3629.{isGiven}
-use Rattle.text.specs.Check.{pointsOf, points}
+use Rattle.text.specs.Check.{points}
 use Rattle.text.proofs.Characters.{characters}
 use Rattle.text.proofs.Points.{points-some}
 use Rattle.text_limit.specs.Limit.{fitsText}
