@@ -66,13 +66,14 @@ differential: target/staticlib/librook_row.a target/staticlib/librook_probe.a
 	cd oracle && cargo run --release --offline --quiet --bin differential -- --seconds $(SECONDS) --seed $(SEED)
 
 # The library as shipped against the model, on slices that end at unreadable pages: make attack CALLS=50000000 SEED=7
-# Then the faults that must be found, and a sample under valgrind.
+# Then the text check on every sequence of up to four bytes, the faults that must be found, and a sample under valgrind.
 CALLS = 10000000
 attack: target/staticlib/librook_row.a target/staticlib/librook_probe.a
 	oracle/prepare
 	cd oracle && cargo build --release --offline --quiet --bin attack
 	oracle/target/release/attack --calls $(CALLS) --seed $(SEED)
 	oracle/target/release/attack --calls 2000000 --seed $(SEED) --front
+	cargo run --release --offline --quiet --manifest-path native/Cargo.toml --bin every_text
 	oracle/target/release/attack --calls 1000000 --faults
 	if command -v valgrind >/dev/null; \
 	then valgrind -q --error-exitcode=9 oracle/target/release/attack --calls 20000 --seed $(SEED) --blocks; \

@@ -1,4 +1,5 @@
-//! What the tests and the benchmark of the library share: numbers that look random, and texts. Nothing here needs a package.
+//! What the tests and the benchmark of the library share: numbers that look random, and texts. Nothing here needs a
+//! package.
 
 /// Numbers that look random (xorshift).
 pub struct Random(pub u64);
@@ -21,6 +22,10 @@ pub const ACCENTED: &[&str] = &[
     "Voix ambiguë d'un cœur qui, au zéphyr, préfère les jattes de kiwis. Dès Noël, où un zéphyr haï me vêt de glaçons würmiens, je dîne d'exquis rôtis. ",
     "Příliš žluťoučký kůň úpěl ďábelské ódy. Nechť již hříšné saxofony ďáblů rozezvučí síň úděsnými tóny waltzu, tanga a quickstepu. ",
 ];
+/// Cyrillic, with its spaces and punctuation.
+pub const TWO_BYTE: &[&str] = &[
+    "Съешь же ещё этих мягких французских булок, да выпей чаю. Поезд прибывает на третий путь. ",
+];
 pub const THREE_BYTE: &[&str] = &[
     "いろはにほへとちりぬるをわかよたれそつねならむうゐのおくやまけふこえてあさきゆめみしゑひもせす日本語の文章を確認するための例文です",
     "საქართველოსრკინიგზისსადგურებისადამატარებლებისგანრიგისნიმუშიარისესტექსტი",
@@ -31,7 +36,8 @@ pub const FOUR_BYTE: &[&str] = &[
     "🚂🚃🚄🚅🚆🚇🚈🚉🚊🚝🚞🚟🚠🚡🚲🛤🛫🛬🕐🕑🕒🕓🕔🕕🕖🕗🕘🕙🕚🕛",
 ];
 
-/// A text of exactly `length` bytes out of one of the sources, from a random character on. Where a character does not fit, letters fill the end.
+/// A text of exactly `length` bytes out of one of the sources, from a random character on. Where a character does not
+/// fit, letters fill the end.
 pub fn text(sources: &[&str], length: usize, random: &mut Random) -> Vec<u8> {
     let source: Vec<char> = sources[random.below(sources.len())].chars().collect();
     let mut at = random.below(source.len());

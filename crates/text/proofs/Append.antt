@@ -13,7 +13,7 @@ use Rattle.text.specs.InnerCharacters.{plus}
 
 -- ---- a number, where there is one
 
-plus-zero : (x : Option ℕ) → plus 0 x ≡ x
+pub plus-zero : (x : Option ℕ) → plus 0 x ≡ x
 plus-zero none = refl
 plus-zero (some n) = ap some (zero-add n)
 

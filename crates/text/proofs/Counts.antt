@@ -8,11 +8,8 @@ use mir.Val.{Fits, boolByte}
 use native.Mathlib.Nat.{zero-add}
 use native.Mathlib.Numerals.{one-add}
 use native.Mathlib.Omega.{arith}
-use lib.ListN.{length, getD, List·getD-eq-default}
-use borrow.Author.Tests.{leb-true, lt-leb}
+use lib.ListN.{length, getD}
 use Rattle.text.specs.Rfc3629.{within, utf8-tail}
-use Rattle.text.specs.InnerEach.{Each}
-use Rattle.text.specs.InnerFollow.{isAscii}
 use Rattle.text.specs.InnerTails.{tailsOf}
 
 byte-le : (t : Bool) → boolByte t ≤ 1
@@ -87,27 +84,3 @@ tails-first b s =
     let g = tails-none (b ∷ s) 0 in
     let h = tails-same (b ∷ s) s 1 0 (length s) (λ i l. rw (one-add, zero-add)) in
     rw (e, tails-add (b ∷ s) 0 1 (length s)) (omega arith)
-
--- ---- no tails
-
-tails-zero : (s : List ℕ) (first n : ℕ) → ((i : ℕ) → first ≤ i → i < first + n → getD s i 0 ≤ 0x7F) → tailsOf s first n ≡ 0
-unfolding tailsOf
-tails-zero s first zero f = refl
-tails-zero s first (suc n) f =
-    rw (
-      tails-zero s first n (λ i h l. f i h (omega arith)),
-      lt-leb 0x80 (getD s (first + n) 0) (let k = f (first + n) (omega arith) (omega arith) in omega arith),
-    )
-
-pub tails-ascii : (s : List ℕ) (from n : ℕ) {first end : ℕ} → Each (isAscii s) first end → first ≤ from → from + n ≤ end
-    → tailsOf s from n ≡ 0
-tails-ascii s from n f h k =
-    tails-zero s from n (λ i l m. leb-true (getD s i 0) 0x7F (f i (omega arith) (omega arith)))
-
--- bytes past the end are none
-pub tails-past : (s : List ℕ) (n : ℕ) → length s ≤ n → tailsOf s 0 n ≡ tailsOf s 0 (length s)
-tails-past s n h =
-    let m = n - length s in
-    let e : n ≡ length s + m = omega arith in
-    let k = tails-zero s (0 + length s) m (λ i l o. let p : length s ≤ i = omega arith in rw (List·getD-eq-default s 0 p) (omega arith)) in
-    rw (e, tails-add s 0 (length s) m) (omega arith)

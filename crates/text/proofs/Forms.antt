@@ -1,62 +1,63 @@
--- The forms of a character exclude each other: bytes begin with a character of one form at most.
+-- The forms of a character exclude each other by their first bytes.
 use Prim.Native.Nat.{ℕ, zero, suc, _<_, _≤_}
-use mathlib.Core.Path.{_≡_, refl, ap}
+use mathlib.Core.Path.{_≡_, refl, ap, _∙_}
 use mathlib.Core.Bool.{Bool, true, false, cond, _&&_, _||_, false≢true, or-false}
 use mathlib.Core.List.{List, [], _∷_}
 use mathlib.Core.Option.{Option, none, some}
 use native.Mathlib.Omega.{arith}
-use borrow.Author.Tests.{lt-leb}
-use lib.ListN.{length, getD}
+use borrow.Author.Tests.{leb-true, lt-leb}
+use lib.Dec.{leb}
 use Rattle.text.specs.Rfc3629.{Form, within, _to_, utf8-char, more, orNext, begin}
-use Rattle.text.specs.Characters.{isOf, isOne}
+use Rattle.text.specs.Characters.{isOf, isOne, isNth}
 use Rattle.laws.proofs.Truths.{and-left, and-right}
-use Rattle.text.proofs.Grammar.{inside}
 
--- s begins with a character of the form
-abbrev pub fits : Form → List ℕ → Bool
-fits [] s = true
-fits (r ∷ rest) [] = false
-fits (r ∷ rest) (b ∷ s) = within r b && fits rest s
+pub record Between (lo hi b : ℕ) : Type 0 where
+  pub low : lo ≤ b
+  pub high : b ≤ hi
+
+pub inside : (lo hi b : ℕ) → within (lo to hi) b ≡ true → Between lo hi b
+inside lo hi b e =
+    record {
+      low = leb-true lo b (and-left (leb lo b) (leb b hi) e);
+      high = leb-true b hi (and-right (leb lo b) (leb b hi) e);
+    }
 
 -- the first bytes of the forms are m or more, and each form's are above those of the forms before it
-abbrev rising : ℕ → List Form → Bool
+abbrev pub rising : ℕ → List Form → Bool
 rising m [] = true
 rising m ([] ∷ forms) = false
 rising m ((lo to hi ∷ rest) ∷ forms) = within (m to hi) lo && rising (suc hi) forms
 
-module _ (b : ℕ) (s : List ℕ) where
-  at-least : (forms : List Form) (m i : ℕ) → rising m forms ≡ true → i < length forms → fits (getD forms i []) (b ∷ s) ≡ true → m ≤ b
-  at-least [] m i r h e = absurd (omega arith)
-  at-least ([] ∷ forms) m i r h e = absurd (false≢true r)
-  at-least ((lo to hi ∷ rest) ∷ forms) m zero r h e =
+-- ---- a character has one of them at most
+
+module _ (b : ℕ) (c : List ℕ) where
+  at-least : (forms : List Form) (m i : ℕ) → rising m forms ≡ true → isNth forms i (b ∷ c) ≡ true → m ≤ b
+  at-least [] m i r e = absurd (false≢true e)
+  at-least ([] ∷ forms) m i r e = absurd (false≢true r)
+  at-least ((lo to hi ∷ rest) ∷ forms) m zero r e =
       let q = inside m hi lo (and-left _ _ r) in
       let l = inside lo hi b (and-left _ _ e) in
       omega arith
-  at-least ((lo to hi ∷ rest) ∷ forms) m (suc i) r h e =
+  at-least ((lo to hi ∷ rest) ∷ forms) m (suc i) r e =
       let q = inside m hi lo (and-left _ _ r) in
-      let l = at-least forms (suc hi) i (and-right (within (m to hi) lo) _ r) (omega arith) e in
+      let l = at-least forms (suc hi) i (and-right (within (m to hi) lo) _ r) e in
       omega arith
 
-  apart : (forms : List Form) (m i j : ℕ) → rising m forms ≡ true → i < length forms → j < length forms
-      → fits (getD forms i []) (b ∷ s) ≡ true → fits (getD forms j []) (b ∷ s) ≡ true → i ≡ j
-  apart [] m i j r h k e f = absurd (omega arith)
-  apart ([] ∷ forms) m i j r h k e f = absurd (false≢true r)
-  apart ((lo to hi ∷ rest) ∷ forms) m zero zero r h k e f = refl
-  apart ((lo to hi ∷ rest) ∷ forms) m zero (suc j) r h k e f =
+  pub apart : (forms : List Form) (m i j : ℕ) → rising m forms ≡ true → isNth forms i (b ∷ c) ≡ true
+      → isNth forms j (b ∷ c) ≡ true → i ≡ j
+  apart [] m i j r e f = absurd (false≢true e)
+  apart ([] ∷ forms) m i j r e f = absurd (false≢true r)
+  apart ((lo to hi ∷ rest) ∷ forms) m zero zero r e f = refl
+  apart ((lo to hi ∷ rest) ∷ forms) m zero (suc j) r e f =
       let l = inside lo hi b (and-left _ _ e) in
-      let g = at-least forms (suc hi) j (and-right (within (m to hi) lo) _ r) (omega arith) f in
+      let g = at-least forms (suc hi) j (and-right (within (m to hi) lo) _ r) f in
       absurd (omega arith)
-  apart ((lo to hi ∷ rest) ∷ forms) m (suc i) zero r h k e f =
+  apart ((lo to hi ∷ rest) ∷ forms) m (suc i) zero r e f =
       let l = inside lo hi b (and-left _ _ f) in
-      let g = at-least forms (suc hi) i (and-right (within (m to hi) lo) _ r) (omega arith) e in
+      let g = at-least forms (suc hi) i (and-right (within (m to hi) lo) _ r) e in
       absurd (omega arith)
-  apart ((lo to hi ∷ rest) ∷ forms) m (suc i) (suc j) r h k e f =
-      ap suc (apart forms (suc hi) i j (and-right (within (m to hi) lo) _ r) (omega arith) (omega arith) e f)
-
-  -- the forms have the numbers that utf8-char gives them: 0 for UTF8-1, 1 for UTF8-2, 2 to 5 for UTF8-3, 6 to 8 for UTF8-4
-  pub exclusive : (i j : ℕ) → i < length utf8-char → j < length utf8-char → fits (getD utf8-char i []) (b ∷ s) ≡ true
-      → fits (getD utf8-char j []) (b ∷ s) ≡ true → i ≡ j
-  exclusive i j h k e f = apart utf8-char 0 i j refl h k e f
+  apart ((lo to hi ∷ rest) ∷ forms) m (suc i) (suc j) r e f =
+      ap suc (apart forms (suc hi) i j (and-right (within (m to hi) lo) _ r) e f)
 
 -- ---- the form that a byte begins
 
@@ -113,5 +114,10 @@ module _ (b : ℕ) where
   pub begin-form : (go : Form → Option ℕ) → begin utf8-char b go ≡ begun (restOf utf8-char b) go
   begin-form go = by-form go [] utf8-char 0 refl .0
 
-  pub one-form : (c : List ℕ) → isOne utf8-char (b ∷ c) ≡ endsIn (restOf utf8-char b) c
-  one-form c = by-form (λ rest. none) c utf8-char 0 refl .1
+  pub one-form : (forms : List Form) (m : ℕ) → rising m forms ≡ true → (c : List ℕ)
+      → isOne forms (b ∷ c) ≡ endsIn (restOf forms b) c
+  one-form forms m r c = by-form (λ rest. none) c forms m r .1
+
+  pub too-low : (forms : List Form) (m : ℕ) → rising m forms ≡ true → b < m → (c : List ℕ)
+      → isOne forms (b ∷ c) ≡ false
+  too-low forms m r h c = one-form forms m r c ∙ ap (λ (form : Option Form). endsIn form c) (rest-none forms m r h)

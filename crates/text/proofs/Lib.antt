@@ -1,9 +1,7 @@
 mod Laws
-mod Grammar
-mod Follow
 mod Counts
 pub mod Append
 pub mod Characters
-pub mod Bytes
 pub mod Forms
 pub mod Points
+mod Runs

@@ -1,6 +1,6 @@
 -- A text has as many code points as bytes that are no tails; the check's answer; texts end to end.
 use Prim.Native.Nat.{ℕ, suc, _+_, _-_, _≤_}
-use mathlib.Core.Path.{_≡_, refl, sym, ap, _∙_}
+use mathlib.Core.Path.{_≡_, refl, sym, ap}
 use mathlib.Core.Bool.{Bool, true, false, cond, _&&_, _||_, false≢true}
 use mathlib.Core.List.{List, [], _∷_, _++_}
 use mathlib.Core.Option.{Option, none, some}
@@ -9,18 +9,14 @@ use native.Mathlib.Nat.{zero-add}
 use native.Mathlib.Omega.{arith}
 use lib.Dec.{leb}
 use lib.ListN.{length, replicate}
-use lib.Seq.{paste}
 use borrow.Author.Tests.{leb-true, le-leb, lt-leb}
 use Rattle.text.specs.declared.TextCheck.the-variants.{Valid, Invalid}
 use Rattle.text.specs.Rfc3629.{Range, Form, within, _to_, utf8-tail, utf8-char, more, orNext, begin, octets, codePoints, isGiven, isText}
 use Rattle.text.specs.Check.{checkOf, pointsOf, points}
-use Rattle.text.specs.InnerEach.{Each}
-use Rattle.text.specs.InnerFollow.{isAscii}
 use Rattle.text.specs.InnerTails.{tailsOf}
 use Rattle.laws.proofs.Truths.{and-left, and-right, cases}
-use Rattle.text.proofs.Grammar.{inside}
-use Rattle.text.proofs.Counts.{tails-none, tails-same, tails-first, tails-ascii, tails-past}
-use Rattle.text.proofs.Bytes.{ascii-text, copied-at}
+use Rattle.text.proofs.Forms.{inside}
+use Rattle.text.proofs.Counts.{tails-none, tails-first}
 use Rattle.text.proofs.Append.{counted, points-append, blank-points}
 
 -- ---- code points
@@ -141,29 +137,6 @@ module _ (s : List ℕ) (e : isText s ≡ true) where
 
   pub points-counted : length s - tailsOf s 0 (length s) ≡ points s
   points-counted = let h = points-tails s points-some in omega arith
-
-  pub counted-check : {k : ℕ} → k ≡ tailsOf s 0 (length s) → Valid (length s - k) ≡ checkOf (codePoints s)
-  counted-check q = ap Valid (rw q points-counted) ∙ sym (valid-check s e)
-
--- x says whether s is text, and it is none
-pub failed-check : (s : List ℕ) {x : Bool} → x ≡ isText s → x ≡ false → Invalid ≡ checkOf (codePoints s)
-failed-check s e f = sym (invalid-check s (sym e ∙ f))
-
--- ASCII: as many as bytes
-module _ (s : List ℕ) (a : Each (isAscii s) 0 (length s)) where
-  pub ascii-points : length s ≡ points s
-  ascii-points =
-      let h = points-counted s (ascii-text s a) in
-      let k = tails-ascii s 0 (length s) a (omega arith) (omega arith) in
-      omega arith
-
-  pub ascii-check : Valid (length s) ≡ checkOf (codePoints s)
-  ascii-check = ap Valid ascii-points ∙ sym (valid-check s (ascii-text s a))
-
--- a text copied over zeros, which are no tails
-pub copied-tails : (n : ℕ) (s copy : List ℕ) → copy ≡ paste (replicate (suc (suc (suc n))) 0) 3 s (length s) → length s ≤ n
-    → tailsOf copy 3 n ≡ tailsOf s 0 (length s)
-copied-tails n s copy e h = tails-same copy s 3 0 n (λ i l. copied-at n s copy e i ∙ rw (zero-add)) ∙ tails-past s n h
 
 -- ---- texts end to end
 

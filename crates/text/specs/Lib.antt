@@ -2,6 +2,6 @@ pub mod Rfc3629
 pub mod Check
 pub mod Characters
 pub mod InnerEach
-pub mod InnerFollow
 pub mod InnerCharacters
+pub mod InnerRuns
 pub mod InnerTails

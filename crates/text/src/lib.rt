@@ -1,21 +1,21 @@
 // Whether bytes are UTF-8 text, as RFC 3629 defines it, and of how many code points.
 //
-// The test is whether each byte may follow the three before it, with zero bytes before the first byte and after the
-// last. It looks at these four bytes alone. So a block of bytes is tested without a branch, which the compiler turns
-// into vector instructions, and a block may overlap another, so that no bytes are left over for a loop of their own.
-// Blocks have 16 bytes, as a vector has, or 112, which with the 16 bytes before them are 128; the last block that check
-// tests may have 32 or 64. ASCII is looked for first.
+// The check goes through the forms of a character in the order of the RFC's grammar, UTF8-1 to UTF8-4, takes as many
+// characters of each as stand there, and begins anew. utf8_1 to utf8_4 are the lines of the grammar, past_ones to
+// past_fours take the characters. What is done for many bytes at once is all of UTF8-1, which is ASCII.
 ghost use mathlib.Core.Path.{_≡_};
-ghost use mathlib.Core.Bool.{true, cond};
+ghost use mathlib.Core.Bool.{true};
+ghost use mathlib.Core.List.{[], _∷_};
 ghost use mathlib.Core.Logic.{_↔_};
-ghost use Prim.Native.Nat.{_+_, _-_, _<_, _≤_};
-ghost use lib.ListN.{length};
-ghost use lib.Seq.{paste};
-ghost use Rattle.text.specs.Rfc3629.{within, utf8-tail, codePoints, isText};
+ghost use Prim.Native.Nat.{_+_, _<_, _≤_};
+ghost use lib.Dec.{leb};
+ghost use lib.ListN.{length, getD};
+ghost use Rattle.text.specs.Rfc3629.{_to_, within, utf8-tail, utf8-1, utf8-2, utf8-3, utf8-4, codePoints, isText};
+ghost use Rattle.text.specs.Characters.{isOf, isOne};
 ghost use Rattle.text.specs.Check.{checkOf, points};
 ghost use Rattle.text.specs.InnerEach.{Each};
-ghost use Rattle.text.specs.InnerFollow.{isBounded, follows, followsAt, padded, isAscii, Checked};
-ghost use Rattle.text.specs.InnerTails.{tailsOf, BlockTested};
+ghost use Rattle.text.specs.InnerRuns.{isAscii, Ascii, AsciiUpTo, Run};
+ghost use Rattle.text.specs.InnerTails.{tailsOf};
 
 pub enum TextCheck {
     // The text's number of code points.
@@ -23,230 +23,287 @@ pub enum TextCheck {
     Invalid,
 }
 
-// What the test says of a block: that it passes, with the number of its tails, or that it fails.
-enum Block {
-    Passes(usize),
-    Fails,
-}
-
 // Whether the bytes are valid text.
 pub fn is_valid(s: &[u8]) -> bool
     ensures { λ r. ⌜ r ≡ isText (now (s .entry)) ⌝ }
 {
-    let n = s.len();
-    if n < 128 {
-        if all_ascii(s) {
-            return true;
+    match check(s) {
+        TextCheck::Valid(_) => true,
+        TextCheck::Invalid => false,
+    }
+}
+
+// Whether the bytes are valid text, and of how many code points. A text of ASCII alone is told first.
+pub fn check(s: &[u8]) -> TextCheck
+    ensures { λ r. ⌜ r ≡ checkOf (codePoints (now (s .entry))) ⌝ }
+{
+    let lead = ascii_lead(s);
+    if lead == s.len() {
+        return TextCheck::Valid(lead);
+    }
+    check_from(s, lead)
+}
+
+// The answer for a text whose bytes before first are ASCII.
+// UTF8-octets = *( UTF8-char )
+// UTF8-char   = UTF8-1 / UTF8-2 / UTF8-3 / UTF8-4
+fn check_from(s: &[u8], first: usize) -> TextCheck
+    requires { ⌜ Ascii (now s) 0 first ⌝ }
+    ensures { λ r. ⌜ r ≡ checkOf (codePoints (now (s .entry))) ⌝ }
+{
+    let mut i = first;
+    let mut count = first;
+    while i < s.len() {
+        let one = past_ones(s, i);
+        let two = past_twos(s, one);
+        let mut end = two;
+        count += (one - i) + (two - one) / 2;
+        if is_high(s, two) {
+            let three = past_threes(s, two);
+            end = past_fours(s, three);
+            count += (three - two) / 3 + (end - three) / 4;
         }
-    }
-    if n < 16 {
-        return short_valid(s);
-    }
-    if !opening_follows(s) {
-        return false;
-    }
-    // A part, though it is the whole: a slice that is passed on as it came is read back from memory at once.
-    if n < 128 {
-        return rest_valid(&s[..n], 16);
-    }
-    rest_valid(&s[..n], wide_blocks(s))
-}
-
-// The answer for a text of fewer than 16 bytes, from a copy with zero bytes around it.
-fn short_valid(s: &[u8]) -> bool
-    requires { ⌜ length (now s) < 16 ⌝ }
-    ensures { λ r. ⌜ r ≡ isText (now (s .entry)) ⌝ }
-{
-    let mut copy = [0u8; 19];
-    copy_in(s, &mut copy);
-    all_follow(&copy, 0, 16)
-}
-
-// Copies a text of fewer than 16 bytes, so that three bytes are left before it.
-fn copy_in(s: &[u8], copy: &mut [u8])
-    requires { ⌜ (length (now s) < 16) × (length (now copy) ≡ 19) ⌝ }
-    ensures { λ r. ⌜ now (copy .exit) ≡ paste (now (copy .entry)) 3 (now (s .entry)) (length (now (s .entry))) ⌝ }
-{
-    let mut k = 0;
-    while k < s.len() {
-        copy[3 + k] = s[k];
-        k += 1;
-    }
-}
-
-// The answer for a text whose first `checked` bytes pass the test. The last block ends where the text does; a text of
-// fewer than 19 bytes has no such block with three bytes before it.
-fn rest_valid(s: &[u8], checked: usize) -> bool
-    requires { ⌜ Checked (now s) checked ⌝ }
-    ensures { λ r. ⌜ r ≡ isText (now (s .entry)) ⌝ }
-{
-    let n = s.len();
-    if n < 19 {
-        return all_follow(s, 13, n - 16) & may_end(s);
-    }
-    let mut i = checked;
-    while 16 < n - i {
-        if !all_follow(s, i - 3, 16) {
-            return false;
+        if end == i {
+            return TextCheck::Invalid;
         }
-        i += 16;
+        i = end;
     }
-    all_follow(s, n - 19, 16) & may_end(s)
+    TextCheck::Valid(count)
 }
 
-// A number of first bytes that pass the test: blocks of 112 up to one that fails, and all bytes where the last 128
-// are ASCII.
-fn wide_blocks(s: &[u8]) -> usize
-    requires { ⌜ (128 ≤ length (now s)) × Checked (now s) 16 ⌝ }
-    ensures { λ r. ⌜ Checked (now (s .entry)) r ⌝ }
+// UTF8-1 = %x00-7F
+fn utf8_1(a: u8) -> bool
+    ensures { λ r. ⌜ r ≡ isOne utf8-1 (a ∷ []) ⌝ }
+{
+    within(0x00, 0x7F, a)
+}
+
+// UTF8-2 = %xC2-DF UTF8-tail
+fn utf8_2(a: u8, b: u8) -> bool
+    ensures { λ r. ⌜ r ≡ isOne utf8-2 (a ∷ b ∷ []) ⌝ }
+{
+    within(0xC2, 0xDF, a) && is_tail(b)
+}
+
+// UTF8-3 = %xE0 %xA0-BF UTF8-tail / %xE1-EC 2( UTF8-tail ) /
+//          %xED %x80-9F UTF8-tail / %xEE-EF 2( UTF8-tail )
+// The first byte tells the alternative.
+fn utf8_3(a: u8, b: u8, c: u8) -> bool
+    ensures { λ r. ⌜ r ≡ isOne utf8-3 (a ∷ b ∷ c ∷ []) ⌝ }
+{
+    if within(0xE0, 0xE0, a) {
+        return within(0xA0, 0xBF, b) && is_tail(c);
+    }
+    if within(0xE1, 0xEC, a) {
+        return are_tails(b, c);
+    }
+    if within(0xED, 0xED, a) {
+        return within(0x80, 0x9F, b) && is_tail(c);
+    }
+    if within(0xEE, 0xEF, a) {
+        return are_tails(b, c);
+    }
+    false
+}
+
+// UTF8-4 = %xF0 %x90-BF 2( UTF8-tail ) / %xF1-F3 3( UTF8-tail ) /
+//          %xF4 %x80-8F 2( UTF8-tail )
+fn utf8_4(a: u8, b: u8, c: u8, d: u8) -> bool
+    ensures { λ r. ⌜ r ≡ isOne utf8-4 (a ∷ b ∷ c ∷ d ∷ []) ⌝ }
+{
+    if within(0xF0, 0xF0, a) {
+        return within(0x90, 0xBF, b) && are_tails(c, d);
+    }
+    if within(0xF1, 0xF3, a) {
+        return is_tail(b) && are_tails(c, d);
+    }
+    if within(0xF4, 0xF4, a) {
+        return within(0x80, 0x8F, b) && are_tails(c, d);
+    }
+    false
+}
+
+// 2( UTF8-tail )
+fn are_tails(a: u8, b: u8) -> bool
+    ensures { λ r. ⌜ r ≡ isOf (utf8-tail ∷ utf8-tail ∷ []) (a ∷ b ∷ []) ⌝ }
+{
+    is_tail(a) && is_tail(b)
+}
+
+// UTF8-tail = %x80-BF
+fn is_tail(b: u8) -> bool
+    ensures { λ r. ⌜ r ≡ within utf8-tail b ⌝ }
+{
+    within(0x80, 0xBF, b)
+}
+
+// %xLO-HI: whether b is a byte from lo to hi.
+fn within(lo: u8, hi: u8, b: u8) -> bool
+    ensures { λ r. ⌜ r ≡ within (lo to hi) b ⌝ }
+{
+    (lo <= b) & (b <= hi)
+}
+
+// The end of the characters UTF8-1 that stand from first on. Most runs are short, so the first 8 bytes are asked one by
+// one, and blocks come after them.
+fn past_ones(s: &[u8], first: usize) -> usize
+    requires { ⌜ first ≤ length (now s) ⌝ }
+    ensures { λ r. ⌜ Run 1 (now (s .entry)) first r ⌝ }
 {
     let n = s.len();
-    let mut i = 16;
-    while 112 <= n - i {
-        if !wide_block(s, i) {
+    if n - first < 8 {
+        return ascii_bytes(s, first, n);
+    }
+    let near = ascii_bytes(s, first, first + 8);
+    if near < first + 8 {
+        return near;
+    }
+    let far = ascii_blocks(s, ascii_blocks(s, near, 64), 8);
+    ascii_bytes(s, far, n)
+}
+
+// The end of the characters UTF8-2 that stand from first on.
+fn past_twos(s: &[u8], first: usize) -> usize
+    requires { ⌜ first ≤ length (now s) ⌝ }
+    ensures { λ r. ⌜ Run 2 (now (s .entry)) first r ⌝ }
+{
+    let mut i = first;
+    while 2 <= s.len() - i {
+        if !utf8_2(s[i], s[i + 1]) {
             return i;
         }
-        i += 112;
-    }
-    if ascii(s, n - 128, 128) {
-        return n;
+        i += 2;
     }
     i
 }
 
-// Whether the 112 bytes from i on pass the test. They do where they and the 16 bytes before them are ASCII.
-fn wide_block(s: &[u8], i: usize) -> bool
-    requires { ⌜ (16 ≤ i) × (i + 112 ≤ length (now s)) ⌝ }
-    ensures { λ r. ⌜ (r ≡ true → Each (followsAt (padded (now (s .entry)))) i (i + 112)) ⌝ }
+// The end of the characters UTF8-3 that stand from first on.
+fn past_threes(s: &[u8], first: usize) -> usize
+    requires { ⌜ first ≤ length (now s) ⌝ }
+    ensures { λ r. ⌜ Run 3 (now (s .entry)) first r ⌝ }
 {
-    if ascii(s, i - 16, 128) {
-        return true;
+    let mut i = first;
+    while 3 <= s.len() - i {
+        if !utf8_3(s[i], s[i + 1], s[i + 2]) {
+            return i;
+        }
+        i += 3;
     }
-    all_follow(s, i - 3, 112)
+    i
 }
 
-// Whether the bytes are valid text, and of how many code points: as many as bytes that are no tails. all_ascii is not
-// called, and a long text is not tested by is_valid's functions with a flag for the count: either would make is_valid
-// slower.
-pub fn check(s: &[u8]) -> TextCheck
-    ensures { λ r. ⌜ r ≡ checkOf (codePoints (now (s .entry))) ⌝ }
+// The end of the characters UTF8-4 that stand from first on.
+fn past_fours(s: &[u8], first: usize) -> usize
+    requires { ⌜ first ≤ length (now s) ⌝ }
+    ensures { λ r. ⌜ Run 4 (now (s .entry)) first r ⌝ }
+{
+    let mut i = first;
+    while 4 <= s.len() - i {
+        if !utf8_4(s[i], s[i + 1], s[i + 2], s[i + 3]) {
+            return i;
+        }
+        i += 4;
+    }
+    i
+}
+
+// Whether there is a byte at i that is 0xE0 or above, as those are that UTF8-3 and UTF8-4 begin with. Most are not, and
+// both forms are passed over at once.
+fn is_high(s: &[u8], i: usize) -> bool
+    ensures { λ r. ⌜ r ≡ leb 0xE0 (getD (now (s .entry)) i 0) ⌝ }
+{
+    if i < s.len() {
+        return 0xE0 <= s[i];
+    }
+    false
+}
+
+// A number of first bytes that are ASCII: all of them in a text of ASCII alone that has 4 bytes or more. A text that
+// begins with another byte is not looked at further.
+fn ascii_lead(s: &[u8]) -> usize
+    ensures { λ r. ⌜ Ascii (now (s .entry)) 0 r ⌝ }
 {
     let n = s.len();
+    if n < 4 {
+        return 0;
+    }
+    if !utf8_1(s[0]) {
+        return 0;
+    }
+    if n < 8 {
+        return block_lead(s, 4);
+    }
     if n < 16 {
-        if short_ascii(s) {
-            return TextCheck::Valid(n);
-        }
-        return short_check(s);
+        return block_lead(s, 8);
     }
     if n < 128 {
-        if ascii_blocks(s, 16) {
-            return TextCheck::Valid(n);
-        }
-    } else {
-        if ascii_blocks(s, 128) {
-            return TextCheck::Valid(n);
-        }
+        return block_lead(s, 16);
     }
-    if !opening_follows(s) {
-        return TextCheck::Invalid;
-    }
-    if n < 128 {
-        if !rest_valid(&s[..n], 16) {
-            return TextCheck::Invalid;
-        }
-        return TextCheck::Valid(n - all_tails(s));
-    }
-    long_check(s)
+    block_lead(s, 128)
 }
 
-// The answer for a text of fewer than 16 bytes, as short_valid has it. The zero bytes of the copy are no tails.
-fn short_check(s: &[u8]) -> TextCheck
-    requires { ⌜ length (now s) < 16 ⌝ }
-    ensures { λ r. ⌜ r ≡ checkOf (codePoints (now (s .entry))) ⌝ }
-{
-    let mut bytes = [0u8; 19];
-    copy_in(s, &mut bytes);
-    if !all_follow(&bytes, 0, 16) {
-        return TextCheck::Invalid;
-    }
-    TextCheck::Valid(s.len() - tails(&bytes, 3, 16))
-}
-
-// The answer for a text of 128 bytes or more, of which the first 16 pass the test: blocks of 112 while more are left.
-fn long_check(s: &[u8]) -> TextCheck
-    requires { ⌜ (128 ≤ length (now s)) × Checked (now s) 16 ⌝ }
-    ensures { λ r. ⌜ r ≡ checkOf (codePoints (now (s .entry))) ⌝ }
+// The same, by blocks of m. The last block ends where the text does, and may overlap the one before it.
+fn block_lead(s: &[u8], m: usize) -> usize
+    requires { ⌜ (0 < m) × (m ≤ length (now s)) ⌝ }
+    ensures { λ r. ⌜ Ascii (now (s .entry)) 0 r ⌝ }
 {
     let n = s.len();
-    let mut i = 16;
-    let mut count = tails(s, 0, 16);
-    while 112 < n - i {
-        match block_check(s, i) {
-            Block::Passes(k) => {
-                count += k;
-            }
-            Block::Fails => {
-                return TextCheck::Invalid;
-            }
+    let i = ascii_blocks(s, 0, m);
+    if n - i <= m {
+        if ascii(s, n - m, m) {
+            return n;
         }
-        i += 112;
     }
-    if !last_valid(s, i) {
-        return TextCheck::Invalid;
-    }
-    TextCheck::Valid(n - (count + tails(s, i, n - i)))
+    i
 }
 
-// Whether a text is valid whose bytes up to the last 112 pass the test. The last block, of 32, 64 or 112 bytes, ends
-// where the text does.
-fn last_valid(s: &[u8], checked: usize) -> bool
-    requires { ⌜ (128 ≤ length (now s)) × (length (now s) ≤ checked + 112) × Checked (now s) checked ⌝ }
-    ensures { λ r. ⌜ r ≡ isText (now (s .entry)) ⌝ }
+// The end of the blocks of m bytes that are ASCII, from first on, where more than m bytes are left.
+fn ascii_blocks(s: &[u8], first: usize, m: usize) -> usize
+    requires { ⌜ (0 < m) × (first ≤ length (now s)) ⌝ }
+    ensures { λ r. ⌜ Ascii (now (s .entry)) first r ⌝ }
 {
     let n = s.len();
-    if n - checked <= 32 {
-        return all_follow(s, n - 35, 32) & may_end(s);
+    let mut i = first;
+    while m < n - i {
+        if !ascii(s, i, m) {
+            return i;
+        }
+        i += m;
     }
-    if n - checked <= 64 {
-        return all_follow(s, n - 67, 64) & may_end(s);
-    }
-    all_follow(s, n - 115, 112) & may_end(s)
+    i
 }
 
-// The answer for the 112 bytes from i on. They pass, and have no tails, where they and the 16 bytes before them are
-// ASCII.
-fn block_check(s: &[u8], i: usize) -> Block
-    requires { ⌜ (16 ≤ i) × (i + 112 ≤ length (now s)) ⌝ }
-    ensures { λ r. ⌜ BlockTested (now (s .entry)) i r ⌝ }
+// Whether the n bytes from first on are ASCII.
+fn ascii(s: &[u8], first: usize, n: usize) -> bool
+    requires { ⌜ first + n ≤ length (now s) ⌝ }
+    ensures { λ r. ⌜ (r ≡ true) ↔ Each (isAscii (now (s .entry))) first (first + n) ⌝ }
 {
-    let first = i - 16;
-    if ascii(s, first, 128) {
-        return Block::Passes(0);
-    }
-    block_tails(s, i)
-}
-
-// The answer for the 112 bytes from i on, which are tested and counted in one loop.
-fn block_tails(s: &[u8], i: usize) -> Block
-    requires { ⌜ (3 ≤ i) × (i + 112 ≤ length (now s)) ⌝ }
-    ensures { λ r. ⌜ BlockTested (now (s .entry)) i r ⌝ }
-{
-    let first = i - 3;
     let mut ok = true;
-    let mut count = 0u8;
     let mut k = 0;
-    while k < 112 {
-        ok = ok & follows_at(s, first + k);
-        count += is_tail(s[i + k]) as u8;
+    while k < n {
+        ok = ok & utf8_1(s[first + k]);
         k += 1;
     }
-    if ok {
-        return Block::Passes(count as usize);
-    }
-    Block::Fails
+    ok
 }
 
-// The number of code points of a text. A text of fewer than 8 bytes has a loop of its own, without vectors.
+// The end of the bytes that are ASCII, from first on and below end.
+fn ascii_bytes(s: &[u8], first: usize, end: usize) -> usize
+    requires { ⌜ (first ≤ end) × (end ≤ length (now s)) ⌝ }
+    ensures { λ r. ⌜ AsciiUpTo (now (s .entry)) first end r ⌝ }
+{
+    let mut i = first;
+    while i < end {
+        if !utf8_1(s[i]) {
+            return i;
+        }
+        i += 1;
+    }
+    i
+}
+
+// The number of code points of a text: as many as bytes that are no tails. A text of fewer than 8 bytes has a loop of
+// its own, without vectors.
 pub fn count_points(s: &[u8]) -> usize
     requires { ⌜ isText (now s) ≡ true ⌝ }
     ensures { λ r. ⌜ r ≡ points (now (s .entry)) ⌝ }
@@ -264,19 +321,6 @@ pub fn count_points(s: &[u8]) -> usize
     n - (count + tails(s, i, n - i))
 }
 
-// The number of tails of a text of 16 to 127 bytes. Up to 19, a loop of 16 turns is faster than one whose length is not
-// known.
-fn all_tails(s: &[u8]) -> usize
-    requires { ⌜ (16 ≤ length (now s)) × (length (now s) < 128) ⌝ }
-    ensures { λ r. ⌜ r ≡ tailsOf (now (s .entry)) 0 (length (now (s .entry))) ⌝ }
-{
-    let n = s.len();
-    if n < 20 {
-        return tails(s, 0, 16) + tails(s, 16, n - 16);
-    }
-    tails(s, 0, n)
-}
-
 // The number of tails among the n bytes from first on. It is summed up in a byte, as vector instructions do.
 fn tails(s: &[u8], first: usize, n: usize) -> usize
     requires { ⌜ (first + n ≤ length (now s)) × (n ≤ 255) ⌝ }
@@ -289,166 +333,4 @@ fn tails(s: &[u8], first: usize, n: usize) -> usize
         k += 1;
     }
     count as usize
-}
-
-// Whether the byte is a tail.
-fn is_tail(b: u8) -> bool
-    ensures { λ r. ⌜ r ≡ within utf8-tail b ⌝ }
-{
-    (0x80 <= b) & (b <= 0xBF)
-}
-
-// Whether a text of fewer than 128 bytes is ASCII.
-fn all_ascii(s: &[u8]) -> bool
-    requires { ⌜ length (now s) < 128 ⌝ }
-    ensures { λ r. ⌜ (r ≡ true → Each (isAscii (now (s .entry))) 0 (length (now (s .entry)))) ⌝ }
-{
-    let n = s.len();
-    if n < 4 {
-        return ascii(s, 0, n);
-    }
-    if n < 8 {
-        return ascii_ends(s, 4);
-    }
-    if n <= 16 {
-        return ascii_ends(s, 8);
-    }
-    if n <= 32 {
-        return ascii_ends(s, 16);
-    }
-    if n <= 64 {
-        return ascii_ends(s, 32);
-    }
-    ascii_ends(s, 64)
-}
-
-// Whether a text of n to 2 n bytes is ASCII: its first n bytes and its last n, which may overlap.
-fn ascii_ends(s: &[u8], n: usize) -> bool
-    requires { ⌜ (n ≤ length (now s)) × (length (now s) ≤ n + n) ⌝ }
-    ensures { λ r. ⌜ (r ≡ true → Each (isAscii (now (s .entry))) 0 (length (now (s .entry)))) ⌝ }
-{
-    ascii(s, 0, n) & ascii(s, s.len() - n, n)
-}
-
-// Whether a text of fewer than 16 bytes is ASCII, for check.
-fn short_ascii(s: &[u8]) -> bool
-    requires { ⌜ length (now s) < 16 ⌝ }
-    ensures { λ r. ⌜ (r ≡ true → Each (isAscii (now (s .entry))) 0 (length (now (s .entry)))) ⌝ }
-{
-    let n = s.len();
-    if n < 4 {
-        return ascii(s, 0, n);
-    }
-    if n < 8 {
-        return ascii_ends(s, 4);
-    }
-    ascii_ends(s, 8)
-}
-
-// Whether a text of m bytes or more is ASCII, for check: blocks of m, of which the last ends where the text does.
-fn ascii_blocks(s: &[u8], m: usize) -> bool
-    requires { ⌜ (0 < m) × (m ≤ length (now s)) ⌝ }
-    ensures { λ r. ⌜ (r ≡ true → Each (isAscii (now (s .entry))) 0 (length (now (s .entry)))) ⌝ }
-{
-    let n = s.len();
-    let mut i = 0;
-    while m < n - i {
-        if !ascii(s, i, m) {
-            return false;
-        }
-        i += m;
-    }
-    ascii(s, n - m, m)
-}
-
-// Whether the n bytes from first on are ASCII.
-fn ascii(s: &[u8], first: usize, n: usize) -> bool
-    requires { ⌜ first + n ≤ length (now s) ⌝ }
-    ensures { λ r. ⌜ (r ≡ true) ↔ Each (isAscii (now (s .entry))) first (first + n) ⌝ }
-{
-    let mut ok = true;
-    let mut k = 0;
-    while k < n {
-        ok = ok & (s[first + k] <= 0x7F);
-        k += 1;
-    }
-    ok
-}
-
-// Whether the first 16 bytes pass the test. No bytes stand before them, so the three before each are carried along.
-fn opening_follows(s: &[u8]) -> bool
-    requires { ⌜ 16 ≤ length (now s) ⌝ }
-    ensures { λ r. ⌜ (r ≡ true) ↔ Each (followsAt (padded (now (s .entry)))) 0 16 ⌝ }
-{
-    let mut a = 0;
-    let mut b = 0;
-    let mut c = 0;
-    let mut ok = true;
-    let mut k = 0;
-    while k < 16 {
-        let d = s[k];
-        ok = ok & may_follow(a, b, c, d);
-        a = b;
-        b = c;
-        c = d;
-        k += 1;
-    }
-    ok
-}
-
-// Whether the n bytes from first + 3 on pass the test.
-fn all_follow(s: &[u8], first: usize, n: usize) -> bool
-    requires { ⌜ first + n + 3 ≤ length (now s) ⌝ }
-    ensures { λ r. ⌜ (r ≡ true) ↔ Each (followsAt (now (s .entry))) first (first + n) ⌝ }
-{
-    let mut ok = true;
-    let mut k = 0;
-    while k < n {
-        ok = ok & follows_at(s, first + k);
-        k += 1;
-    }
-    ok
-}
-
-// Whether the byte at i + 3 passes the test.
-fn follows_at(s: &[u8], i: usize) -> bool
-    requires { ⌜ i + 3 < length (now s) ⌝ }
-    ensures { λ r. ⌜ r ≡ followsAt (now (s .entry)) i ⌝ }
-{
-    may_follow(s[i], s[i + 1], s[i + 2], s[i + 3])
-}
-
-// Whether the zero byte after the last byte passes the test.
-fn may_end(s: &[u8]) -> bool
-    requires { ⌜ 3 ≤ length (now s) ⌝ }
-    ensures { λ r. ⌜ r ≡ followsAt (padded (now (s .entry))) (length (now (s .entry))) ⌝ }
-{
-    let n = s.len();
-    may_follow(s[n - 3], s[n - 2], s[n - 1], 0)
-}
-
-// Whether d may follow a, b and c: a tail where a character goes on, else the first byte of a character. After 0xE0
-// come 0xA0 to 0xBF, after 0xED 0x80 to 0x9F, after 0xF0 0x90 to 0xBF, after 0xF4 0x80 to 0x8F.
-fn may_follow(a: u8, b: u8, c: u8, d: u8) -> bool
-    ensures { λ r. ⌜ r ≡ follows a b c d ⌝ }
-{
-    let pending = (0xC0 <= c) | (0xE0 <= b) | (0xF0 <= a);
-    let tail = (0x80 <= d) & (d <= 0xBF);
-    let begins = (d <= 0x7F) | ((0xC2 <= d) & (d <= 0xF4));
-    ((pending & tail) | (!pending & begins))
-        & (bounded(0x9F, 0xE0, 0xED, c, d) & bounded(0x8F, 0xF0, 0xF4, c, d))
-}
-
-// Whether c may stand before d, where `high` stands before no tail up to m and `low` before no byte but these.
-fn bounded(m: u8, high: u8, low: u8, c: u8, d: u8) -> bool
-    ensures { λ r. ⌜ r ≡ isBounded m high low c d ⌝ }
-{
-    c != pick((0x80 <= d) & (d <= m), high, low)
-}
-
-// x where t holds, else y.
-fn pick(t: bool, x: u8, y: u8) -> u8
-    ensures { λ r. ⌜ r ≡ cond t x y ⌝ }
-{
-    if t { x } else { y }
 }

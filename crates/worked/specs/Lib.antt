@@ -1,3 +1,4 @@
 pub mod Cases
 pub mod Widths
 pub mod Characters
+pub mod Forms

@@ -2,12 +2,12 @@
 use Prim.Native.Nat.{_≤_, _-_, _+_}
 use mathlib.Core.Bool.{true}
 use mathlib.Core.Logic.{_↔_}
-use mathlib.Core.Path.{_≡_, refl}
+use mathlib.Core.Path.{_≡_}
 use native.Mathlib.Omega.{arith}
-use borrow.Author.Needs.{needs}
 use Rattle.text.specs.InnerEach.{Each}
-use Rattle.text.specs.InnerFollow.{isAscii}
+use Rattle.text.specs.InnerRuns.{isAscii}
 use Rattle.text.proofs.Laws.{each-none, each-more}
+use borrow.Author.Needs.{needs}
 use Rattle.text.proofs.ascii.Statement.{statement}
 use Rattle.text.proofs.ascii.Tie as tie
 
@@ -20,11 +20,14 @@ abbrev μ-loop : tie.MeasureT-loop
 loop-holds : tie.Need-loop-holds Inv-loop μ-loop
 loop-holds c = (search needs, each-none (omega arith))
 
-add-ok : tie.Need-add-ok Inv-loop μ-loop
-add-ok c = search needs
+add-utf8-1 : tie.Need-add-utf8-1 Inv-loop μ-loop
+add-utf8-1 c = search needs
 
-shared-slice-read-ok : tie.Need-shared-slice-read-ok Inv-loop μ-loop
-shared-slice-read-ok c = search needs
+shared-slice-read-utf8-1 : tie.Need-shared-slice-read-utf8-1 Inv-loop μ-loop
+shared-slice-read-utf8-1 c = search needs
+
+utf8-1-requires : tie.Need-utf8-1-requires Inv-loop μ-loop
+utf8-1-requires c κs = search needs
 
 add-k : tie.Need-add-k Inv-loop μ-loop
 add-k c = search needs
@@ -33,10 +36,13 @@ loop-less : tie.Need-loop-less Inv-loop μ-loop
 loop-less c = search needs
 
 loop-again : tie.Need-loop-again Inv-loop μ-loop
-loop-again c = (search needs, each-more (c .before .before .loop .inv .1) refl (omega arith) (omega arith))
+loop-again c =
+    (search needs, each-more (c .before .before .before .loop .inv .1) (c .utf8-1 .ensures) (omega arith) (omega arith))
 
 returns : tie.Need-returns Inv-loop μ-loop
-returns c = let e : c .before .loop .k ≡ c .before .before .args .n = omega arith in rw e at (c .before .loop .inv .1)
+returns c =
+    let e : c .before .loop .k ≡ c .before .before .before .args .n = omega arith in
+    rw e at (c .before .loop .inv .1)
 
 pub ascii-spec : {M : Type 1} → statement M
 ascii-spec =
@@ -45,8 +51,9 @@ ascii-spec =
     Inv-loop
     μ-loop
     loop-holds
-    add-ok
-    shared-slice-read-ok
+    add-utf8-1
+    shared-slice-read-utf8-1
+    utf8-1-requires
     add-k
     loop-less
     loop-again

@@ -1,24 +1,22 @@
--- `ascii_blocks` meets its contract. The bytes before i are ASCII.
-use Prim.Native.Nat.{_≤_, _-_}
-use mathlib.Core.Bool.{false≢true}
+-- `ascii_blocks` meets its contract. The bytes from first to i are ASCII.
+use Prim.Native.Nat.{_-_}
 use native.Mathlib.Omega.{arith}
 use lib.ListN.{length}
 use borrow.Author.Tests.{not-false}
-use Rattle.text.specs.InnerEach.{Each}
-use Rattle.text.specs.InnerFollow.{isAscii}
-use Rattle.text.proofs.Laws.{each-join}
+use Rattle.text.specs.InnerRuns.{Ascii}
+use Rattle.text.proofs.Runs.{ascii-none, ascii-join}
 use borrow.Author.Needs.{needs}
 use Rattle.text.proofs.ascii_blocks.Statement.{statement}
 use Rattle.text.proofs.ascii_blocks.Tie as tie
 
 abbrev Inv-loop : tie.InvT-loop
-Inv-loop s m n i₀ i = (i ≤ length s) × Each (isAscii s) 0 i
+Inv-loop s first m n i₀ i = Ascii s first i
 
 abbrev μ-loop : tie.MeasureT-loop
-μ-loop s m n i₀ i = length s - i
+μ-loop s first m n i₀ i = length s - i
 
 loop-holds : tie.Need-loop-holds Inv-loop μ-loop
-loop-holds c = (search needs, λ i l m. absurd (omega arith))
+loop-holds c = ascii-none (c .before .pre .1)
 
 sub-loop : tie.Need-sub-loop Inv-loop μ-loop
 sub-loop c = search needs
@@ -27,7 +25,7 @@ ascii-requires : tie.Need-ascii-requires Inv-loop μ-loop
 ascii-requires c κs = search needs
 
 returns : tie.Need-returns Inv-loop μ-loop
-returns c = λ e. absurd (false≢true e)
+returns c = c .before .before .before .loop .inv
 
 add-i : tie.Need-add-i Inv-loop μ-loop
 add-i c = search needs
@@ -38,16 +36,10 @@ loop-less c = search needs
 loop-again : tie.Need-loop-again Inv-loop μ-loop
 loop-again c =
     let f = c .before .ascii .ensures .0 (not-false _ (c .if1 .left)) in
-    (search needs, each-join (c .before .before .before .loop .inv .1) f (omega arith) (omega arith))
-
-sub-ascii : tie.Need-sub-ascii Inv-loop μ-loop
-sub-ascii c = search needs
-
-ascii-requires-2 : tie.Need-ascii-requires-2 Inv-loop μ-loop
-ascii-requires-2 c κs = search needs
+    ascii-join (c .before .before .before .loop .inv) f (omega arith) (omega arith) (omega arith) (omega arith)
 
 returns-2 : tie.Need-returns-2 Inv-loop μ-loop
-returns-2 c = λ e. each-join (c .before .before .loop .inv .1) (c .ascii2 .ensures .0 e) (omega arith) (omega arith)
+returns-2 c = c .before .loop .inv
 
 pub ascii-blocks-spec : {M : Type 1} → statement M
 ascii-blocks-spec =
@@ -62,6 +54,4 @@ ascii-blocks-spec =
     add-i
     loop-less
     loop-again
-    sub-ascii
-    ascii-requires-2
     returns-2)
