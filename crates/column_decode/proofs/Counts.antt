@@ -30,7 +30,7 @@ use Rattle.value.specs.declared.DataValue.the-variants.{Null}
 use Rattle.value.specs.Kinds.{holdsText, isTextValue}
 use Rattle.stored_form.specs.declared.SlotRead.{SlotRead}
 use Rattle.stored_form.specs.declared.SlotRead.the-variants as Slot
-use Rattle.stored_form.specs.Read.{readSlot, valueIf, whole}
+use Rattle.stored_form.specs.Read.{readSlot, valueIf}
 use Rattle.stored_form.specs.Points.{pointsIn}
 use Rattle.stored_form.proofs.Points.{Texts, slot-texts, no-points}
 use Rattle.slot_record.proofs.Numbers.{part-length}
@@ -151,15 +151,15 @@ module _ (t : DataType) (h : holdsText t ≡ false) where
       none-if (eqb (bitAt i (drop bitmapStart r)) 1) _ _ (value {v = Null} refl)
       (none-if (isVarlen t) _ _ (range-none i r q) (slot-none i (readSlot t at bs) (slot-no-text at bs)))
 
-uncounted : (buf : List ℕ) (end : ℕ) (r : List ℕ) {c : ColumnRead} → NoText c
-    → stepped buf end noPoints c ≡ stepped buf end (pointsIn r) c
-uncounted buf end r (value {v} h) = rw (no-points r v h)
-uncounted buf end r refused = refl
+uncounted : (k : Bool) (buf : List ℕ) (end : ℕ) (r : List ℕ) {c : ColumnRead} → NoText c
+    → stepped k buf end noPoints c ≡ stepped k buf end (pointsIn r) c
+uncounted k buf end r (value {v} h) = rw (no-points r v h)
+uncounted k buf end r refused = refl
 
-pub column-uncounted : (buf : List ℕ) (end : ℕ) (l : RowLayout) (p : Bool) (b : RowLayout) (t : DataType) (r : List ℕ)
-    → holdsText t ≡ false → stepped buf end noPoints (walkedColumn l p b t r) ≡ stepped buf end (pointsIn r) (walkedColumn l p b t r)
-column-uncounted buf end l p b t r h = uncounted buf end r
-    (column-none t h (b .«num_columns») r (varlenRange offsetWidth (tableStart (l .«num_columns»)) (l .«num_varlen_cols») (b .«num_varlen_cols») r)
+pub column-uncounted : (k : Bool) (buf : List ℕ) (end : ℕ) (l : RowLayout) (p : Bool) (b : RowLayout) (t : DataType) (r : List ℕ)
+    → holdsText t ≡ false → stepped k buf end noPoints (walkedColumn l p b t r) ≡ stepped k buf end (pointsIn r) (walkedColumn l p b t r)
+column-uncounted k buf end l p b t r h = uncounted k buf end r
+    (column-none t h (b .«num_columns») r (varlenRange (offsetWidth (l .«is_long»)) (tableStart (l .«num_columns»)) (l .«num_varlen_cols») (b .«num_varlen_cols») r)
     (walkedPlace l p b t))
 
 -- ---- the count of a slot

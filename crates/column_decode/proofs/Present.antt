@@ -34,10 +34,10 @@ abbrev pub CountOf : (DataValue → ℕ) → ℕ → SlotRead → Type 0
 CountOf f n (Slot.Value v) = n ≡ f v
 CountOf f n Slot.NoValue = Unit {0}
 
-pub slot-stepped : (buf : List ℕ) (end i n : ℕ) (f : DataValue → ℕ) (x : SlotRead) → CountOf f n x
-    → recorded buf end i n x ≡ stepped buf end f (slotValue i x)
-slot-stepped buf end i n f (Slot.Value v) e = rw e
-slot-stepped buf end i n f Slot.NoValue e = refl
+pub slot-stepped : (k : Bool) (buf : List ℕ) (end i n : ℕ) (f : DataValue → ℕ) (x : SlotRead) → CountOf f n x
+    → recorded k buf end i n x ≡ stepped k buf end f (slotValue i x)
+slot-stepped k buf end i n f (Slot.Value v) e = rw e
+slot-stepped k buf end i n f Slot.NoValue e = refl
 
 -- a text in a row is one in a longer row
 pub wider : (c : ColumnRead) (n m : ℕ) → n ≤ m → InRow n c → InRow m c
@@ -53,7 +53,7 @@ as-char q = record { whole = q .whole; before = q .before; digits = q .digits; c
 
 -- a kind without a body, whose column takes z bytes from `start` on
 module _ (s : List ℕ) (at : ℕ) (l : RowLayout) (p : Bool) (b : RowLayout) (r : List ℕ) {t : DataType} {z start : ℕ} (typed : typeIn (columnRecordAt s at) ≡ t) (some : z ≡ 0 → ⊥) (size : z ≡ plainSize (columnKind (getD s at 0)))
-    (place : start ≡ fixedStart offsetWidth (l .«num_columns») (l .«num_varlen_cols») + startAt p z (sizeIn b p)) where
+    (place : start ≡ fixedStart (offsetWidth (l .«is_long»)) (l .«num_columns») (l .«num_varlen_cols») + startAt p z (sizeIn b p)) where
   pub is-some : plainSize (columnKind (getD s at 0)) ≡ 0 → ⊥
   is-some e = some (size ∙ e)
 

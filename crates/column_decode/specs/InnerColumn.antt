@@ -20,10 +20,10 @@ use Rattle.row_column.specs.declared.ColumnRead.{ColumnRead}
 use Rattle.row_column.specs.declared.ColumnRead.the-variants.{Value, Refused}
 use Rattle.row_column.specs.InnerWalk.{Reachable}
 
--- a column's record written at `end`, with the count f of its value
-abbrev pub stepped : List ℕ → ℕ → (DataValue → ℕ) → ColumnRead → Recorded × List ℕ
-stepped buf end f (Value v) = (Recorded.Done (end + length (recordOf v)) (f v), sets buf end (recordOf v))
-stepped buf end f (Refused e) = (Recorded.Refused e, buf)
+-- a column's record, for rows of a sort, written at `end`, with the count f of its value
+abbrev pub stepped : Bool → List ℕ → ℕ → (DataValue → ℕ) → ColumnRead → Recorded × List ℕ
+stepped k buf end f (Value v) = (Recorded.Done (end + length (recordOf k v)) (f v), sets buf end (recordOf k v))
+stepped k buf end f (Refused e) = (Recorded.Refused e, buf)
 
 -- the count of what is no text
 abbrev pub noPoints : DataValue → ℕ
@@ -37,5 +37,5 @@ pub record DecodeAt (s : List ℕ) (at : ℕ) (l : RowLayout) (p : Bool) (b : Ro
   pub good : (e : Refusal) → columnRecordAt s at ≡ Record.Refused e → ⊥
   pub typed : typeIn (columnRecordAt s at) ≡ typeAt (typesIn s) (b .«num_columns»)
   pub reach : Reachable l p b (typeAt (typesIn s) (b .«num_columns»)) r
-  pub short : length r ≤ rowLimit
+  pub short : length r ≤ rowLimit (l .«is_long»)
   pub room : end + 18 ≤ length buf

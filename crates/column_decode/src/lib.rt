@@ -12,7 +12,7 @@ ghost use Prim.Native.Nat.{_+_, _*_, _<_, _≤_};
 ghost use lib.Dec.{eqb};
 ghost use lib.ListN.{length, drop};
 ghost use Rattle.laws.specs.Bits.{bitAt};
-ghost use Rattle.row_format.specs.Places.{offsetWidth, bitmapStart};
+ghost use Rattle.row_format.specs.Places.{offsetWidth, rowLimit, bitmapStart};
 ghost use Rattle.row_layout.specs.Range.{varlenRange};
 ghost use Rattle.datatype.specs.declared.DataType.the-variants.{Char as CharType, Varchar as VarcharType};
 ghost use Rattle.datatype.specs.Check.{typeAt, typesIn};
@@ -21,12 +21,14 @@ ghost use Rattle.row_column.specs.InnerWalk.{walkedPlace, walkedColumn, Reachab
 ghost use Rattle.stored_form.specs.Points.{pointsIn};
 ghost use Rattle.column_decode.specs.InnerColumn.{stepped, noPoints, DecodeAt};
 
-fn write_column(buf: &mut [u8], end: usize, column: ColumnRead) -> Recorded
-    requires { ⌜ (end + 18 ≤ length (now buf)) × InRow 65535 column ⌝ }
-    ensures { λ r. ⌜ (r, now (buf .exit)) ≡ stepped (now (buf .entry)) end noPoints column ⌝ }
+fn write_column(buf: &mut [u8], end: usize, is_long: bool, column: ColumnRead) -> Recorded
+    requires { ⌜ (end + 18 ≤ length (now buf)) × InRow (rowLimit «is_long») column ⌝ }
+    ensures { λ r. ⌜ (r, now (buf .exit)) ≡ stepped «is_long» (now (buf .entry)) end noPoints column ⌝ }
 {
     match column {
-        ColumnRead::Value(v) => Recorded::Done(record_encode::write_value_record(buf, end, v), 0),
+        ColumnRead::Value(v) => {
+            Recorded::Done(record_encode::write_value_record(buf, end, is_long, v), 0)
+        }
         ColumnRead::Refused(e) => Recorded::Refused(e),
     }
 }
@@ -37,23 +39,24 @@ fn decode_varchar(
     n: usize,
     i: usize,
     row: &[u8],
+    is_long: bool,
     table: usize,
     varlens: usize,
     rank: usize,
     buf: &mut [u8],
     end: usize,
 ) -> Recorded
-    requires { ⌜ ((rank < varlens) × (table + varlens * offsetWidth ≤ length (now row)))
-        × ((length (now row) ≤ 65535) × (end + 18 ≤ length (now buf))) ⌝ }
+    requires { ⌜ ((rank < varlens) × (table + varlens * offsetWidth «is_long» ≤ length (now row)))
+        × ((length (now row) ≤ rowLimit «is_long») × (end + 18 ≤ length (now buf))) ⌝ }
     ensures { λ r. ⌜ (r, now (buf .exit))
-        ≡ stepped (now (buf .entry)) end (pointsIn (now (row .entry)))
+        ≡ stepped «is_long» (now (buf .entry)) end (pointsIn (now (row .entry)))
         (varlenValue (VarcharType «by_points» n) i (now (row .entry))
-        (varlenRange offsetWidth table varlens rank (now (row .entry)))) ⌝ }
+        (varlenRange (offsetWidth «is_long») table varlens rank (now (row .entry)))) ⌝ }
 {
-    match row_layout::varlen_range(row, table, varlens, rank) {
+    match row_layout::varlen_range(row, is_long, table, varlens, rank) {
         VarlenRange::Null => Recorded::Done(record_encode::write_null(buf, end), 0),
         VarlenRange::Bytes(start, stop) => {
-            slot_record::varchar_record(by_points, n, i, row, start, stop, buf, end)
+            slot_record::varchar_record(by_points, n, i, row, is_long, start, stop, buf, end)
         }
         VarlenRange::Outside => Recorded::Refused(Refusal::BadRange(i)),
     }
@@ -70,14 +73,15 @@ fn decode_char(
     end: usize,
 ) -> Recorded
     requires { ⌜ Reachable layout packed before (CharType n) (now row)
-        × ((length (now row) ≤ 65535) × (end + 18 ≤ length (now buf))) ⌝ }
+        × ((length (now row) ≤ rowLimit (layout .«is_long»)) × (end + 18 ≤ length (now buf))) ⌝ }
     ensures { λ r. ⌜ (r, now (buf .exit))
-        ≡ stepped (now (buf .entry)) end (pointsIn (now (row .entry)))
+        ≡ stepped (layout .«is_long») (now (buf .entry)) end (pointsIn (now (row .entry)))
         (readBytes (CharType n) (before .«num_columns») (now (row .entry))
         (walkedPlace layout packed before (CharType n)) (walkedPlace layout packed before (CharType n) + n)) ⌝ }
 {
     let start = layout.fixed_data_start() + before.slot_start(packed, 1);
-    slot_record::char_record(before.num_columns, row, start, start + n, buf, end)
+    let is_long = layout.is_long;
+    slot_record::char_record(before.num_columns, row, is_long, start, start + n, buf, end)
 }
 
 // The other types with a body, by their value, which is no text.
@@ -93,7 +97,7 @@ fn decode_value(
 ) -> Recorded
     requires { ⌜ DecodeAt (now schema) at layout packed before (now row) (now buf) end ⌝ }
     ensures { λ r. ⌜ (r, now (buf .exit))
-        ≡ stepped (now (buf .entry)) end noPoints
+        ≡ stepped (layout .«is_long») (now (buf .entry)) end noPoints
         (walkedColumn layout packed before (typeAt (typesIn (now (schema .entry))) (before .«num_columns»))
         (now (row .entry))) ⌝ }
 {
@@ -101,7 +105,7 @@ fn decode_value(
         Record::Refused(e) => Recorded::Refused(e),
         Record::Column(ty, _) => {
             let column = row_column::read_column(layout, packed, before, ty, row);
-            write_column(buf, end, column)
+            write_column(buf, end, layout.is_long, column)
         }
     }
 }
@@ -120,7 +124,7 @@ fn decode_body(
     requires { ⌜ DecodeAt (now schema) at layout packed before (now row) (now buf) end
         × (eqb (bitAt (before .«num_columns») (drop bitmapStart (now row))) 1 ≡ false) ⌝ }
     ensures { λ r. ⌜ (r, now (buf .exit))
-        ≡ stepped (now (buf .entry)) end (pointsIn (now (row .entry)))
+        ≡ stepped (layout .«is_long») (now (buf .entry)) end (pointsIn (now (row .entry)))
         (walkedColumn layout packed before (typeAt (typesIn (now (schema .entry))) (before .«num_columns»))
         (now (row .entry))) ⌝ }
 {
@@ -133,6 +137,7 @@ fn decode_body(
             n,
             before.num_columns,
             row,
+            layout.is_long,
             table,
             layout.num_varlen_cols,
             before.num_varlen_cols,
@@ -167,7 +172,7 @@ pub fn decode_present(
     requires { ⌜ DecodeAt (now schema) at layout packed before (now row) (now buf) end
         × (eqb (bitAt (before .«num_columns») (drop bitmapStart (now row))) 1 ≡ false) ⌝ }
     ensures { λ r. ⌜ (r, now (buf .exit))
-        ≡ stepped (now (buf .entry)) end (pointsIn (now (row .entry)))
+        ≡ stepped (layout .«is_long») (now (buf .entry)) end (pointsIn (now (row .entry)))
         (walkedColumn layout packed before (typeAt (typesIn (now (schema .entry))) (before .«num_columns»))
         (now (row .entry))) ⌝ }
 {

@@ -41,7 +41,7 @@ columns-all {s} a = ap (λ (k : RowLayout). k .«num_columns») (sym (a .layout)
 pub before-next : (ts : List DataType) (i : ℕ) → i < length ts → layoutBefore ts (i + 1) ≡ withColumn (layoutBefore ts i) (shapeOf (typeAt ts i))
 before-next ts i h =
     rw (add-one i, ← take-map shapeOf (suc i) ts, ← take-map shapeOf i ts, ← at-map shapeOf i ts (T.Varchar false 0))
-    (layout-next (map shapeOf ts) i (rw (length-map ts shapeOf) h))
+    (layout-next false (map shapeOf ts) i (rw (length-map ts shapeOf) h))
 
 aligned : (t : DataType) → Aligned (shapeOf t)
 aligned T.SmallInt = omega arith
@@ -80,8 +80,8 @@ pub all-aligned : (ts : List DataType) → All (map shapeOf ts)
 all-aligned [] = none
 all-aligned (t ∷ ts) = more (aligned t) (all-aligned ts)
 
-pub grown : (ts : List DataType) (i : ℕ) → i ≤ length ts → Grown (layoutBefore ts i) (layoutFor ts)
-grown ts i h =
+pub grown : (k : Bool) (ts : List DataType) (i : ℕ) → i ≤ length ts → Grown (layoutBefore ts i) (layoutFor k ts)
+grown k ts i h =
     record {
       columns = rw (length-map (take i ts) shapeOf, length-map ts shapeOf, length-take-le i ts h) h;
       varlens = rw (← take-map shapeOf i ts, through-split rankAfter (map shapeOf ts) i 0) (ranks-ge (drop i (map shapeOf ts)) (varlens (take i (map shapeOf ts))));

@@ -14,7 +14,7 @@ use Rattle.error.specs.Result.{ok, refused, before}
 use Rattle.row_format.specs.Places.{through, rankAfter, endAfter, minimum, offsetWidth, rowLimit}
 use Rattle.row_layout.specs.declared.RowLayout.{RowLayout}
 use Rattle.row_layout.specs.Layout.{layoutOf}
-use Rattle.row_layout.specs.InnerLayout.{Bounded, noColumns, withColumn}
+use Rattle.row_layout.specs.InnerLayout.{Bounded, noColumns, ofSort, withColumn}
 use Rattle.datatype.specs.declared.DataType.{DataType}
 use Rattle.datatype.specs.declared.Record.the-variants.{Column, Refused}
 use Rattle.datatype.specs.declared.SchemaCheck.{SchemaCheck}
@@ -41,22 +41,23 @@ extended-is : (l : RowLayout) (ts : List DataType) → extended l ts
       «num_varlen_cols» = through rankAfter (l .«num_varlen_cols») (map shapeOf ts);
       «packed_size» = through (endAfter true) (l .«packed_size») (map shapeOf ts);
       «padded_size» = through (endAfter false) (l .«padded_size») (map shapeOf ts);
+      «is_long» = l .«is_long»;
     }
 extended-is l [] = let e : 0 + l .«num_columns» ≡ l .«num_columns» = omega arith in rw e
 extended-is l (t ∷ ts) =
     let e : length ts + (l .«num_columns» + 1) ≡ suc (length ts) + l .«num_columns» = omega arith in
     extended-is (withColumn l (shapeOf t)) ts ∙ rw e
 
-pub extended-all : (ts : List DataType) → extended noColumns ts ≡ layoutOf (map shapeOf ts)
-extended-all ts = extended-is noColumns ts ∙ rw (add-zero, length-map ts shapeOf)
+pub extended-all : (k : Bool) (ts : List DataType) → extended (ofSort k noColumns) ts ≡ layoutOf k (map shapeOf ts)
+extended-all k ts = extended-is (ofSort k noColumns) ts ∙ rw (add-zero, length-map ts shapeOf)
 
-checked-cond : (t : Bool) (r : Refusal) (ts : List DataType) → checkedSchema (cond t (refused r) (ok ts)) ≡ cond t (Check.Refused r) (Check.Good (layoutOf (map shapeOf ts)))
-checked-cond true r ts = refl
-checked-cond false r ts = refl
+checked-cond : (k t : Bool) (r : Refusal) (ts : List DataType) → checkedSchema k (cond t (refused r) (ok ts)) ≡ cond t (Check.Refused r) (Check.Good (layoutOf k (map shapeOf ts)))
+checked-cond k true r ts = refl
+checked-cond k false r ts = refl
 
-rest-parsed : (len : ℕ) (p : Parsed) → rest len noColumns p ≡ checkedSchema (limited offsetWidth rowLimit len p)
-rest-parsed len (ok ts) = ap (finished len) (extended-all ts) ∙ sym (checked-cond (ltb rowLimit (minimum offsetWidth false (map shapeOf ts))) (BadSchema len) ts)
-rest-parsed len (refused r) = refl
+rest-parsed : (k : Bool) (len : ℕ) (p : Parsed) → rest len (ofSort k noColumns) p ≡ checkedSchema k (limited k len p)
+rest-parsed k len (ok ts) = ap (finished len) (extended-all k ts) ∙ sym (checked-cond k (ltb (rowLimit k) (minimum (offsetWidth k) false (map shapeOf ts))) (BadSchema len) ts)
+rest-parsed k len (refused r) = refl
 
 rest-before : (len : ℕ) (l : RowLayout) (t : DataType) (p : Parsed) → rest len l (before t p) ≡ rest len (withColumn l (shapeOf t)) p
 rest-before len l t (ok ts) = refl
@@ -64,25 +65,25 @@ rest-before len l t (refused r) = refl
 
 -- ---- the walk at a place of the schema
 
-pub record Walking (s : List ℕ) (l : RowLayout) (at : ℕ) : Type 0 where
+pub record Walking (k : Bool) (s : List ℕ) (l : RowLayout) (at : ℕ) : Type 0 where
   pub bounded : Bounded l
-  pub whole : rest (length s) l (columnRecords (256 - l .«num_columns») s at) ≡ checkedSchema (schemaOf offsetWidth rowLimit s)
+  pub whole : rest (length s) l (columnRecords (256 - l .«num_columns») s at) ≡ checkedSchema k (schemaOf k s)
 
-pub walk-start : (s : List ℕ) → Walking s noColumns 0
+pub walk-start : (k : Bool) (s : List ℕ) → Walking k s (ofSort k noColumns) 0
 unfolding schemaOf
-walk-start s = record { bounded = record { few = omega arith; ranked = omega arith; tight = omega arith; wide = omega arith }; whole = rest-parsed (length s) (columnRecords 256 s 0) }
+walk-start k s = record { bounded = record { few = omega arith; ranked = omega arith; tight = omega arith; wide = omega arith }; whole = rest-parsed k (length s) (columnRecords 256 s 0) }
 
-module _ {s : List ℕ} {l : RowLayout} {at : ℕ} (w : Walking s l at) where
+module _ {k : Bool} {s : List ℕ} {l : RowLayout} {at : ℕ} (w : Walking k s l at) where
   -- no record more
   rest-none : (n : ℕ) → length s ≤ at → rest (length s) l (columnRecords n s at) ≡ finished (length s) l
   rest-none zero h = rw (le-ltb _ _ h)
   rest-none (suc n) h = rw (le-ltb _ _ h)
 
-  pub walk-end : length s ≤ at → finished (length s) l ≡ checkedSchema (schemaOf offsetWidth rowLimit s)
+  pub walk-end : length s ≤ at → finished (length s) l ≡ checkedSchema k (schemaOf k s)
   walk-end h = sym (rest-none (256 - l .«num_columns») h) ∙ w .whole
 
   -- a 257th
-  pub walk-over : at < length s → l .«num_columns» ≡ 256 → Check.Refused (BadSchema at) ≡ checkedSchema (schemaOf offsetWidth rowLimit s)
+  pub walk-over : at < length s → l .«num_columns» ≡ 256 → Check.Refused (BadSchema at) ≡ checkedSchema k (schemaOf k s)
   walk-over h e =
       let z : 256 - l .«num_columns» ≡ 0 = omega arith in
       sym (rw (lt-ltb at (length s) h)) ∙ rw z at (w .whole)
@@ -92,11 +93,11 @@ module _ {s : List ℕ} {l : RowLayout} {at : ℕ} (w : Walking s l at) where
     left = omega (arith, w .bounded)
 
     -- one that is bad
-    pub walk-bad : {r : Refusal} → columnRecordAt s at ≡ Refused r → Check.Refused r ≡ checkedSchema (schemaOf offsetWidth rowLimit s)
+    pub walk-bad : {r : Refusal} → columnRecordAt s at ≡ Refused r → Check.Refused r ≡ checkedSchema k (schemaOf k s)
     walk-bad e = sym (rw (lt-ltb at (length s) h, e)) ∙ rw left at (w .whole)
 
     -- a column
-    pub walk-more : {t : DataType} {next : ℕ} → columnRecordAt s at ≡ Column t next → Bounded (withColumn l (shapeOf t)) → Walking s (withColumn l (shapeOf t)) next
+    pub walk-more : {t : DataType} {next : ℕ} → columnRecordAt s at ≡ Column t next → Bounded (withColumn l (shapeOf t)) → Walking k s (withColumn l (shapeOf t)) next
     walk-more {t} {next} e b =
         record { bounded = b; whole = sym (rw (lt-ltb at (length s) h, e) (rest-before (length s) l t (columnRecords (256 - (l .«num_columns» + 1)) s next))) ∙ rw left at (w .whole) }
 

@@ -1,6 +1,6 @@
 -- What the check of a schema hands back, and what the calls do with it. FORMAT 2.3.
 use Prim.Native.Nat.{ℕ}
-use mathlib.Core.Bool.{false}
+use mathlib.Core.Bool.{Bool, false}
 use mathlib.Core.List.{List, [], map}
 use lib.ListN.{getD}
 use Rattle.error.specs.Result.{ok, refused}
@@ -11,12 +11,12 @@ use Rattle.datatype.specs.declared.DataType.the-variants.{Varchar}
 use Rattle.datatype.specs.Types.{shapeOf}
 use Rattle.datatype.specs.Schema.{Parsed, columnRecords}
 
--- column i's type; the layout of all columns
+-- column i's type; the layout of all columns, for rows of a sort
 abbrev pub typeAt : List DataType → ℕ → DataType
 typeAt ts i = getD ts i (Varchar false 0)
 
-abbrev pub layoutFor : List DataType → RowLayout
-layoutFor ts = layoutOf (map shapeOf ts)
+abbrev pub layoutFor : Bool → List DataType → RowLayout
+layoutFor k ts = layoutOf k (map shapeOf ts)
 
 -- the columns that records say, none where they are refused
 abbrev pub columnsOf : Parsed → List DataType

@@ -1,14 +1,13 @@
 -- 01, "Schema and value bytes": the columns that a schema's bytes say, or the refusal. FORMAT 2.1, 2.3.
 use Prim.Native.Nat.{ℕ, zero, suc, _+_}
 use mathlib.Core.Bool.{Bool, true, false, cond, _&&_}
-use mathlib.Core.List.{List, [], _∷_, map}
+use mathlib.Core.List.{List, [], map}
 use lib.Dec.{eqb, leb, ltb}
 use lib.ListN.{length, getD, take, drop}
-use Rattle.error.specs.declared.Refusal.{Refusal}
 use Rattle.error.specs.declared.Refusal.the-variants.{BadRecord, BadSchema}
 use Rattle.error.specs.Result.{Result, ok, refused, before}
 use Rattle.laws.specs.Bytes.{fromLe}
-use Rattle.row_format.specs.Places.{minimum}
+use Rattle.row_format.specs.Places.{offsetWidth, rowLimit, minimum}
 use Rattle.datatype.specs.declared.DataType.{DataType}
 use Rattle.datatype.specs.declared.DataType.the-variants.{SmallInt, Int, BigInt, Real, DoublePrecision, Numeric, Decimal, Bool as Boolean, Char, Character, Varchar, Date, Time, Bit, Timestamp}
 use Rattle.datatype.specs.declared.Record.{Record}
@@ -83,11 +82,12 @@ abbrev pub columnRecords : ℕ → List ℕ → ℕ → Parsed
 columnRecords zero s at = cond (ltb at (length s)) (refused (BadSchema at)) (ok [])
 columnRecords (suc n) s at = cond (ltb at (length s)) (onColumnRecord (columnRecordAt s at) (columnRecords n s)) (ok [])
 
--- 2: "after the last record, padded minimum above 65,535 (place: schema length)", for offsets of w bytes and rows of
--- at most `limit`
-abbrev pub limited : ℕ → ℕ → ℕ → Parsed → Parsed
-limited w limit len (ok ts) = cond (ltb limit (minimum w false (map shapeOf ts))) (refused (BadSchema len)) (ok ts)
-limited w limit len (refused r) = refused r
+-- 2: "after the last record, padded minimum above 65,535 (place: schema length)", for short rows, and by the limit of
+-- long rows for those
+abbrev pub limited : Bool → ℕ → Parsed → Parsed
+limited k len (ok ts) =
+    cond (ltb (rowLimit k) (minimum (offsetWidth k) false (map shapeOf ts))) (refused (BadSchema len)) (ok ts)
+limited k len (refused r) = refused r
 
-unfoldable pub schemaOf : ℕ → ℕ → List ℕ → Parsed
-schemaOf w limit s = limited w limit (length s) (columnRecords 256 s 0)
+unfoldable pub schemaOf : Bool → List ℕ → Parsed
+schemaOf k s = limited k (length s) (columnRecords 256 s 0)

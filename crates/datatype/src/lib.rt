@@ -406,16 +406,17 @@ fn finish(layout: RowLayout, at: usize) -> SchemaCheck
     requires { ⌜ Bounded layout ⌝ }
     ensures { λ r. ⌜ (r ≡ finished at layout) × BoundedIn r ⌝ }
 {
-    if RowLayout::ROW_LIMIT < layout.min_row_size(false) {
+    if row_layout::row_limit(layout.is_long) < layout.min_row_size(false) {
         return SchemaCheck::Refused(Refusal::BadSchema(at));
     }
     SchemaCheck::Good(layout)
 }
 
-pub fn check_schema(schema: &[u8]) -> SchemaCheck
-    ensures { λ r. ⌜ (r ≡ checkedSchema (schemaOf offsetWidth rowLimit (now (schema .entry)))) × BoundedIn r ⌝ }
+// The check of a schema for the rows of a sort.
+pub fn check_schema(schema: &[u8], is_long: bool) -> SchemaCheck
+    ensures { λ r. ⌜ (r ≡ checkedSchema «is_long» (schemaOf «is_long» (now (schema .entry)))) × BoundedIn r ⌝ }
 {
-    let mut layout = RowLayout::new();
+    let mut layout = RowLayout::new().of_sort(is_long);
     let mut at = 0;
     while at < schema.len() {
         if layout.num_columns == RowLayout::COLUMN_LIMIT {

@@ -32,40 +32,40 @@ flag-front (a ∷ b ∷ []) q h = absurd (omega arith)
 flag-front (a ∷ b ∷ c ∷ []) q h = absurd (omega arith)
 flag-front (a ∷ b ∷ c ∷ d ∷ r) q h = refl
 
-pub flag-row : {limit : ℕ} {ts : List DataType} {p : Bool} (buf : List ℕ) (n : ℕ) → SoundRow offsetWidth limit ts p (take n buf) → isPacked buf ≡ p
-flag-row {limit} {ts} {p} buf n s =
-    let long = sound-long p ts (take n buf) (s .sound) in
+pub flag-row : {sort : Bool} {ts : List DataType} {p : Bool} (buf : List ℕ) (n : ℕ) → SoundRow sort ts p (take n buf) → isPacked buf ≡ p
+flag-row {sort} {ts} {p} buf n s =
+    let long = sound-long (offsetWidth sort) p ts (take n buf) (s .sound) in
     ap isPacked (sym (take-append-drop n buf)) ∙ flag-front (take n buf) (drop n buf) (omega arith) ∙ row-flag s
 
 -- ---- an accepted call keeps it
 
-module _ {ts : List DataType} {p : Bool} (buf : List ℕ) (n : ℕ) (s : SoundRow offsetWidth rowLimit ts p (take n buf)) where
+module _ {sort : Bool} {ts : List DataType} {p : Bool} (buf : List ℕ) (n : ℕ) (s : SoundRow sort ts p (take n buf)) where
   -- a sound row r in the place of the old one
   abbrev Keeps : List ℕ → Type 0
   Keeps r = isPacked (sets buf 0 r) ≡ isPacked buf
 
-  keeps : (r : List ℕ) → SoundRow offsetWidth rowLimit ts p r → length r ≤ length buf → Keeps r
+  keeps : (r : List ℕ) → SoundRow sort ts p r → length r ≤ length buf → Keeps r
   keeps r t room =
-      let long = sound-long p ts r (t .sound) in
+      let long = sound-long (offsetWidth sort) p ts r (t .sound) in
       ap isPacked (sets-start buf r room) ∙ flag-front r (drop (length r) buf) (omega arith) ∙ row-flag t ∙ sym (flag-row buf n s)
 
-  edit-keeps : AllBytes buf → (i : ℕ) → i < length ts → (c : Cell) → Writes (typeAt ts i) c → length (edited offsetWidth ts p buf n i c) ≤ rowLimit → length (edited offsetWidth ts p buf n i c) ≤ length buf → Keeps (edited offsetWidth ts p buf n i c)
-  edit-keeps bytes i h c w short room = keeps (edited offsetWidth ts p buf n i c) (edit-sound s (omega arith) (below-take 256 n buf (all-below buf bytes)) i h c w short) room
+  edit-keeps : AllBytes buf → (i : ℕ) → i < length ts → (c : Cell) → Writes (typeAt ts i) c → length (edited (offsetWidth sort) ts p buf n i c) ≤ rowLimit sort → length (edited (offsetWidth sort) ts p buf n i c) ≤ length buf → Keeps (edited (offsetWidth sort) ts p buf n i c)
+  edit-keeps bytes i h c w short room = keeps (edited (offsetWidth sort) ts p buf n i c) (edit-sound s (below-take 256 n buf (all-below buf bytes)) i h c w short) room
 
-module _ (schema buf : List ℕ) (n i : ℕ) (bytes : AllBytes buf) where
-  pub set-keeps-flag : (list area : List ℕ) → AllBytes list → Ends buf (λ r. isPacked (sets buf 0 r) ≡ isPacked buf) (setCall offsetWidth rowLimit schema buf n i list area)
+module _ (sort : Bool) (schema buf : List ℕ) (n i : ℕ) (bytes : AllBytes buf) where
+  pub set-keeps-flag : (list area : List ℕ) → AllBytes list → Ends buf (λ r. isPacked (sets buf 0 r) ≡ isPacked buf) (setCall sort schema buf n i list area)
   set-keeps-flag list area octets =
-      opened-ends offsetWidth rowLimit schema n i _
-      λ ts p e room s h. tested-ends (given rowLimit (typeAt ts i) i list area) _
-      λ b g. placed-ends rowLimit (edited offsetWidth ts p buf n i (some b))
-      λ short fits. let t = given-taken rowLimit (typeAt ts i) i list area b octets g in
+      opened-ends sort schema n i _
+      λ ts p e room s h. tested-ends (given sort (typeAt ts i) i list area) _
+      λ b g. placed-ends sort (edited (offsetWidth sort) ts p buf n i (some b))
+      λ short fits. let t = given-taken sort (typeAt ts i) i list area b octets g in
       let v = oneValue (valuesOf list) in
       edit-keeps buf n s bytes i h (some b) (subst (λ (x : List ℕ). Writes (typeAt ts i) (some x)) (sym (t .chosen .form)) (form v area (t .chosen .match) (t .chosen .accept) (t .sized))) short fits
 
-  pub null-keeps-flag : Ends buf (λ r. isPacked (sets buf 0 r) ≡ isPacked buf) (setNullCall offsetWidth rowLimit schema buf n i)
+  pub null-keeps-flag : Ends buf (λ r. isPacked (sets buf 0 r) ≡ isPacked buf) (setNullCall sort schema buf n i)
   null-keeps-flag =
-      opened-ends offsetWidth rowLimit schema n i _
-      λ ts p e room s h. let r = edited offsetWidth ts p buf n i none in
+      opened-ends sort schema n i _
+      λ ts p e room s h. let r = edited (offsetWidth sort) ts p buf n i none in
       let l : length r ≤ length (take n buf) = null-short s i h in
       let k = row-short s in
       let m : length (take n buf) ≤ length buf = rw (length-take-le n buf room) room in

@@ -10,7 +10,7 @@ use lib.ListN.{length, replicate}
 use Rattle.error.specs.declared.Answer.{Answer}
 use Rattle.error.specs.declared.Answer.the-variants.{Done, Refused}
 use Rattle.error.specs.Answer.{placedBoth}
-use Rattle.row_format.specs.Places.{offsetWidth, rowLimit}
+use Rattle.row_format.specs.Places.{offsetWidth}
 use Rattle.row_format.specs.Table.{Cell}
 use Rattle.row_format.specs.Zeroed.{zeroedRow}
 use Rattle.datatype.specs.declared.DataType.{DataType}
@@ -31,22 +31,22 @@ pub record HandleState : Type 0 where
 abbrev pub stateOf : HandleState → State
 stateOf s = record { buf = s .buf; row-length = s .handle .length }
 
-abbrev pub handleCalled : ℕ → ℕ → List ℕ → Call → HandleState → Handled
-handleCalled w limit schema (setValue i list area) s = handleSet w limit schema (s .buf) (s .handle) i list area
-handleCalled w limit schema (setNull i) s = handleSetNull w limit schema (s .buf) (s .handle) i
+abbrev pub handleCalled : Bool → List ℕ → Call → HandleState → Handled
+handleCalled sort schema (setValue i list area) s = handleSet sort schema (s .buf) (s .handle) i list area
+handleCalled sort schema (setNull i) s = handleSetNull sort schema (s .buf) (s .handle) i
 
 abbrev pub handleNext : Handled → HandleState
 handleNext o = record { buf = o .1 .0; handle = o .1 .1 }
 
 -- what a list of calls leaves, and what the calls answer
-abbrev pub handleRun : ℕ → ℕ → List ℕ → List Call → HandleState → HandleState
-handleRun w limit schema [] s = s
-handleRun w limit schema (c ∷ cs) s = handleRun w limit schema cs (handleNext (handleCalled w limit schema c s))
+abbrev pub handleRun : Bool → List ℕ → List Call → HandleState → HandleState
+handleRun sort schema [] s = s
+handleRun sort schema (c ∷ cs) s = handleRun sort schema cs (handleNext (handleCalled sort schema c s))
 
-abbrev pub handleAnswers : ℕ → ℕ → List ℕ → List Call → HandleState → List Answer
-handleAnswers w limit schema [] s = []
-handleAnswers w limit schema (c ∷ cs) s =
-    handleCalled w limit schema c s .0 ∷ handleAnswers w limit schema cs (handleNext (handleCalled w limit schema c s))
+abbrev pub handleAnswers : Bool → List ℕ → List Call → HandleState → List Answer
+handleAnswers sort schema [] s = []
+handleAnswers sort schema (c ∷ cs) s =
+    handleCalled sort schema c s .0 ∷ handleAnswers sort schema cs (handleNext (handleCalled sort schema c s))
 
 -- whether a call was accepted
 abbrev pub someDone : List Answer → Bool
@@ -56,23 +56,23 @@ someDone (Refused e ∷ as′) = someDone as′
 
 -- ---- a history through a handle: any handle that has the length which fresh handed back, whatever its layout says
 
-pub record HandleHistory (schema : List ℕ) (ts : List DataType) : Type 0 where
-  pub plain : History schema ts
+pub record HandleHistory (sort : Bool) (schema : List ℕ) (ts : List DataType) : Type 0 where
+  pub plain : History sort schema ts
   pub handle : RowHandle
   pub handed : handle .length ≡ plain .start .row-length
 
-module _ {schema : List ℕ} {ts : List DataType} (g : HandleHistory schema ts) where
+module _ {sort : Bool} {schema : List ℕ} {ts : List DataType} (g : HandleHistory sort schema ts) where
   abbrev pub handleStart : HandleState
   handleStart = record { buf = g .plain .start .buf; handle = g .handle }
 
   abbrev pub handleLeft : HandleState
-  handleLeft = handleRun offsetWidth rowLimit schema (g .plain .calls) handleStart
+  handleLeft = handleRun sort schema (g .plain .calls) handleStart
 
   abbrev pub handleReplies : List Answer
-  handleReplies = handleAnswers offsetWidth rowLimit schema (g .plain .calls) handleStart
+  handleReplies = handleAnswers sort schema (g .plain .calls) handleStart
 
   abbrev pub handleZeroed : List ℕ
-  handleZeroed = zeroedRow offsetWidth (map shapeOf ts) (rowOf (stateOf handleLeft))
+  handleZeroed = zeroedRow (offsetWidth sort) (map shapeOf ts) (rowOf (stateOf handleLeft))
 
   abbrev pub handleSheet : List Entry
   handleSheet = sheetBy (g .plain .calls) handleReplies (replicate (length ts) none)
@@ -80,18 +80,19 @@ module _ {schema : List ℕ} {ts : List DataType} (g : HandleHistory schema ts) 
   abbrev pub handleCells : List Cell
   handleCells = sheetCells ts handleSheet
 
-  -- Its answers, its buffer, and the handle's length are those of the plain calls; its row, zeroed, is the very row
-  -- that the builder makes of the last accepted values; and from the first accepted call on the handle has the layout
-  -- of the packed rows of the schema.
-  pub record Carries : Type 0 where
-    pub answered : handleReplies ≡ replies (g .plain)
-    pub state : stateOf handleLeft ≡ left (g .plain)
-    pub built : (o counts : List ℕ)
-        → buildCall offsetWidth rowLimit schema (listOf (lastValues 0 handleSheet)) (texts handleSheet) o counts
-        ≡ placedBoth o counts handleZeroed (cellsPoints ts handleCells)
-    pub layout : handleLeft .handle .layout
-        ≡ cond (someDone handleReplies) (geometry (layoutFor ts) true) (g .handle .layout)
+-- Its answers, its buffer, and the handle's length are those of the plain calls; its row, zeroed, is the very row that
+-- the builder makes of the last accepted values; and from the first accepted call on the handle has the layout of the
+-- packed rows of the schema. Of short rows.
+pub record Carries {schema : List ℕ} {ts : List DataType} (g : HandleHistory false schema ts) : Type 0 where
+  pub answered : handleReplies g ≡ replies (g .plain)
+  pub state : stateOf (handleLeft g) ≡ left (g .plain)
+  pub built : (o counts : List ℕ)
+      → buildCall false schema (listOf false (lastValues 0 (handleSheet g))) (texts (handleSheet g)) o counts
+      ≡ placedBoth o counts (handleZeroed g) (cellsPoints ts (handleCells g))
+  pub layout : handleLeft g .handle .layout
+      ≡ cond (someDone (handleReplies g)) (geometry (layoutFor false ts) true) (g .handle .layout)
 
 -- "exactly when both leave the same stored form, or null, in every column"
-abbrev pub HandlesTold : {schema : List ℕ} {ts : List DataType} (g h : HandleHistory schema ts) → Type 0
+abbrev pub HandlesTold : {sort : Bool} {schema : List ℕ} {ts : List DataType}
+    (g h : HandleHistory sort schema ts) → Type 0
 HandlesTold g h = (handleZeroed g ≡ handleZeroed h) ↔ (handleCells g ≡ handleCells h)

@@ -13,6 +13,7 @@ use Rattle.row_sound.specs.Sound.{soundColumn}
 use Rattle.history.specs.Demand.{AllOfBytes, History}
 use Rattle.history.specs.BothKinds.{schema, columns, edits, BothKinds}
 use Rattle.history.proofs.Worked.{written-bytes}
+use mathlib.Core.Bool.{false}
 
 edits-bytes : AllOfBytes edits
 edits-bytes = (
@@ -26,7 +27,7 @@ edits-bytes = (
   ),
 )
 
-abbrev edits-history : History schema columns
+abbrev edits-history : History false schema columns
 unfolding schemaOf rowWith lay header
 edits-history =
     record {

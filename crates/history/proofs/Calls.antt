@@ -6,6 +6,7 @@ use mathlib.Core.Path.{_≡_, refl, sym, ap, subst}
 use borrow.Author.Tests.{ltb-false, leb-false}
 use lib.Dec.{leb, ltb}
 use lib.ListN.{length, getD, take}
+use Rattle.row_format.specs.Places.{rowLimit}
 use Rattle.laws.proofs.Bytes.{AllBytes}
 use Rattle.laws.proofs.Truths.{by-cond}
 use Rattle.error.specs.declared.Refusal.{Refusal}
@@ -47,25 +48,25 @@ module _ {buf : List ℕ} {P : List ℕ → Type 0} where
   column-ends n i o f = by-cond (Ends buf P) (leb n i) (unchanged buf No.NoSuchColumn) o (λ h. refusal No.NoSuchColumn refl) (λ h. f (leb-false n i h))
 
   -- 1, 2, 14, 15, then 9
-  pub opened-ends : (w limit : ℕ) (schema : List ℕ) (n i : ℕ) (k : List DataType → Bool → Outcome)
-      → ((ts : List DataType) (p : Bool) → schemaOf w limit schema ≡ ok ts → n ≤ length buf → SoundRow w limit ts p (take n buf) → i < length ts → Ends buf P (k ts p)) → Ends buf P (opened w limit schema buf n i k)
-  opened-ends w limit schema n i k f = by-schema (schemaOf w limit schema) refl
+  pub opened-ends : (sort : Bool) (schema : List ℕ) (n i : ℕ) (k : List DataType → Bool → Outcome)
+      → ((ts : List DataType) (p : Bool) → schemaOf sort schema ≡ ok ts → n ≤ length buf → SoundRow sort ts p (take n buf) → i < length ts → Ends buf P (k ts p)) → Ends buf P (opened sort schema buf n i k)
+  opened-ends sort schema n i k f = by-schema (schemaOf sort schema) refl
     where
       Then : List DataType → Frame → Type 0
       Then ts x = Ends buf P (onFrame x (unchanged buf) (k ts))
 
-      by-sound : (ts : List DataType) → schemaOf w limit schema ≡ ok ts → n ≤ length buf → (x : Soundness) → soundness w limit ts (take n buf) ≡ x
+      by-sound : (ts : List DataType) → schemaOf sort schema ≡ ok ts → n ≤ length buf → (x : Soundness) → soundness sort ts (take n buf) ≡ x
           → Then ts (onSound x (Frame.Refused No.NotSound) (λ p. cond (leb (length ts) i) (Frame.Refused No.NoSuchColumn) (Frame.Good p)))
       by-sound ts g room (Row.Sound p) e =
           by-cond (Then ts) (leb (length ts) i) (Frame.Refused No.NoSuchColumn) (Frame.Good p) (λ h. refusal No.NoSuchColumn refl)
-          (λ h. f ts p g room (told-row w limit ts (take n buf) e) (leb-false (length ts) i h))
+          (λ h. f ts p g room (told-row sort ts (take n buf) e) (leb-false (length ts) i h))
       by-sound ts g room Row.NotSound e = refusal No.NotSound refl
 
-      by-schema : (x : Parsed) → schemaOf w limit schema ≡ x
-          → Ends buf P (onResult x (unchanged buf) (λ ts. onFrame (opening w limit ts buf n i) (unchanged buf) (k ts)))
+      by-schema : (x : Parsed) → schemaOf sort schema ≡ x
+          → Ends buf P (onResult x (unchanged buf) (λ ts. onFrame (opening sort ts buf n i) (unchanged buf) (k ts)))
       by-schema (ok ts) g =
           by-cond (Then ts) (ltb (length buf) n) (Frame.Refused No.NoRoom) _ (λ h. refusal No.NoRoom refl)
-          (λ h. by-sound ts g (ltb-false (length buf) n h) (soundness w limit ts (take n buf)) refl)
+          (λ h. by-sound ts g (ltb-false (length buf) n h) (soundness sort ts (take n buf)) refl)
       by-schema (refused e) g = refusal e refl
 
   pub tested-ends : {A : Type 0} (q : Result A) (k : A → Outcome) → ((x : A) → q ≡ ok x → Ends buf P (k x)) → Ends buf P (onResult q (unchanged buf) k)
@@ -73,11 +74,11 @@ module _ {buf : List ℕ} {P : List ℕ → Type 0} where
   tested-ends (refused e) k f = refusal e refl
 
   -- 13, then 14
-  pub placed-ends : (limit : ℕ) (r : List ℕ) → (length r ≤ limit → length r ≤ length buf → P r) → Ends buf P (rowPlaced limit buf r)
-  placed-ends limit r f =
-      by-cond (Ends buf P) (ltb limit (length r)) (unchanged buf No.RowLimit) (placed buf r) (λ h. refusal No.RowLimit refl)
+  pub placed-ends : (sort : Bool) (r : List ℕ) → (length r ≤ rowLimit sort → length r ≤ length buf → P r) → Ends buf P (rowPlaced sort buf r)
+  placed-ends sort r f =
+      by-cond (Ends buf P) (ltb (rowLimit sort) (length r)) (unchanged buf No.RowLimit) (placed buf r) (λ h. refusal No.RowLimit refl)
       (λ h. by-cond (Ends buf P) (ltb (length buf) (length r)) (unchanged buf No.NoRoom) (rowStored buf r) (λ g. refusal No.NoRoom refl)
-      (λ g. written r refl (f (ltb-false limit (length r) h) (ltb-false (length buf) (length r) g))))
+      (λ g. written r refl (f (ltb-false (rowLimit sort) (length r) h) (ltb-false (length buf) (length r) g))))
 
 -- ---- a value that was accepted
 
@@ -108,13 +109,13 @@ pub record Taken (t : DataType) (list area b : List ℕ) : Type 0 where
   pub chosen : Chosen t (oneValue (valuesOf list)) area b
   pub sized : Sized (oneValue (valuesOf list))
 
-pub given-taken : (limit : ℕ) (t : DataType) (i : ℕ) (list area b : List ℕ) → AllBytes list → given limit t i list area ≡ ok b → Taken t list area b
-given-taken limit t i list area b a e = of-values (checked limit 1 (length area) list) refl e
+pub given-taken : (sort : Bool) (t : DataType) (i : ℕ) (list area b : List ℕ) → AllBytes list → given sort t i list area ≡ ok b → Taken t list area b
+given-taken sort t i list area b a e = of-values (checked sort 1 (length area) list) refl e
   where
-    of-values : (q : Values) → checked limit 1 (length area) list ≡ q → onResult q refused (λ vs. storedIn i t (getD vs 0 Null) area) ≡ ok b → Taken t list area b
+    of-values : (q : Values) → checked sort 1 (length area) list ≡ q → onResult q refused (λ vs. storedIn i t (getD vs 0 Null) area) ≡ ok b → Taken t list area b
     of-values (refused r) c q = absurd (subst IsGood (sym q) tt)
     of-values (ok vs) c q =
-        let all = checked-taken limit 1 (length area) list c .all in
+        let all = checked-taken sort 1 (length area) list c .all in
         let one : getD vs 0 Null ≡ oneValue (valuesOf list) = sym (ap oneValue all) in
         record {
           chosen = subst (λ v. Chosen t v area b) one (stored-chosen i t (getD vs 0 Null) area b q);

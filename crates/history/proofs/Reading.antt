@@ -10,7 +10,7 @@ use Rattle.laws.proofs.Maps.{at-map}
 use Rattle.laws.proofs.Truths.{both}
 use Rattle.error.specs.Answer.{unchangedBoth}
 use Rattle.error.specs.Result.{ok, onResult}
-use Rattle.row_format.specs.Places.{offsetWidth, rowLimit}
+use Rattle.row_format.specs.Places.{offsetWidth}
 use Rattle.datatype.specs.declared.DataType.{DataType}
 use Rattle.datatype.specs.Schema.{Parsed, schemaOf}
 use Rattle.value.specs.declared.DataValue.{DataValue}
@@ -49,9 +49,9 @@ at-listed f i zero j d h = absurd (omega arith)
 at-listed f i (suc n) zero d h = ap f (sym (add-zero i))
 at-listed f i (suc n) (suc j) d h = let e : suc i + j ≡ i + suc j = omega arith in at-listed f (suc i) n j d (omega arith) ∙ ap f e
 
-module _ {ts : List DataType} {p : Bool} {r : List ℕ} (s : SoundRow offsetWidth rowLimit ts p r) where
+module _ {sort : Bool} {ts : List DataType} {p : Bool} {r : List ℕ} (s : SoundRow sort ts p r) where
   abbrev column : ℕ → ColumnRead
-  column j = columnValue offsetWidth p ts j r
+  column j = columnValue (offsetWidth sort) p ts j r
 
   abbrev value : ℕ → DataValue
   value j = valueIn (column j)
@@ -61,12 +61,12 @@ module _ {ts : List DataType} {p : Bool} {r : List ℕ} (s : SoundRow offsetWidt
 
   column-is : (j : ℕ) → j < length ts → column j ≡ Value (value j)
   unfolding soundColumn
-  column-is j h = value-read (column j) (both (reads (column j)) _ (sound-at p ts r (s .sound) j h) .0)
+  column-is j h = value-read (column j) (both (reads (column j)) _ (sound-at (offsetWidth sort) p ts r (s .sound) j h) .0)
 
   -- ---- the call
 
   module _ (wanted : ℕ → Bool) (all : (i : ℕ) → i < length ts → wanted i ≡ true) where
-    read-from : (n i : ℕ) → i + n ≡ length ts → readFrom offsetWidth p ts wanted r i n ≡ ok (listed value i n)
+    read-from : (n i : ℕ) → i + n ≡ length ts → readFrom (offsetWidth sort) p ts wanted r i n ≡ ok (listed value i n)
     read-from zero i e = refl
     read-from (suc n) i e =
         let h : i < length ts = omega arith in
@@ -74,15 +74,15 @@ module _ {ts : List DataType} {p : Bool} {r : List ℕ} (s : SoundRow offsetWidt
         (read-from n (suc i) (omega arith))
         ∙ ap (λ (c : ColumnRead). onColumn c (ok (listed value (suc i) n))) (column-is i h)
 
-  pub reads-all : {schema : List ℕ} → schemaOf offsetWidth rowLimit schema ≡ ok ts → ReadsAll schema (length ts) r rowValues
+  pub reads-all : {schema : List ℕ} → schemaOf sort schema ≡ ok ts → ReadsAll sort schema (length ts) r rowValues
   reads-all {schema} e =
       record {
         count = length-listed value 0 (length ts);
         read = λ ws o counts all.
-            ap (λ (x : Parsed). onResult x (unchangedBoth o counts) (λ cs. readRow offsetWidth rowLimit cs r ws o counts)) e
+            ap (λ (x : Parsed). onResult x (unchangedBoth o counts) (λ cs. readRow sort cs r ws o counts)) e
             ∙ ap (λ (x : Frame). onFrame x (unchangedBoth o counts)
-            (λ q. handOut o counts r (readFrom offsetWidth q ts (isWanted ws) r 0 (length ts)))) (s .frame)
-            ∙ ap (handOut o counts r) (read-from (isWanted ws) all (length ts) 0 (zero-add (length ts)));
+            (λ q. handOut sort o counts r (readFrom (offsetWidth sort) q ts (isWanted ws) r 0 (length ts)))) (s .frame)
+            ∙ ap (handOut sort o counts r) (read-from (isWanted ws) all (length ts) 0 (zero-add (length ts)));
       }
 
   -- ---- what is read, by columns
@@ -90,7 +90,7 @@ module _ {ts : List DataType} {p : Bool} {r : List ℕ} (s : SoundRow offsetWidt
   pub length-contents : length (contents r rowValues) ≡ length ts
   length-contents = length-map rowValues (λ (v : DataValue). content r (Value v)) ∙ length-listed value 0 (length ts)
 
-  pub content-at : (j : ℕ) → j < length ts → getD (contents r rowValues) j nullContent ≡ columnContent offsetWidth p ts j r
+  pub content-at : (j : ℕ) → j < length ts → getD (contents r rowValues) j nullContent ≡ columnContent (offsetWidth sort) p ts j r
   content-at j h =
       at-map (λ (v : DataValue). content r (Value v)) j rowValues D.Null
       ∙ ap (λ (v : DataValue). content r (Value v)) (at-listed value 0 (length ts) j D.Null h ∙ ap value (zero-add j))

@@ -31,37 +31,36 @@ use Rattle.history.specs.History.{Call, setValue, setNull, State, rowOf,
 use Rattle.history.specs.Demand.{OfBytes}
 use Rattle.history.specs.Reread.{columnOf, givenContent, ReadsAll, contents, Edits}
 use Rattle.history.proofs.Calls.{Ends, refusal, written, opened-ends, tested-ends, placed-ends, given-taken}
-use Rattle.history.proofs.Histories.{wide}
 use Rattle.history.proofs.Reading.{rowValues, reads-all, length-contents, content-at}
 
 -- ---- how an accepted call ends: the row r that it wrote
 
-record Went (schema : List ℕ) (c : Call) (s : State) (r : List ℕ) : Type 0 where
+record Went (sort : Bool) (schema : List ℕ) (c : Call) (s : State) (r : List ℕ) : Type 0 where
   columns : List DataType
-  schema-good : schemaOf offsetWidth rowLimit schema ≡ ok columns
+  schema-good : schemaOf sort schema ≡ ok columns
   packed : Bool
-  sound : SoundRow offsetWidth rowLimit columns packed (rowOf s)
+  sound : SoundRow sort columns packed (rowOf s)
   inside : columnOf c < length columns
   cell : Cell
   writes : Writes (typeAt columns (columnOf c)) cell
   is-given : writtenContent writes ≡ givenContent (typeAt columns (columnOf c)) c
-  row-is : editedRow offsetWidth packed (map shapeOf columns) (columnOf c) cell (rowOf s) ≡ r
-  short : length r ≤ rowLimit
+  row-is : editedRow (offsetWidth sort) packed (map shapeOf columns) (columnOf c) cell (rowOf s) ≡ r
+  short : length r ≤ rowLimit sort
   room : length r ≤ length (s .buf)
 
-module _ (schema : List ℕ) (s : State) where
+module _ (sort : Bool) (schema : List ℕ) (s : State) where
   abbrev buf : List ℕ
   buf = s .buf
 
   abbrev n : ℕ
   n = s .row-length
 
-  set-went : (i : ℕ) (list area : List ℕ) → AllBytes list → Ends buf (Went schema (setValue i list area) s) (called offsetWidth rowLimit schema (setValue i list area) s)
+  set-went : (i : ℕ) (list area : List ℕ) → AllBytes list → Ends buf (Went sort schema (setValue i list area) s) (called sort schema (setValue i list area) s)
   set-went i list area bytes =
-      opened-ends offsetWidth rowLimit schema n i _
-      λ ts p g room sound h. tested-ends (given rowLimit (typeAt ts i) i list area) _
-      λ b e. placed-ends rowLimit (edited offsetWidth ts p buf n i (some b))
-      λ small fit. let t = given-taken rowLimit (typeAt ts i) i list area b bytes e in
+      opened-ends sort schema n i _
+      λ ts p g room sound h. tested-ends (given sort (typeAt ts i) i list area) _
+      λ b e. placed-ends sort (edited (offsetWidth sort) ts p buf n i (some b))
+      λ small fit. let t = given-taken sort (typeAt ts i) i list area b bytes e in
       record {
         columns = ts;
         schema-good = g;
@@ -71,17 +70,17 @@ module _ (schema : List ℕ) (s : State) where
         cell = some _;
         writes = form (oneValue (valuesOf list)) area (t .chosen .match) (t .chosen .accept) (t .sized);
         is-given = refl;
-        row-is = ap (λ (x : List ℕ). edited offsetWidth ts p buf n i (some x)) (sym (t .chosen .form));
+        row-is = ap (λ (x : List ℕ). edited (offsetWidth sort) ts p buf n i (some x)) (sym (t .chosen .form));
         short = small;
         room = fit;
       }
 
-  null-went : (i : ℕ) → Ends buf (Went schema (setNull i) s) (called offsetWidth rowLimit schema (setNull i) s)
+  null-went : (i : ℕ) → Ends buf (Went sort schema (setNull i) s) (called sort schema (setNull i) s)
   null-went i =
-      opened-ends offsetWidth rowLimit schema n i _
+      opened-ends sort schema n i _
       λ ts p g room sound h. let le = null-short sound i h in
       let size = length-take-le n buf room in
-      written (edited offsetWidth ts p buf n i none) refl
+      written (edited (offsetWidth sort) ts p buf n i none) refl
       (record {
         columns = ts;
         schema-good = g;
@@ -96,13 +95,13 @@ module _ (schema : List ℕ) (s : State) where
         room = omega (arith, le, size);
       })
 
-  went : (c : Call) → OfBytes c → Ends buf (Went schema c s) (called offsetWidth rowLimit schema c s)
+  went : (c : Call) → OfBytes c → Ends buf (Went sort schema c s) (called sort schema c s)
   went (setValue i list area) bytes = set-went i list area bytes
   went (setNull i) bytes = null-went i
 
 -- ---- the rows before and after it
 
-module _ {schema : List ℕ} {c : Call} {s : State} {r : List ℕ} (w : Went schema c s r) (bytes : AllBytes (s .buf)) where
+module _ {sort : Bool} {schema : List ℕ} {c : Call} {s : State} {r : List ℕ} (w : Went sort schema c s r) (bytes : AllBytes (s .buf)) where
   abbrev ts : List DataType
   ts = w .columns
 
@@ -119,21 +118,21 @@ module _ {schema : List ℕ} {c : Call} {s : State} {r : List ℕ} (w : Went sch
   octets = below-take 256 (s .row-length) (s .buf) (all-below (s .buf) bytes)
 
   abbrev edit : List ℕ
-  edit = editedRow offsetWidth p (map shapeOf ts) i (w .cell) old
+  edit = editedRow (offsetWidth sort) p (map shapeOf ts) i (w .cell) old
 
-  edit-short : length edit ≤ rowLimit
+  edit-short : length edit ≤ rowLimit sort
   edit-short = rw (w .row-is) (w .short)
 
-  after-sound : SoundRow offsetWidth rowLimit ts p r
-  after-sound = subst (SoundRow offsetWidth rowLimit ts p) (w .row-is) (edit-sound (w .sound) wide octets i (w .inside) (w .cell) (w .writes) edit-short)
+  after-sound : SoundRow sort ts p r
+  after-sound = subst (SoundRow sort ts p) (w .row-is) (edit-sound (w .sound) octets i (w .inside) (w .cell) (w .writes) edit-short)
 
   abbrev put : Content
   put = givenContent (typeAt ts i) c
 
-  read-again : Reread offsetWidth p ts i put old r
+  read-again : Reread (offsetWidth sort) p ts i put old r
   read-again =
-      subst (λ (x : List ℕ). Reread offsetWidth p ts i put old x) (w .row-is)
-      (subst (λ (x : Content). Reread offsetWidth p ts i x old edit) (w .is-given) (edit-reread (w .sound) wide octets i (w .inside) (w .cell) (w .writes) edit-short))
+      subst (λ (x : List ℕ). Reread (offsetWidth sort) p ts i put old x) (w .row-is)
+      (subst (λ (x : Content). Reread (offsetWidth sort) p ts i x old edit) (w .is-given) (edit-reread (w .sound) octets i (w .inside) (w .cell) (w .writes) edit-short))
 
   abbrev before : List Content
   before = contents old (rowValues (w .sound))
@@ -142,7 +141,7 @@ module _ {schema : List ℕ} {c : Call} {s : State} {r : List ℕ} (w : Went sch
   column-changed j l =
       content-at after-sound j l
       ∙ same-or i j
-      (λ e. subst (λ (k : ℕ). columnContent offsetWidth p ts k r ≡ getD (set before i put) k nullContent) e (read-again .own ∙ sym (getD-set-same before i put nullContent (rw (length-contents (w .sound)) (w .inside)))))
+      (λ e. subst (λ (k : ℕ). columnContent (offsetWidth sort) p ts k r ≡ getD (set before i put) k nullContent) e (read-again .own ∙ sym (getD-set-same before i put nullContent (rw (length-contents (w .sound)) (w .inside)))))
       (λ ne. read-again .others j l ne ∙ sym (content-at (w .sound) j l) ∙ sym (getD-set-other before i j put nullContent (λ e. ne (sym e))))
 
   row-changed : contents r (rowValues after-sound) ≡ set before i put
@@ -156,10 +155,10 @@ abbrev IsDone : Answer → Type 0
 IsDone (Done m) = Unit {0}
 IsDone (Refused e) = ⊥
 
-pub edits : {schema : List ℕ} (c : Call) → OfBytes c → {old new : State} → AllBytes (old .buf) → called offsetWidth rowLimit schema c old ≡ (Done (new .row-length), new .buf) → Edits schema c old new
-edits {schema} c of {old} {new} bytes done = by-end (went schema old c of)
+pub edits : {sort : Bool} {schema : List ℕ} (c : Call) → OfBytes c → {old new : State} → AllBytes (old .buf) → called sort schema c old ≡ (Done (new .row-length), new .buf) → Edits sort schema c old new
+edits {sort} {schema} c of {old} {new} bytes done = by-end (went sort schema old c of)
   where
-    by-end : Ends (old .buf) (Went schema c old) (called offsetWidth rowLimit schema c old) → Edits schema c old new
+    by-end : Ends (old .buf) (Went sort schema c old) (called sort schema c old) → Edits sort schema c old new
     by-end (refusal e q) = absurd (subst (λ (o : Outcome). IsDone (o .0)) (sym done ∙ q) tt)
     by-end (written r q w) =
         let same : rowStored (old .buf) r ≡ (Done (new .row-length), new .buf) = sym q ∙ done in
@@ -173,14 +172,14 @@ edits {schema} c of {old} {new} bytes done = by-end (went schema old c of)
           old-values = rowValues (w .sound);
           new-values = rowValues (after-sound w bytes);
           old-read = reads-all (w .sound) (w .schema-good);
-          new-read = subst (λ (x : List ℕ). ReadsAll schema (length (w .columns)) x (rowValues (after-sound w bytes))) row (reads-all (after-sound w bytes) (w .schema-good));
+          new-read = subst (λ (x : List ℕ). ReadsAll sort schema (length (w .columns)) x (rowValues (after-sound w bytes))) row (reads-all (after-sound w bytes) (w .schema-good));
           changed = subst (λ (x : List ℕ). contents x (rowValues (after-sound w bytes)) ≡ set (before w bytes) (columnOf c) (givenContent (typeAt (w .columns) (columnOf c)) c)) row (row-changed w bytes);
           packed = w .packed;
           old-sound = w .sound;
-          new-sound = subst (SoundRow offsetWidth rowLimit (w .columns) (w .packed)) row (after-sound w bytes);
+          new-sound = subst (SoundRow sort (w .columns) (w .packed)) row (after-sound w bytes);
           handed = sym size ∙ ap length row;
-          long = subst (λ (x : List ℕ). length x ≡ lengthIn offsetWidth (w .packed) (w .columns) x) row (read-again w bytes .long);
+          long = subst (λ (x : List ℕ). length x ≡ lengthIn (offsetWidth sort) (w .packed) (w .columns) x) row (read-again w bytes .long);
           change =
-              subst (λ (x : List ℕ). length x + length (payloadOf offsetWidth (w .packed) (w .columns) (columnOf c) (rowOf old)) ≡ length (rowOf old) + length (payloadOf offsetWidth (w .packed) (w .columns) (columnOf c) x)) row (read-again w bytes .change);
+              subst (λ (x : List ℕ). length x + length (payloadOf (offsetWidth sort) (w .packed) (w .columns) (columnOf c) (rowOf old)) ≡ length (rowOf old) + length (payloadOf (offsetWidth sort) (w .packed) (w .columns) (columnOf c) x)) row (read-again w bytes .change);
           behind = rw (← size, ← whole) (drop-append-seam r (drop (length r) (old .buf)));
         }

@@ -13,6 +13,7 @@ use Rattle.value_list.specs.Lists.{valuesOf}
 use Rattle.row_sound.specs.Sound.{soundColumn}
 use Rattle.history.specs.Demand.{AllOfBytes, History}
 use Rattle.history.specs.Worked.{S, columnsS, lent, start, edits, Worked}
+use mathlib.Core.Bool.{false}
 
 -- numbers that are written out are bytes
 pub written-bytes : (bs : List ℕ) → Below 256 bs → AllBytes bs
@@ -30,7 +31,7 @@ edits-bytes = (
 )
 
 -- the example is a history
-abbrev pub edits-history : History S columnsS
+abbrev pub edits-history : History false S columnsS
 unfolding schemaOf rowWith lay header
 edits-history =
     record { columns = refl; out = lent; start = start; fresh = refl; calls = edits; bytes = edits-bytes }

@@ -35,7 +35,7 @@ edits =
 
 pub record BothKinds : Type 0 where
   -- these calls are a history: all that `History` asks is met
-  pub history : History schema columns
+  pub history : History false schema columns
   pub these : history .calls ≡ edits
   pub answers-given : replies history ≡ Done 20 ∷ Refused (Unsuitable 1) ∷ Refused (Unsuitable 0) ∷ Done 22 ∷ []
   pub leaves : left history

@@ -1,7 +1,7 @@
 -- Demand 3, and 01, "Histories of edits": "Demand 3 is one claim about the whole list, not one for each call."
 -- FORMAT 9.3, 9.4.
 use Prim.Native.Nat.{ℕ, _+_, _<_, _≤_}
-use mathlib.Core.Bool.{true}
+use mathlib.Core.Bool.{Bool, true, false}
 use mathlib.Core.List.{List, [], _∷_, map}
 use mathlib.Core.Logic.{_↔_}
 use mathlib.Core.Option.{none, some}
@@ -15,7 +15,7 @@ use Rattle.error.specs.declared.Answer.{Answer}
 use Rattle.error.specs.declared.Answer.the-variants.{Done}
 use Rattle.error.specs.Answer.{unchanged, placedBoth}
 use Rattle.error.specs.Result.{ok, refused}
-use Rattle.row_format.specs.Places.{offsetWidth, rowLimit, minimum}
+use Rattle.row_format.specs.Places.{offsetWidth, minimum}
 use Rattle.row_format.specs.Table.{Cell, payloads}
 use Rattle.row_format.specs.Row.{varlenCells}
 use Rattle.row_format.specs.Edit.{editedRow}
@@ -44,30 +44,30 @@ AllOfBytes [] = Unit {0}
 AllOfBytes (c ∷ cs) = OfBytes c × AllOfBytes cs
 
 -- "A history starts where fresh answers 0": `out` is what fresh was lent, `start` what it left and handed back. "a
--- list of set and set null calls, refused ones included": any calls
-pub record History (schema : List ℕ) (ts : List DataType) : Type 0 where
-  pub columns : schemaOf offsetWidth rowLimit schema ≡ ok ts
+-- list of set and set null calls, refused ones included": any calls. Its rows are of one sort.
+pub record History (sort : Bool) (schema : List ℕ) (ts : List DataType) : Type 0 where
+  pub columns : schemaOf sort schema ≡ ok ts
   pub out : List ℕ
   pub start : State
-  pub fresh : freshCall offsetWidth rowLimit schema out ≡ (Done (start .row-length), start .buf)
+  pub fresh : freshCall sort schema out ≡ (Done (start .row-length), start .buf)
   pub calls : List Call
   pub bytes : AllOfBytes calls
 
-module _ {schema : List ℕ} {ts : List DataType} (h : History schema ts) where
+module _ {sort : Bool} {schema : List ℕ} {ts : List DataType} (h : History sort schema ts) where
   -- what it leaves: the buffer and the length; the row, as it is and "with the slots of null fixed columns set to
   -- zero"
   abbrev pub left : State
-  left = run offsetWidth rowLimit schema (h .calls) (h .start)
+  left = run sort schema (h .calls) (h .start)
 
   abbrev pub row : List ℕ
   row = rowOf left
 
   abbrev pub zeroed : List ℕ
-  zeroed = zeroedRow offsetWidth (map shapeOf ts) row
+  zeroed = zeroedRow (offsetWidth sort) (map shapeOf ts) row
 
   -- what its calls answer
   abbrev pub replies : List Answer
-  replies = answers offsetWidth rowLimit schema (h .calls) (h .start)
+  replies = answers sort schema (h .calls) (h .start)
 
   -- the sheet, by the calls and those answers: "one entry a column, all null at first"; and "the same stored form, or
   -- null, in every column"
@@ -77,41 +77,41 @@ module _ {schema : List ℕ} {ts : List DataType} (h : History schema ts) where
   abbrev pub cells : List Cell
   cells = sheetCells ts sheet
 
-  -- ---- "For every history": the row zeroed "is the very row that the builder makes of the last accepted values".
-  -- `placedBoth` is 14 where there is no room for it or for its counts, which are those of the sheet's stored forms; so
-  -- "the builder refuses with nothing but 14, for want of room; otherwise it writes the history's row". The length that
-  -- was handed back is the row's, "the layout's minimum plus the payload lengths of its non-null Varchar columns", and
-  -- zeroing keeps it.
-  pub record Leaves : Type 0 where
-    pub built : (o counts : List ℕ)
-        → buildCall offsetWidth rowLimit schema (listOf (lastValues 0 sheet)) (texts sheet) o counts
-        ≡ placedBoth o counts zeroed (cellsPoints ts cells)
-    pub handed : left .row-length ≡ length row
-    pub long : length row
-        ≡ minimum offsetWidth true (map shapeOf ts) + length (payloads (varlenCells (map shapeOf ts) cells))
-    pub same-length : length zeroed ≡ length row
-
   -- ---- No history ends in a row that refuses every edit: the row left is sound, so a set of a column that is there,
   -- with a value that passes 10, 11 and 12, is refused by nothing but 13 and 14 for the row it makes, and a set null
   -- of such a column by nothing. The other calls are refused by 9, or by what is wrong with the value. So no call of a
   -- history answers 1, 2, 15, or 14 for the row length.
   pub record Accepts : Type 0 where
-    pub sound : soundness offsetWidth rowLimit ts row ≡ Sound true
-    pub set : (i : ℕ) (list area b : List ℕ) → i < length ts → given rowLimit (typeAt ts i) i list area ≡ ok b
-        → called offsetWidth rowLimit schema (setValue i list area) left
-        ≡ rowPlaced rowLimit (left .buf) (editedRow offsetWidth true (map shapeOf ts) i (some b) row)
+    pub sound : soundness sort ts row ≡ Sound true
+    pub set : (i : ℕ) (list area b : List ℕ) → i < length ts → given sort (typeAt ts i) i list area ≡ ok b
+        → called sort schema (setValue i list area) left
+        ≡ rowPlaced sort (left .buf) (editedRow (offsetWidth sort) true (map shapeOf ts) i (some b) row)
     pub bad-value : (i : ℕ) (list area : List ℕ) {e : Refusal} → i < length ts
-        → given rowLimit (typeAt ts i) i list area ≡ refused e
-        → called offsetWidth rowLimit schema (setValue i list area) left ≡ unchanged (left .buf) e
+        → given sort (typeAt ts i) i list area ≡ refused e
+        → called sort schema (setValue i list area) left ≡ unchanged (left .buf) e
     pub no-column : (i : ℕ) (list area : List ℕ) → length ts ≤ i
-        → called offsetWidth rowLimit schema (setValue i list area) left ≡ unchanged (left .buf) NoSuchColumn
+        → called sort schema (setValue i list area) left ≡ unchanged (left .buf) NoSuchColumn
     pub no-null : (i : ℕ) → length ts ≤ i
-        → called offsetWidth rowLimit schema (setNull i) left ≡ unchanged (left .buf) NoSuchColumn
+        → called sort schema (setNull i) left ≡ unchanged (left .buf) NoSuchColumn
     pub set-null : (i : ℕ) → i < length ts
-        → called offsetWidth rowLimit schema (setNull i) left
-        ≡ rowStored (left .buf) (editedRow offsetWidth true (map shapeOf ts) i none row)
+        → called sort schema (setNull i) left
+        ≡ rowStored (left .buf) (editedRow (offsetWidth sort) true (map shapeOf ts) i none row)
+
+-- ---- "For every history", of short rows: the row zeroed "is the very row that the builder makes of the last accepted
+-- values". `placedBoth` is 14 where there is no room for it or for its counts, which are those of the sheet's stored
+-- forms; so "the builder refuses with nothing but 14, for want of room; otherwise it writes the history's row". The
+-- length that was handed back is the row's, "the layout's minimum plus the payload lengths of its non-null Varchar
+-- columns", and zeroing keeps it.
+pub record Leaves {schema : List ℕ} {ts : List DataType} (h : History false schema ts) : Type 0 where
+  pub built : (o counts : List ℕ)
+      → buildCall false schema (listOf false (lastValues 0 (sheet h))) (texts (sheet h)) o counts
+      ≡ placedBoth o counts (zeroed h) (cellsPoints ts (cells h))
+  pub handed : left h .row-length ≡ length (row h)
+  pub long : length (row h)
+      ≡ minimum (offsetWidth false) true (map shapeOf ts) + length (payloads (varlenCells (map shapeOf ts) (cells h)))
+  pub same-length : length (zeroed h) ≡ length (row h)
 
 -- ---- "For every two histories on one schema, the rows so zeroed are equal in length and in every byte exactly when
 -- both leave the same stored form, or null, in every column."
-abbrev pub Told : {schema : List ℕ} {ts : List DataType} (g h : History schema ts) → Type 0
+abbrev pub Told : {sort : Bool} {schema : List ℕ} {ts : List DataType} (g h : History sort schema ts) → Type 0
 Told g h = (zeroed g ≡ zeroed h) ↔ (cells g ≡ cells h)

@@ -16,6 +16,7 @@ use Rattle.value.specs.Ranges.{textOf, moved}
 use Rattle.value_list.specs.Lists.{Values, valuesOf}
 use Rattle.stored_form.specs.Write.{storedForm}
 use Rattle.row_edit.specs.Edit.{setCall, setNullCall}
+use mathlib.Core.Bool.{Bool}
 
 -- ---- the calls
 
@@ -33,9 +34,10 @@ pub record State : Type 0 where
 abbrev pub rowOf : State → List ℕ
 rowOf s = take (s .row-length) (s .buf)
 
-abbrev pub called : ℕ → ℕ → List ℕ → Call → State → Outcome
-called w limit schema (setValue i list area) s = setCall w limit schema (s .buf) (s .row-length) i list area
-called w limit schema (setNull i) s = setNullCall w limit schema (s .buf) (s .row-length) i
+-- the calls on a row that is taken as of a sort
+abbrev pub called : Bool → List ℕ → Call → State → Outcome
+called sort schema (setValue i list area) s = setCall sort schema (s .buf) (s .row-length) i list area
+called sort schema (setNull i) s = setNullCall sort schema (s .buf) (s .row-length) i
 
 -- "accepted means answered 0"
 abbrev pub handedBack : Answer → ℕ → ℕ
@@ -72,14 +74,14 @@ sheetBy (c ∷ cs) (a ∷ as′) sheet = sheetBy cs as′ (noted a c sheet)
 
 -- ---- a whole history: what it leaves of buffer and length, and what its calls answer
 
-abbrev pub run : ℕ → ℕ → List ℕ → List Call → State → State
-run w limit schema [] s = s
-run w limit schema (c ∷ cs) s = run w limit schema cs (next (called w limit schema c s) s)
+abbrev pub run : Bool → List ℕ → List Call → State → State
+run sort schema [] s = s
+run sort schema (c ∷ cs) s = run sort schema cs (next (called sort schema c s) s)
 
-abbrev pub answers : ℕ → ℕ → List ℕ → List Call → State → List Answer
-answers w limit schema [] s = []
-answers w limit schema (c ∷ cs) s =
-    called w limit schema c s .0 ∷ answers w limit schema cs (next (called w limit schema c s) s)
+abbrev pub answers : Bool → List ℕ → List Call → State → List Answer
+answers sort schema [] s = []
+answers sort schema (c ∷ cs) s =
+    called sort schema c s .0 ∷ answers sort schema cs (next (called sort schema c s) s)
 
 -- ---- "The last accepted values are the entries by rising column as one value list, the texts end to end in that
 -- order in one text area, each range rewritten to match."

@@ -7,7 +7,7 @@ use mathlib.Core.Path.{_≡_}
 use lib.ListN.{length, drop, set}
 use Rattle.error.specs.Answer.{placedBoth}
 use Rattle.error.specs.Result.{ok}
-use Rattle.row_format.specs.Places.{offsetWidth, rowLimit}
+use Rattle.row_format.specs.Places.{offsetWidth}
 use Rattle.datatype.specs.declared.DataType.{DataType}
 use Rattle.datatype.specs.Schema.{schemaOf}
 use Rattle.datatype.specs.Check.{typeAt}
@@ -31,37 +31,37 @@ givenContent t (setValue i list area) =
     valueContent t (oneValue (valuesOf list)) (textOf area (oneValue (valuesOf list)))
 givenContent t (setNull i) = nullContent
 
--- a read of all n columns of a row answers with the values vs, into any output, and with their counts, into any list:
--- "such a list whose text area is the row itself"
-pub record ReadsAll (schema : List ℕ) (n : ℕ) (row : List ℕ) (vs : List DataValue) : Type 0 where
+-- a read of all n columns of a row of a sort answers with the values vs, into any output, and with their counts, into
+-- any list: "such a list whose text area is the row itself"
+pub record ReadsAll (sort : Bool) (schema : List ℕ) (n : ℕ) (row : List ℕ) (vs : List DataValue) : Type 0 where
   pub count : length vs ≡ n
   pub read : (wanted out counts : List ℕ) → ((i : ℕ) → i < n → isWanted wanted i ≡ true)
-      → readCall offsetWidth rowLimit schema row wanted out counts
-      ≡ placedBoth out counts (listOf vs) (map (pointsIn row) vs)
+      → readCall sort schema row wanted out counts
+      ≡ placedBoth out counts (listOf sort vs) (map (pointsIn row) vs)
 
 -- what they are, wherever their texts stand
 abbrev pub contents : List ℕ → List DataValue → List Content
 contents row vs = map (λ (v : DataValue). content row (Value v)) vs
 
--- a call that got `old` and left `new`
-pub record Edits (schema : List ℕ) (c : Call) (old new : State) : Type 0 where
+-- a call on a row of a sort that got `old` and left `new`
+pub record Edits (sort : Bool) (schema : List ℕ) (c : Call) (old new : State) : Type 0 where
   pub columns : List DataType
-  pub schema-good : schemaOf offsetWidth rowLimit schema ≡ ok columns
+  pub schema-good : schemaOf sort schema ≡ ok columns
   pub inside : columnOf c < length columns
   pub old-values : List DataValue
   pub new-values : List DataValue
-  pub old-read : ReadsAll schema (length columns) (rowOf old) old-values
-  pub new-read : ReadsAll schema (length columns) (rowOf new) new-values
+  pub old-read : ReadsAll sort schema (length columns) (rowOf old) old-values
+  pub new-read : ReadsAll sort schema (length columns) (rowOf new) new-values
   pub changed : contents (rowOf new) new-values
       ≡ set (contents (rowOf old) old-values) (columnOf c) (givenContent (typeAt columns (columnOf c)) c)
   -- the row is sound as before, and its length "the layout's minimum plus the payload lengths of its non-null Varchar
   -- columns"
   pub packed : Bool
-  pub old-sound : SoundRow offsetWidth rowLimit columns packed (rowOf old)
-  pub new-sound : SoundRow offsetWidth rowLimit columns packed (rowOf new)
+  pub old-sound : SoundRow sort columns packed (rowOf old)
+  pub new-sound : SoundRow sort columns packed (rowOf new)
   pub handed : new .row-length ≡ length (rowOf new)
-  pub long : length (rowOf new) ≡ lengthIn offsetWidth packed columns (rowOf new)
-  pub change : length (rowOf new) + length (payloadOf offsetWidth packed columns (columnOf c) (rowOf old))
-      ≡ length (rowOf old) + length (payloadOf offsetWidth packed columns (columnOf c) (rowOf new))
+  pub long : length (rowOf new) ≡ lengthIn (offsetWidth sort) packed columns (rowOf new)
+  pub change : length (rowOf new) + length (payloadOf (offsetWidth sort) packed columns (columnOf c) (rowOf old))
+      ≡ length (rowOf old) + length (payloadOf (offsetWidth sort) packed columns (columnOf c) (rowOf new))
   -- "After an edit, bytes past the new end are as before."
   pub behind : drop (new .row-length) (new .buf) ≡ drop (new .row-length) (old .buf)

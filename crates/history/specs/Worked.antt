@@ -10,7 +10,6 @@ use lib.ListN.{replicate}
 use Rattle.error.specs.declared.Refusal.the-variants.{NoSuchColumn, Unsuitable}
 use Rattle.error.specs.declared.Answer.{Answer}
 use Rattle.error.specs.declared.Answer.the-variants.{Done, Refused}
-use Rattle.row_format.specs.Places.{offsetWidth, rowLimit}
 use Rattle.datatype.specs.declared.DataType.{DataType}
 use Rattle.datatype.specs.declared.DataType.the-variants as T
 use Rattle.value.specs.declared.DataValue.the-variants as D
@@ -55,13 +54,13 @@ row2 =
     }
 
 abbrev pub after : List Call → State
-after more = run offsetWidth rowLimit S (edits ++ more) start
+after more = run false S (edits ++ more) start
 
 pub record Worked : Type 0 where
   -- 1
-  pub fresh : freshCall offsetWidth rowLimit S lent ≡ (Done 13, start .buf)
+  pub fresh : freshCall false S lent ≡ (Done 13, start .buf)
   -- these calls are a history on S: all that `History` asks is met
-  pub history : History S columnsS
+  pub history : History false S columnsS
   pub from-start : history .start ≡ start
   pub these : history .calls ≡ edits
   -- 2

@@ -7,7 +7,7 @@ ghost use Prim.Native.Nat.{_+_, _/_, _<_};
 ghost use lib.Dec.{eqb};
 ghost use lib.ListN.{length, drop};
 ghost use Rattle.laws.specs.Bits.{bitValue, putBit, bitAt};
-ghost use Rattle.row_format.specs.Places.{bitmapStart, rowLimit};
+ghost use Rattle.row_format.specs.Places.{bitmapStart};
 ghost use Rattle.null_bitmap.specs.Bitmap.{nullFlag};
 ghost use Rattle.null_bitmap.specs.InnerBitmap.{flagIn, flagPut};
 
@@ -83,11 +83,11 @@ pub fn clear_null(bits: &mut [u8], n: usize, i: usize) -> BitAnswer
     put_null(bits, n, i, false)
 }
 
-// Whether a column of a row is null, by the row's own header and bitmap.
-pub fn is_column_null_in_row(row: &[u8], column: usize) -> Flag
-    ensures { λ r. ⌜ r ≡ nullFlag rowLimit (now (row .entry)) column ⌝ }
+// Whether a column of a row of this sort is null, by the row's own header and bitmap.
+pub fn is_column_null_in_row(row: &[u8], is_long: bool, column: usize) -> Flag
+    ensures { λ r. ⌜ r ≡ nullFlag «is_long» (now (row .entry)) column ⌝ }
 {
-    if RowLayout::ROW_LIMIT < row.len() {
+    if row_layout::row_limit(is_long) < row.len() {
         return Flag::Refused(Refusal::RowTooLong);
     }
     let bitmap = RowLayout::bitmap_offset();

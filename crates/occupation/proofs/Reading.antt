@@ -1,6 +1,6 @@
 -- A text read from its range, and a moment from its slot.
-use Prim.Native.Nat.{ℕ, zero, suc, _+_, _-_, _≤_, _<_}
-use mathlib.Core.Path.{_≡_, refl, sym, ap, _∙_, subst}
+use Prim.Native.Nat.{ℕ, _+_, _-_, _≤_, _<_}
+use mathlib.Core.Path.{_≡_, refl, sym, ap, _∙_}
 use mathlib.Core.Bool.{Bool, true, false, cond}
 use mathlib.Core.List.{List}
 use mathlib.Core.Option.{Option, none, some}
@@ -35,7 +35,6 @@ use Rattle.calendar.specs.InnerMoment.{momentOf}
 use lib.IntN.{ℤ}
 use mir.Syntax.{w64}
 use mir.Val.{toZ}
-use Rattle.occupation.specs.declared.TextRead.{TextRead}
 use Rattle.occupation.specs.declared.TextRead.the-variants.{Good, Refused}
 use Rattle.occupation.specs.InnerFields.{SpanIn}
 use Rattle.occupation.specs.InnerRead.{textRangeIn, textOfRead, textColumn, textShown, momentOfRead, momentColumn}
@@ -56,47 +55,47 @@ part-start n a e h =
     by-cond Late (ltb e a) Outside (cond (ltb n e) Outside (Bytes a e)) (λ _ p. omega arith)
     (λ _. by-cond Late (ltb n e) Outside (Bytes a e) (λ _ p. omega arith) (λ _. h))
 
-range-start : (r : List ℕ) (i : ℕ) → Late (textRangeIn r i)
-range-start r i =
-    let o = entryAt offsetWidth 5 i r in
-    let part = partOf (length r) o (rangeEnd offsetWidth 5 2 i r) in
-    by-cond Late (eqb (bitAt i (drop bitmapStart r)) 1) Null (varlenRange offsetWidth 5 2 i r) (λ _ p. omega arith)
-    (λ _. by-cond Late (eqb o 0) Null part (λ _ p. omega arith) (λ f. part-start (length r) o (rangeEnd offsetWidth 5 2 i r) (eqb-false o 0 f)))
+range-start : (k : Bool) (r : List ℕ) (i : ℕ) → Late (textRangeIn k r i)
+range-start k r i =
+    let o = entryAt (offsetWidth k) 5 i r in
+    let part = partOf (length r) o (rangeEnd (offsetWidth k) 5 2 i r) in
+    by-cond Late (eqb (bitAt i (drop bitmapStart r)) 1) Null (varlenRange (offsetWidth k) 5 2 i r) (λ _ p. omega arith)
+    (λ _. by-cond Late (eqb o 0) Null part (λ _ p. omega arith) (λ f. part-start (length r) o (rangeEnd (offsetWidth k) 5 2 i r) (eqb-false o 0 f)))
 
-pub by-range : (n i : ℕ) (r : List ℕ) → textColumn n i r ≡ textOfRead r (varlenValue (Varchar false n) i r (textRangeIn r i))
-by-range n i r = go (eqb (bitAt i (drop bitmapStart r)) 1) (varlenRange offsetWidth 5 2 i r)
+pub by-range : (k : Bool) (n i : ℕ) (r : List ℕ) → textColumn k n i r ≡ textOfRead r (varlenValue (Varchar false n) i r (textRangeIn k r i))
+by-range k n i r = go (eqb (bitAt i (drop bitmapStart r)) 1) (varlenRange (offsetWidth k) 5 2 i r)
   where
     go : (t : Bool) (q : VarlenRange) → textOfRead r (cond t (Column.Value D.Null) (varlenValue (Varchar false n) i r q)) ≡ textOfRead r (varlenValue (Varchar false n) i r (cond t Null q))
     go true q = refl
     go false q = refl
 
-module _ (n i : ℕ) (r : List ℕ) where
-  told : {q : VarlenRange} → q ≡ textRangeIn r i → textOfRead r (varlenValue (Varchar false n) i r q) ≡ textColumn n i r
-  told e = ap (λ (q : VarlenRange). textOfRead r (varlenValue (Varchar false n) i r q)) e ∙ sym (by-range n i r)
+module _ (k : Bool) (n i : ℕ) (r : List ℕ) where
+  told : {q : VarlenRange} → q ≡ textRangeIn k r i → textOfRead r (varlenValue (Varchar false n) i r q) ≡ textColumn k n i r
+  told e = ap (λ (q : VarlenRange). textOfRead r (varlenValue (Varchar false n) i r q)) e ∙ sym (by-range k n i r)
 
-  pub text-null : Null ≡ textRangeIn r i → textShown r (Good (record { start = 0; end = 0 })) ≡ textColumn n i r
+  pub text-null : Null ≡ textRangeIn k r i → textShown r (Good (record { start = 0; end = 0 })) ≡ textColumn k n i r
   text-null e = told e
 
-  pub text-outside : Outside ≡ textRangeIn r i → textShown r (Refused (BadRange i)) ≡ textColumn n i r
+  pub text-outside : Outside ≡ textRangeIn k r i → textShown r (Refused (BadRange i)) ≡ textColumn k n i r
   text-outside e = told e
 
-  module _ {a e : ℕ} (q : Bytes a e ≡ textRangeIn r i) (w : Inside r (Bytes a e)) where
+  module _ {a e : ℕ} (q : Bytes a e ≡ textRangeIn k r i) (w : Inside r (Bytes a e)) where
     abbrev bs : List ℕ
     bs = take (e - a) (drop a r)
 
     pub starts-late : a ≡ 0 → ⊥
-    starts-late z = range-start r i (sym (ap startIn q) ∙ z)
+    starts-late z = range-start k r i (sym (ap startIn q) ∙ z)
 
     size : length bs ≡ e - a
     size = let u = w .0 in let v = w .1 in length-take-le (e - a) (drop a r) (rw length-drop (omega arith))
 
-    pub text-long : n < e - a → textShown r (Refused (NoValue i)) ≡ textColumn n i r
+    pub text-long : n < e - a → textShown r (Refused (NoValue i)) ≡ textColumn k n i r
     text-long h = sym (rw (many-bytes n bs (rw size h))) ∙ told q
 
-    pub text-good : e - a ≤ n → isText bs ≡ true → textShown r (Good (record { start = a; end = e })) ≡ textColumn n i r
+    pub text-good : e - a ≤ n → isText bs ≡ true → textShown r (Good (record { start = a; end = e })) ≡ textColumn k n i r
     text-good h t = sym (rw (few-bytes false n bs (rw size h), t, size, ne-eqb a 0 starts-late)) ∙ told q
 
-    pub text-bad : e - a ≤ n → isText bs ≡ false → textShown r (Refused (NoValue i)) ≡ textColumn n i r
+    pub text-bad : e - a ≤ n → isText bs ≡ false → textShown r (Refused (NoValue i)) ≡ textColumn k n i r
     text-bad h t = sym (rw (few-bytes false n bs (rw size h), t)) ∙ told q
 
     pub text-in : e - a ≤ n → SpanIn (length r) n a e

@@ -1,18 +1,16 @@
 -- A row read column after column is read as the definition reads it, and is read so again.
-use Prim.Native.Nat.{ℕ, _+_, _-_, _≤_, _<_}
+use Prim.Native.Nat.{ℕ, _-_, _≤_}
 use mathlib.Core.Path.{_≡_, refl, sym, ap, _∙_, subst}
 use mathlib.Core.Bool.{Bool, true, false, cond, false≢true}
-use mathlib.Core.List.{List, [], _∷_, map}
-use mathlib.Core.Option.{Option, none, some}
+use mathlib.Core.List.{List, [], map}
+use mathlib.Core.Option.{Option}
 use native.Mathlib.Omega.{arith}
-use lib.Dec.{ltb}
 use lib.ListN.{length, take, drop}
 use Rattle.laws.proofs.Truths.{cases}
 use Rattle.error.specs.declared.Refusal.{Refusal}
 use Rattle.error.specs.declared.Refusal.the-variants.{Unprintable}
 use Rattle.error.specs.Result.{Result, ok, refused, onResult}
-use Rattle.row_format.specs.Places.{offsetWidth, rowLimit, varlens, minimum}
-use Rattle.row_layout.specs.declared.RowLayout.{RowLayout}
+use Rattle.row_format.specs.Places.{offsetWidth, varlens, minimum}
 use Rattle.row_layout.specs.declared.VarlenRange.{VarlenRange}
 use Rattle.row_layout.specs.declared.VarlenRange.the-variants.{Null, Bytes, Outside}
 use Rattle.row_layout.specs.InnerRange.{Inside}
@@ -31,7 +29,7 @@ use Rattle.occupation.specs.declared.MomentRead.the-variants as Moment
 use Rattle.occupation.specs.declared.Fields.{Fields}
 use Rattle.occupation.specs.Occupation.{Occupation, columns, occupationOf, hasUnprintable, printable, occupationIn}
 use Rattle.occupation.specs.InnerFields.{momentFrom, fieldsShown, momentLimit, SpanIn, FieldsIn, isGood}
-use Rattle.occupation.specs.InnerRead.{textRangeIn, textOfRead, momentOfRead, textColumn, momentColumn, withPlatform, withUnit, withArrival, withDeparture, shownIn, momentShown, MomentIn, spanOf, countOf}
+use Rattle.occupation.specs.InnerRead.{arrivalPlace, departurePlace, leastLength, textRangeIn, textOfRead, momentOfRead, textColumn, momentColumn, withPlatform, withUnit, withArrival, withDeparture, shownIn, momentShown, MomentIn, spanOf, countOf}
 use Rattle.occupation.proofs.Reading.{text-null, text-outside, text-long, text-good, text-bad, text-in, null-in}
 
 -- ---- the columns one after the other
@@ -48,31 +46,35 @@ by-columns r (Value u) (Value v) (Value x) (Refused e) = refl
 by-columns r (Value u) (Value v) (Value x) (Value y) = refl
 
 -- a padded row has its slots where a packed one has them
-in-frame : (r : List ℕ) (p : Bool) → withPlatform r
-    ≡ onResult (readFrom offsetWidth p columns (λ i. true) r 0 (length columns)) refused (λ vs. printable (occupationOf r vs))
-in-frame r true = by-columns r (columnValue offsetWidth true columns 0 r) (columnValue offsetWidth true columns 1 r) (columnValue offsetWidth true columns 2 r) (columnValue offsetWidth true columns 3 r)
-in-frame r false = by-columns r (columnValue offsetWidth false columns 0 r) (columnValue offsetWidth false columns 1 r) (columnValue offsetWidth false columns 2 r) (columnValue offsetWidth false columns 3 r)
+in-frame : (k : Bool) (r : List ℕ) (p : Bool) → withPlatform k r
+    ≡ onResult (readFrom (offsetWidth k) p columns (λ i. true) r 0 (length columns)) refused (λ vs. printable (occupationOf r vs))
+in-frame false r true = by-columns r (columnValue (offsetWidth false) true columns 0 r) (columnValue (offsetWidth false) true columns 1 r) (columnValue (offsetWidth false) true columns 2 r) (columnValue (offsetWidth false) true columns 3 r)
+in-frame true r true = by-columns r (columnValue (offsetWidth true) true columns 0 r) (columnValue (offsetWidth true) true columns 1 r) (columnValue (offsetWidth true) true columns 2 r) (columnValue (offsetWidth true) true columns 3 r)
+in-frame false r false = by-columns r (columnValue (offsetWidth false) false columns 0 r) (columnValue (offsetWidth false) false columns 1 r) (columnValue (offsetWidth false) false columns 2 r) (columnValue (offsetWidth false) false columns 3 r)
+in-frame true r false = by-columns r (columnValue (offsetWidth true) false columns 0 r) (columnValue (offsetWidth true) false columns 1 r) (columnValue (offsetWidth true) false columns 2 r) (columnValue (offsetWidth true) false columns 3 r)
 
-pub by-frame : (r : List ℕ) → onFrame (frameOf offsetWidth rowLimit columns r) refused (λ p. withPlatform r) ≡ occupationIn r
-by-frame r = same-good (frameOf offsetWidth rowLimit columns r) refused (λ p e. in-frame r p)
+pub by-frame : (k : Bool) (r : List ℕ) → onFrame (frameOf k columns r) refused (λ p. withPlatform k r) ≡ occupationIn k r
+by-frame k r = same-good (frameOf k columns r) refused (λ p e. in-frame k r p)
 
-least : (p : Bool) → minimum offsetWidth p (map shapeOf columns) ≡ 25
-least true = refl
-least false = refl
+least : (k p : Bool) → minimum (offsetWidth k) p (map shapeOf columns) ≡ leastLength k
+least false true = refl
+least false false = refl
+least true true = refl
+least true false = refl
 
-pub long-enough : (r : List ℕ) {p : Bool} → frameOf offsetWidth rowLimit columns r ≡ Frame.Good p → 25 ≤ length r
-long-enough r {p} e =
-    let f = fine rowLimit (length columns) (varlens (map shapeOf columns)) (λ q. minimum offsetWidth q (map shapeOf columns)) r e in
-    omega (arith, f .long, least p)
+pub long-enough : (k : Bool) (r : List ℕ) {p : Bool} → frameOf k columns r ≡ Frame.Good p → leastLength k ≤ length r
+long-enough k r {p} e =
+    let f = fine k (length columns) (varlens (map shapeOf columns)) (λ q. minimum (offsetWidth k) q (map shapeOf columns)) r e in
+    omega (arith, f .long, least k p)
 
 -- ---- a row that can be printed
 
-good-frame : (r : List ℕ) (f : Frame) → f ≡ frameOf offsetWidth rowLimit columns r → isGood (onFrame f refused (λ p. withPlatform r)) ≡ true → (25 ≤ length r) × (withPlatform r ≡ occupationIn r)
-good-frame r (Frame.Good p) e h = (long-enough r (sym e), ap (λ (x : Frame). onFrame x refused (λ p. withPlatform r)) e ∙ by-frame r)
-good-frame r (Frame.Refused q) e h = absurd (false≢true h)
+good-frame : (k : Bool) (r : List ℕ) (f : Frame) → f ≡ frameOf k columns r → isGood (onFrame f refused (λ p. withPlatform k r)) ≡ true → (leastLength k ≤ length r) × (withPlatform k r ≡ occupationIn k r)
+good-frame k r (Frame.Good p) e h = (long-enough k r (sym e), ap (λ (x : Frame). onFrame x refused (λ p. withPlatform k r)) e ∙ by-frame k r)
+good-frame k r (Frame.Refused q) e h = absurd (false≢true h)
 
-pub good-row : (r : List ℕ) → isGood (occupationIn r) ≡ true → (25 ≤ length r) × (withPlatform r ≡ occupationIn r)
-good-row r h = good-frame r (frameOf offsetWidth rowLimit columns r) refl (ap isGood (by-frame r) ∙ h)
+pub good-row : (k : Bool) (r : List ℕ) → isGood (occupationIn k r) ≡ true → (leastLength k ≤ length r) × (withPlatform k r ≡ occupationIn k r)
+good-row k r h = good-frame k r (frameOf k columns r) refl (ap isGood (by-frame k r) ∙ h)
 
 -- the first of two steps was not refused
 first-good : {A : Type 0} (x : Result A) (k : A → Result Occupation) → isGood (onResult x refused k) ≡ true → (a : A) × ((x ≡ ok a) × (isGood (k a) ≡ true))
@@ -92,23 +94,23 @@ printed o h = not-refused o (hasUnprintable (o .platform)) (hasUnprintable (o .u
 
 -- ---- its fields again
 
-module _ (n i : ℕ) (r : List ℕ) (w : Inside r (textRangeIn r i)) where
-  not-both : {A : Type 0} {e : Refusal} {t : Option (List ℕ)} → refused e ≡ textColumn n i r → textColumn n i r ≡ ok t → A
+module _ (k : Bool) (n i : ℕ) (r : List ℕ) (w : Inside r (textRangeIn k r i)) where
+  not-both : {A : Type 0} {e : Refusal} {t : Option (List ℕ)} → refused e ≡ textColumn k n i r → textColumn k n i r ≡ ok t → A
   not-both p q = absurd (false≢true (ap isGood (p ∙ q)))
 
-  pub text-again : {t : Option (List ℕ)} → textColumn n i r ≡ ok t → (t ≡ shownIn r (spanOf (textRangeIn r i))) × SpanIn (length r) n (spanOf (textRangeIn r i) .start) (spanOf (textRangeIn r i) .end)
-  text-again {t} h = go (textRangeIn r i) refl
+  pub text-again : {t : Option (List ℕ)} → textColumn k n i r ≡ ok t → (t ≡ shownIn r (spanOf (textRangeIn k r i))) × SpanIn (length r) n (spanOf (textRangeIn k r i) .start) (spanOf (textRangeIn k r i) .end)
+  text-again {t} h = go (textRangeIn k r i) refl
     where
       same : {x y : Option (List ℕ)} → ok x ≡ ok y → y ≡ x
       same e = sym cc
 
-      go : (q : VarlenRange) → q ≡ textRangeIn r i → (t ≡ shownIn r (spanOf q)) × SpanIn (length r) n (spanOf q .start) (spanOf q .end)
-      go Null e = (same (text-null n i r e ∙ h), null-in (length r) n)
-      go Outside e = not-both (text-outside n i r e) h
+      go : (q : VarlenRange) → q ≡ textRangeIn k r i → (t ≡ shownIn r (spanOf q)) × SpanIn (length r) n (spanOf q .start) (spanOf q .end)
+      go Null e = (same (text-null k n i r e ∙ h), null-in (length r) n)
+      go Outside e = not-both (text-outside k n i r e) h
       go (Bytes a z) e =
           let v : Inside r (Bytes a z) = subst (Inside r) (sym e) w in
-          cases n (z - a) (λ l. not-both (text-long n i r e v l) h)
-          (λ l. valid (isText (take (z - a) (drop a r))) (λ x. (same (text-good n i r e v l x ∙ h), text-in n i r e v l)) (λ x. not-both (text-bad n i r e v l x) h))
+          cases n (z - a) (λ l. not-both (text-long k n i r e v l) h)
+          (λ l. valid (isText (take (z - a) (drop a r))) (λ x. (same (text-good k n i r e v l x ∙ h), text-in k n i r e v l)) (λ x. not-both (text-bad k n i r e v l x) h))
         where
           valid : {P : Type 0} (b : Bool) → (b ≡ true → P) → (b ≡ false → P) → P
           valid true f g = f refl
@@ -118,31 +120,31 @@ pub moment-again : (m : MomentRead) {t : Option ℕ} → momentShown m ≡ ok t 
 moment-again (Moment.Good n) h w = (sym cc, w)
 moment-again (Moment.Refused e) h w = absurd (false≢true (ap isGood h))
 
-module _ (r : List ℕ) (w : Inside r (textRangeIn r 0)) (w' : Inside r (textRangeIn r 1)) (a d : MomentRead) (ea : momentShown a ≡ momentColumn 2 9 r) (ed : momentShown d ≡ momentColumn 3 17 r) (wa : MomentIn a) (wd : MomentIn d)
-    (h : isGood (occupationIn r) ≡ true) where
+module _ (k : Bool) (r : List ℕ) (w : Inside r (textRangeIn k r 0)) (w' : Inside r (textRangeIn k r 1)) (a d : MomentRead) (ea : momentShown a ≡ momentColumn 2 (arrivalPlace k) r) (ed : momentShown d ≡ momentColumn 3 (departurePlace k) r) (wa : MomentIn a) (wd : MomentIn d)
+    (h : isGood (occupationIn k r) ≡ true) where
   abbrev fields : Fields
   fields =
       record {
-        «platform_start» = spanOf (textRangeIn r 0) .start;
-        «platform_end» = spanOf (textRangeIn r 0) .end;
-        «unit_start» = spanOf (textRangeIn r 1) .start;
-        «unit_end» = spanOf (textRangeIn r 1) .end;
+        «platform_start» = spanOf (textRangeIn k r 0) .start;
+        «platform_end» = spanOf (textRangeIn k r 0) .end;
+        «unit_start» = spanOf (textRangeIn k r 1) .start;
+        «unit_end» = spanOf (textRangeIn k r 1) .end;
         arrival = countOf a;
         departure = countOf d;
       }
 
-  pub read-again : (ok (fieldsShown r fields) ≡ occupationIn r) × FieldsIn (length r) fields
+  pub read-again : (ok (fieldsShown r fields) ≡ occupationIn k r) × FieldsIn (length r) fields
   read-again =
-      let g = good-row r h in
-      let first = first-good (textColumn 16 0 r) (withUnit r) (ap isGood (g .1) ∙ h) in
-      let second = first-good (textColumn 64 1 r) (withArrival r (first .0)) (first .1 .1) in
-      let third = first-good (momentColumn 2 9 r) (withDeparture r (first .0) (second .0)) (second .1 .1) in
-      let fourth = first-good (momentColumn 3 17 r) (λ x. printable (record { platform = first .0; unit = second .0; arrival = third .0; departure = x })) (third .1 .1) in
-      let p = text-again 16 0 r w (first .1 .0) in
-      let u = text-again 64 1 r w' (second .1 .0) in
+      let g = good-row k r h in
+      let first = first-good (textColumn k 16 0 r) (withUnit k r) (ap isGood (g .1) ∙ h) in
+      let second = first-good (textColumn k 64 1 r) (withArrival k r (first .0)) (first .1 .1) in
+      let third = first-good (momentColumn 2 (arrivalPlace k) r) (withDeparture k r (first .0) (second .0)) (second .1 .1) in
+      let fourth = first-good (momentColumn 3 (departurePlace k) r) (λ x. printable (record { platform = first .0; unit = second .0; arrival = third .0; departure = x })) (third .1 .1) in
+      let p = text-again k 16 0 r w (first .1 .0) in
+      let u = text-again k 64 1 r w' (second .1 .0) in
       let x = moment-again a (ea ∙ third .1 .0) wa in
       let y = moment-again d (ed ∙ fourth .1 .0) wd in
       let o : Occupation = record { platform = first .0; unit = second .0; arrival = third .0; departure = fourth .0 } in
-      let whole : withPlatform r ≡ ok o
-      = taken (withUnit r) (first .1 .0) (taken (withArrival r (first .0)) (second .1 .0) (taken (withDeparture r (first .0) (second .0)) (third .1 .0) (taken _ (fourth .1 .0) (printed o (fourth .1 .1))))) in
+      let whole : withPlatform k r ≡ ok o
+      = taken (withUnit k r) (first .1 .0) (taken (withArrival k r (first .0)) (second .1 .0) (taken (withDeparture k r (first .0) (second .0)) (third .1 .0) (taken _ (fourth .1 .0) (printed o (fourth .1 .1))))) in
       (rw (← p .0, ← u .0, ← x .0, ← y .0) (sym whole ∙ g .1), record { platform-in = p .1; unit-in = u .1; arrival-in = x .1; departure-in = y .1 })

@@ -1,6 +1,6 @@
 -- For the proofs: a row read column after column.
-use Prim.Native.Nat.{ℕ, _≤_}
-use mathlib.Core.Bool.{false, cond}
+use Prim.Native.Nat.{ℕ, _+_, _*_, _≤_}
+use mathlib.Core.Bool.{Bool, false, cond}
 use mathlib.Core.List.{List}
 use mathlib.Core.Option.{Option}
 use lib.Dec.{eqb}
@@ -23,11 +23,23 @@ use Rattle.occupation.specs.declared.MomentRead.the-variants as Moment
 use Rattle.occupation.specs.Occupation.{Occupation, textIn, momentIn, printable}
 use Rattle.occupation.specs.InnerFields.{spanned, momentFrom, SpanIn, momentLimit}
 
+-- ---- the places of a row of sort k
+
+-- the slots of the two moments, which are behind a table of two offsets at byte 5, and the least length
+abbrev pub arrivalPlace : Bool → ℕ
+arrivalPlace k = 5 + 2 * offsetWidth k
+
+abbrev pub departurePlace : Bool → ℕ
+departurePlace k = arrivalPlace k + 8
+
+abbrev pub leastLength : Bool → ℕ
+leastLength k = departurePlace k + 8
+
 -- ---- one column
 
 -- where a text stands: a null by its bit or by its offset
-abbrev pub textRangeIn : List ℕ → ℕ → VarlenRange
-textRangeIn r i = cond (eqb (bitAt i (drop bitmapStart r)) 1) Null (varlenRange offsetWidth 5 2 i r)
+abbrev pub textRangeIn : Bool → List ℕ → ℕ → VarlenRange
+textRangeIn k r i = cond (eqb (bitAt i (drop bitmapStart r)) 1) Null (varlenRange (offsetWidth k) 5 2 i r)
 
 abbrev pub textOfRead : List ℕ → ColumnRead → Result (Option (List ℕ))
 textOfRead r (Column.Value v) = ok (textIn r v)
@@ -38,28 +50,29 @@ momentOfRead (Column.Value v) = ok (momentIn v)
 momentOfRead (Column.Refused e) = refused e
 
 -- column i, a text of at most n bytes, or a moment whose slot starts at byte `at`
-abbrev pub textColumn : ℕ → ℕ → List ℕ → Result (Option (List ℕ))
-textColumn n i r = textOfRead r (columnWith (Varchar false n) i r (varlenRange offsetWidth 5 2 i r) 0)
+abbrev pub textColumn : Bool → ℕ → ℕ → List ℕ → Result (Option (List ℕ))
+textColumn k n i r = textOfRead r (columnWith (Varchar false n) i r (varlenRange (offsetWidth k) 5 2 i r) 0)
 
 abbrev pub momentColumn : ℕ → ℕ → List ℕ → Result (Option ℕ)
 momentColumn i at r = momentOfRead (columnWith Timestamp i r Null at)
 
 -- ---- the columns one after the other
 
-abbrev pub withDeparture : List ℕ → Option (List ℕ) → Option (List ℕ) → Option ℕ → Result Occupation
-withDeparture r platform unit arrival =
-    onResult (momentColumn 3 17 r) refused
+abbrev pub withDeparture : Bool → List ℕ → Option (List ℕ) → Option (List ℕ) → Option ℕ → Result Occupation
+withDeparture k r platform unit arrival =
+    onResult (momentColumn 3 (departurePlace k) r) refused
     (λ departure. printable
     (record { platform = platform; unit = unit; arrival = arrival; departure = departure }))
 
-abbrev pub withArrival : List ℕ → Option (List ℕ) → Option (List ℕ) → Result Occupation
-withArrival r platform unit = onResult (momentColumn 2 9 r) refused (withDeparture r platform unit)
+abbrev pub withArrival : Bool → List ℕ → Option (List ℕ) → Option (List ℕ) → Result Occupation
+withArrival k r platform unit =
+    onResult (momentColumn 2 (arrivalPlace k) r) refused (withDeparture k r platform unit)
 
-abbrev pub withUnit : List ℕ → Option (List ℕ) → Result Occupation
-withUnit r platform = onResult (textColumn 64 1 r) refused (withArrival r platform)
+abbrev pub withUnit : Bool → List ℕ → Option (List ℕ) → Result Occupation
+withUnit k r platform = onResult (textColumn k 64 1 r) refused (withArrival k r platform)
 
-abbrev pub withPlatform : List ℕ → Result Occupation
-withPlatform r = onResult (textColumn 16 0 r) refused (withUnit r)
+abbrev pub withPlatform : Bool → List ℕ → Result Occupation
+withPlatform k r = onResult (textColumn k 16 0 r) refused (withUnit k r)
 
 -- ---- what the code hands on
 

@@ -7,7 +7,7 @@ use lib.Dec.{eqb, ltb}
 use lib.ListN.{length, getD}
 use Rattle.error.specs.declared.Refusal.the-variants.{Unprintable}
 use Rattle.error.specs.Result.{Result, ok, refused, onResult}
-use Rattle.row_format.specs.Places.{offsetWidth, rowLimit}
+use Rattle.row_format.specs.Places.{offsetWidth}
 use Rattle.datatype.specs.declared.DataType.{DataType}
 use Rattle.datatype.specs.declared.DataType.the-variants.{Varchar, Timestamp}
 use Rattle.value.specs.declared.DataValue.{DataValue}
@@ -73,9 +73,10 @@ printable o =
     cond (hasUnprintable (o .platform)) (refused (Unprintable 0))
     (cond (hasUnprintable (o .unit)) (refused (Unprintable 1)) (ok o))
 
--- "the reading refusals", which are those of a read of all columns; "17, after those of its row"
-abbrev pub occupationIn : List ℕ → Result Occupation
-occupationIn r =
-    onFrame (frameOf offsetWidth rowLimit columns r) refused
-    (λ p. onResult (readFrom offsetWidth p columns (λ i. true) r 0 (length columns)) refused
+-- "the reading refusals", which are those of a read of all columns; "17, after those of its row".
+-- The row is taken as of sort k.
+abbrev pub occupationIn : Bool → List ℕ → Result Occupation
+occupationIn k r =
+    onFrame (frameOf k columns r) refused
+    (λ p. onResult (readFrom (offsetWidth k) p columns (λ i. true) r 0 (length columns)) refused
     (λ vs. printable (occupationOf r vs)))

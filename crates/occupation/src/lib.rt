@@ -1,6 +1,6 @@
 // One row of the printed list: what is read of it, whether it can be printed, its place in the order, and its line.
 // The columns are platform Varchar(16), unit Varchar(64), arrival Timestamp, departure Timestamp. A padded row has its
-// two slots where a packed one has them, at bytes 9 and 17.
+// two slots where a packed one has them, at bytes 9 and 17 of a short row and at 13 and 21 of a long one.
 use calendar::Moment;
 use error::Refusal;
 use row_column::Frame;
@@ -18,7 +18,7 @@ ghost use Rattle.occupation.specs.Occupation.{isUnprintable, printable, 
 ghost use Rattle.occupation.specs.Order.{bytesBefore, nullFirst, precedes};
 ghost use Rattle.occupation.specs.Line.{quoted, orHyphen, line};
 ghost use Rattle.occupation.specs.InnerFields.{spanned, momentFrom, fieldsShown, readShown, momentLimit, SpanIn, ShortTexts, FieldsIn, ReadIn, isGood, textLength, momentLength, lineLength, textField, momentField};
-ghost use Rattle.occupation.specs.InnerRead.{textRangeIn, textColumn, momentColumn, shownIn, textShown, momentShown, spanOf, countOf, TextIn, MomentIn, withPlatform, withUnit, withArrival, withDeparture};
+ghost use Rattle.occupation.specs.InnerRead.{arrivalPlace, leastLength, textRangeIn, textColumn, momentColumn, shownIn, textShown, momentShown, spanOf, countOf, TextIn, MomentIn, withPlatform, withUnit, withArrival, withDeparture};
 ghost use Rattle.occupation.specs.InnerCompare.{Agree, comparison};
 
 // Where the texts of a row stand in it, from 0 up to 0 for a null; and its moments, in microseconds from the year 1 on
@@ -53,24 +53,31 @@ enum MomentRead {
     Refused(Refusal),
 }
 
+// Where the slot of the arrival starts; that of the departure is behind it.
+fn arrival_place(is_long: bool) -> usize
+    ensures { λ r. ⌜ r ≡ arrivalPlace «is_long» ⌝ }
+{
+    if is_long { 13 } else { 9 }
+}
+
 // What the bitmap and the offsets say of a text.
-fn text_range(row: &[u8], column: usize) -> VarlenRange
-    requires { ⌜ (column < 2) × (25 ≤ length (now row)) ⌝ }
-    ensures { λ r. ⌜ (r ≡ textRangeIn (now (row .entry)) column) × Inside (now (row .entry)) r ⌝ }
+fn text_range(row: &[u8], is_long: bool, column: usize) -> VarlenRange
+    requires { ⌜ (column < 2) × (leastLength «is_long» ≤ length (now row)) ⌝ }
+    ensures { λ r. ⌜ (r ≡ textRangeIn «is_long» (now (row .entry)) column) × Inside (now (row .entry)) r ⌝ }
 {
     if null_bitmap::column_bit_is_set(row, column) {
         return VarlenRange::Null;
     }
-    row_layout::varlen_range(row, 5, 2, column)
+    row_layout::varlen_range(row, is_long, 5, 2, column)
 }
 
 // A text of at most n bytes.
-fn read_text(row: &[u8], column: usize, n: usize) -> TextRead
-    requires { ⌜ (column < 2) × (25 ≤ length (now row)) ⌝ }
-    ensures { λ r. ⌜ (textShown (now (row .entry)) r ≡ textColumn n column (now (row .entry)))
+fn read_text(row: &[u8], is_long: bool, column: usize, n: usize) -> TextRead
+    requires { ⌜ (column < 2) × (leastLength «is_long» ≤ length (now row)) ⌝ }
+    ensures { λ r. ⌜ (textShown (now (row .entry)) r ≡ textColumn «is_long» n column (now (row .entry)))
         × TextIn (length (now (row .entry))) n r ⌝ }
 {
-    match text_range(row, column) {
+    match text_range(row, is_long, column) {
         VarlenRange::Null => TextRead::Good(Span { start: 0, end: 0 }),
         VarlenRange::Outside => TextRead::Refused(Refusal::BadRange(column)),
         VarlenRange::Bytes(start, end) => {
@@ -131,14 +138,15 @@ fn check_texts(row: &[u8], f: Fields) -> FieldsRead
     FieldsRead::Good(f)
 }
 
-fn read_departure(row: &[u8], platform: Span, unit: Span, arrival: u64) -> FieldsRead
-    requires { ⌜ (25 ≤ length (now row)) × (SpanIn (length (now row)) 16 (platform .start) (platform .end)
+fn read_departure(row: &[u8], is_long: bool, platform: Span, unit: Span, arrival: u64) -> FieldsRead
+    requires { ⌜ (leastLength «is_long» ≤ length (now row))
+        × (SpanIn (length (now row)) 16 (platform .start) (platform .end)
         × (SpanIn (length (now row)) 64 (unit .start) (unit .end) × (arrival ≤ momentLimit))) ⌝ }
     ensures { λ r. ⌜ (readShown (now (row .entry)) r
-        ≡ withDeparture (now (row .entry)) (shownIn (now (row .entry)) platform) (shownIn (now (row .entry)) unit)
-        (momentFrom arrival)) × ReadIn (length (now (row .entry))) r ⌝ }
+        ≡ withDeparture «is_long» (now (row .entry)) (shownIn (now (row .entry)) platform)
+        (shownIn (now (row .entry)) unit) (momentFrom arrival)) × ReadIn (length (now (row .entry))) r ⌝ }
 {
-    match read_moment(row, 3, 17) {
+    match read_moment(row, 3, arrival_place(is_long) + 8) {
         MomentRead::Refused(e) => FieldsRead::Refused(e),
         MomentRead::Good(departure) => {
             let fields = Fields {
@@ -154,44 +162,48 @@ fn read_departure(row: &[u8], platform: Span, unit: Span, arrival: u64) -> Field
     }
 }
 
-fn read_arrival(row: &[u8], platform: Span, unit: Span) -> FieldsRead
-    requires { ⌜ (25 ≤ length (now row)) × (SpanIn (length (now row)) 16 (platform .start) (platform .end)
+fn read_arrival(row: &[u8], is_long: bool, platform: Span, unit: Span) -> FieldsRead
+    requires { ⌜ (leastLength «is_long» ≤ length (now row))
+        × (SpanIn (length (now row)) 16 (platform .start) (platform .end)
         × SpanIn (length (now row)) 64 (unit .start) (unit .end)) ⌝ }
     ensures { λ r. ⌜ (readShown (now (row .entry)) r
-        ≡ withArrival (now (row .entry)) (shownIn (now (row .entry)) platform) (shownIn (now (row .entry)) unit))
+        ≡ withArrival «is_long» (now (row .entry)) (shownIn (now (row .entry)) platform)
+        (shownIn (now (row .entry)) unit))
         × ReadIn (length (now (row .entry))) r ⌝ }
 {
-    match read_moment(row, 2, 9) {
+    match read_moment(row, 2, arrival_place(is_long)) {
         MomentRead::Refused(e) => FieldsRead::Refused(e),
-        MomentRead::Good(arrival) => read_departure(row, platform, unit, arrival),
+        MomentRead::Good(arrival) => read_departure(row, is_long, platform, unit, arrival),
     }
 }
 
-fn read_unit(row: &[u8], platform: Span) -> FieldsRead
-    requires { ⌜ (25 ≤ length (now row)) × SpanIn (length (now row)) 16 (platform .start) (platform .end) ⌝ }
+fn read_unit(row: &[u8], is_long: bool, platform: Span) -> FieldsRead
+    requires { ⌜ (leastLength «is_long» ≤ length (now row))
+        × SpanIn (length (now row)) 16 (platform .start) (platform .end) ⌝ }
     ensures { λ r. ⌜ (readShown (now (row .entry)) r
-        ≡ withUnit (now (row .entry)) (shownIn (now (row .entry)) platform)) × ReadIn (length (now (row .entry))) r ⌝ }
-{
-    match read_text(row, 1, 64) {
-        TextRead::Refused(e) => FieldsRead::Refused(e),
-        TextRead::Good(unit) => read_arrival(row, platform, unit),
-    }
-}
-
-fn read_columns(row: &[u8]) -> FieldsRead
-    requires { ⌜ 25 ≤ length (now row) ⌝ }
-    ensures { λ r. ⌜ (readShown (now (row .entry)) r ≡ withPlatform (now (row .entry)))
+        ≡ withUnit «is_long» (now (row .entry)) (shownIn (now (row .entry)) platform))
         × ReadIn (length (now (row .entry))) r ⌝ }
 {
-    match read_text(row, 0, 16) {
+    match read_text(row, is_long, 1, 64) {
         TextRead::Refused(e) => FieldsRead::Refused(e),
-        TextRead::Good(platform) => read_unit(row, platform),
+        TextRead::Good(unit) => read_arrival(row, is_long, platform, unit),
+    }
+}
+
+fn read_columns(row: &[u8], is_long: bool) -> FieldsRead
+    requires { ⌜ leastLength «is_long» ≤ length (now row) ⌝ }
+    ensures { λ r. ⌜ (readShown (now (row .entry)) r ≡ withPlatform «is_long» (now (row .entry)))
+        × ReadIn (length (now (row .entry))) r ⌝ }
+{
+    match read_text(row, is_long, 0, 16) {
+        TextRead::Refused(e) => FieldsRead::Refused(e),
+        TextRead::Good(platform) => read_unit(row, is_long, platform),
     }
 }
 
 // The fields of a row, or why it is not printed.
-pub fn read(row: &[u8]) -> FieldsRead
-    ensures { λ r. ⌜ (readShown (now (row .entry)) r ≡ occupationIn (now (row .entry)))
+pub fn read(row: &[u8], is_long: bool) -> FieldsRead
+    ensures { λ r. ⌜ (readShown (now (row .entry)) r ≡ occupationIn «is_long» (now (row .entry)))
         × ReadIn (length (now (row .entry))) r ⌝ }
 {
     let layout = RowLayout {
@@ -199,10 +211,11 @@ pub fn read(row: &[u8]) -> FieldsRead
         num_varlen_cols: 2,
         packed_size: 16,
         padded_size: 16,
+        is_long,
     };
     match row_column::check_frame(layout, row) {
         Frame::Refused(e) => FieldsRead::Refused(e),
-        Frame::Good(_) => read_columns(row),
+        Frame::Good(_) => read_columns(row, is_long),
     }
 }
 
@@ -226,20 +239,21 @@ fn count_of(moment: MomentRead) -> u64
 }
 
 // The fields of a row that `read` did not refuse, without its tests of the texts.
-pub fn fields_of(row: &[u8]) -> Fields
-    requires { ⌜ isGood (occupationIn (now row)) ≡ true ⌝ }
-    ensures { λ r. ⌜ (ok (fieldsShown (now (row .entry)) r) ≡ occupationIn (now (row .entry)))
+pub fn fields_of(row: &[u8], is_long: bool) -> Fields
+    requires { ⌜ isGood (occupationIn «is_long» (now row)) ≡ true ⌝ }
+    ensures { λ r. ⌜ (ok (fieldsShown (now (row .entry)) r) ≡ occupationIn «is_long» (now (row .entry)))
         × FieldsIn (length (now (row .entry))) r ⌝ }
 {
-    let platform = span_of(text_range(row, 0));
-    let unit = span_of(text_range(row, 1));
+    let platform = span_of(text_range(row, is_long, 0));
+    let unit = span_of(text_range(row, is_long, 1));
+    let at = arrival_place(is_long);
     Fields {
         platform_start: platform.start,
         platform_end: platform.end,
         unit_start: unit.start,
         unit_end: unit.end,
-        arrival: count_of(read_moment(row, 2, 9)),
-        departure: count_of(read_moment(row, 3, 17)),
+        arrival: count_of(read_moment(row, 2, at)),
+        departure: count_of(read_moment(row, 3, at + 8)),
     }
 }
 

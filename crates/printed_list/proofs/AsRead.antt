@@ -1,10 +1,9 @@
 -- A row is refused as a read of all of its columns.
 use Prim.Native.Nat.{ℕ}
-use mathlib.Core.Path.{_≡_, refl, sym, ap, _∙_}
+use mathlib.Core.Path.{_≡_, refl, sym, ap}
 use mathlib.Core.Logic.{_↔_}
 use mathlib.Core.Bool.{Bool, true, false, cond, false≢true, _||_}
 use mathlib.Core.List.{List, map}
-use native.Mathlib.Omega.{arith}
 use lib.Dec.{ltb}
 use lib.ListN.{length}
 use lib.Seq.{sets}
@@ -14,20 +13,20 @@ use Rattle.error.specs.declared.Answer.{Answer}
 use Rattle.error.specs.declared.Answer.the-variants as Answer
 use Rattle.error.specs.Refusal.{numberOf}
 use Rattle.error.specs.Result.{Result, ok, refused, onResult}
-use Rattle.error.specs.Answer.{Counted, unchangedBoth, placedBoth}
-use Rattle.row_format.specs.Places.{offsetWidth, rowLimit}
+use Rattle.error.specs.Answer.{Counted, unchangedBoth}
+use Rattle.row_format.specs.Places.{offsetWidth}
 use Rattle.datatype.specs.Schema.{schemaOf}
 use Rattle.value_list.specs.Lists.{Values, listOf}
 use Rattle.stored_form.specs.Points.{pointsIn}
 use Rattle.row_column.specs.declared.Frame.{Frame}
 use Rattle.row_column.specs.declared.Frame.the-variants as Frame
 use Rattle.row_column.specs.Frame.{frameOf, onFrame}
-use Rattle.row_decode.specs.Read.{readFrom, handOut, readRow, readCall}
-use Rattle.occupation.specs.Occupation.{Occupation, columns, occupationOf, hasUnprintable, printable, occupationIn}
+use Rattle.row_decode.specs.Read.{readFrom, handOut, readCall}
+use Rattle.occupation.specs.Occupation.{Occupation, columns, occupationOf, hasUnprintable, printable}
 use Rattle.occupation.specs.InnerFields.{isGood}
 use Rattle.printed_list.specs.AsRead.{occupationSchema, allColumns, RefusedAsRead}
 
-columns-are : schemaOf offsetWidth rowLimit occupationSchema ≡ ok columns
+columns-are : schemaOf false occupationSchema ≡ ok columns
 unfolding schemaOf
 columns-are = refl
 
@@ -62,22 +61,22 @@ module _ (r out counts : List ℕ) (e : Refusal) where
     refused-alike : (q : Refusal) → Same (refused q) (unchangedBoth out counts q)
     refused-alike q = (λ h. ap (unchangedBoth out counts) (same-refusal h), λ h. ap refused (same-answer h))
 
-    by-values : (v : Values) → Same (onResult v refused (λ vs. printable (occupationOf r vs))) (handOut out counts r v)
+    by-values : (v : Values) → Same (onResult v refused (λ vs. printable (occupationOf r vs))) (handOut false out counts r v)
     by-values (refused q) = refused-alike q
     by-values (ok vs) = (
       λ h. absurd (m (not-printable (hasUnprintable (occupationOf r vs .platform)) (hasUnprintable (occupationOf r vs .unit)) (occupationOf r vs) h)),
-      λ h. absurd (n (no-room (ltb (length out) (length (listOf vs)) || ltb (length counts) (length (map (pointsIn r) vs))) (length (listOf vs)) (out, counts) (sets out 0 (listOf vs), sets counts 0 (map (pointsIn r) vs)) h)),
+      λ h. absurd (n (no-room (ltb (length out) (length (listOf false vs)) || ltb (length counts) (length (map (pointsIn r) vs))) (length (listOf false vs)) (out, counts) (sets out 0 (listOf false vs), sets counts 0 (map (pointsIn r) vs)) h)),
     )
 
-    by-frame : (f : Frame) → Same (onFrame f refused (λ p. onResult (readFrom offsetWidth p columns (λ i. true) r 0 (length columns)) refused (λ vs. printable (occupationOf r vs))))
-        (onFrame f (unchangedBoth out counts) (λ p. handOut out counts r (readFrom offsetWidth p columns (λ i. true) r 0 (length columns))))
-    by-frame (Frame.Good p) = by-values (readFrom offsetWidth p columns (λ i. true) r 0 (length columns))
+    by-frame : (f : Frame) → Same (onFrame f refused (λ p. onResult (readFrom (offsetWidth false) p columns (λ i. true) r 0 (length columns)) refused (λ vs. printable (occupationOf r vs))))
+        (onFrame f (unchangedBoth out counts) (λ p. handOut false out counts r (readFrom (offsetWidth false) p columns (λ i. true) r 0 (length columns))))
+    by-frame (Frame.Good p) = by-values (readFrom (offsetWidth false) p columns (λ i. true) r 0 (length columns))
     by-frame (Frame.Refused q) = refused-alike q
 
 -- all four columns are wanted, so the read is that of the definition
-read-is : (r out counts : List ℕ) → readCall offsetWidth rowLimit occupationSchema r allColumns out counts
-    ≡ onFrame (frameOf offsetWidth rowLimit columns r) (unchangedBoth out counts) (λ p. handOut out counts r (readFrom offsetWidth p columns (λ i. true) r 0 (length columns)))
+read-is : (r out counts : List ℕ) → readCall false occupationSchema r allColumns out counts
+    ≡ onFrame (frameOf false columns r) (unchangedBoth out counts) (λ p. handOut false out counts r (readFrom (offsetWidth false) p columns (λ i. true) r 0 (length columns)))
 read-is r out counts = rw columns-are
 
 pub refused-as-read : RefusedAsRead
-refused-as-read r out counts e n m = rw (read-is r out counts) (by-frame r out counts e n m (frameOf offsetWidth rowLimit columns r))
+refused-as-read r out counts e n m = rw (read-is r out counts) (by-frame r out counts e n m (frameOf false columns r))

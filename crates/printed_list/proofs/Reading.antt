@@ -20,7 +20,7 @@ use Rattle.text_limit.specs.Limit.{fitsText}
 use Rattle.text_limit.proofs.Limits.{fits-size, fits-valid}
 use Rattle.temporal.specs.Ranges.{isTimestamp}
 use Rattle.row_format.specs.Places.{bitmapStart, offsetWidth, rowLimit, varlens, rankOf, tableStart, slotPlace, minimum}
-use Rattle.row_format.specs.Row.{packedFlag}
+use Rattle.row_format.specs.Row.{leastMark}
 use Rattle.row_layout.specs.declared.VarlenRange.{VarlenRange}
 use Rattle.row_layout.specs.declared.VarlenRange.the-variants as Range
 use Rattle.datatype.specs.declared.DataType.the-variants.{Varchar, Timestamp}
@@ -103,15 +103,15 @@ on-column (none e) g f = bad e
 abbrev MomentAt : ℕ → List DataValue → Type 0
 MomentAt k vs = NullOrInYears (momentIn (getD vs k D.Null))
 
-module _ (p : Bool) (r : List ℕ) where
+module _ (k p : Bool) (r : List ℕ) where
   -- the range of column i, and its place
   abbrev range-at : ℕ → VarlenRange
-  range-at i = varlenRange offsetWidth (tableStart (length columns)) (varlens (map shapeOf columns)) (rankOf (map shapeOf columns) i) r
+  range-at i = varlenRange (offsetWidth k) (tableStart (length columns)) (varlens (map shapeOf columns)) (rankOf (map shapeOf columns) i) r
 
   abbrev place-at : ℕ → ℕ
-  place-at i = slotPlace offsetWidth p (map shapeOf columns) i
+  place-at i = slotPlace (offsetWidth k) p (map shapeOf columns) i
 
-  read-sized : Gives (λ vs. InLimits (occupationOf r vs)) OfList (readFrom offsetWidth p columns (λ i. true) r 0 (length columns))
+  read-sized : Gives (λ vs. InLimits (occupationOf r vs)) OfList (readFrom (offsetWidth k) p columns (λ i. true) r 0 (length columns))
   read-sized =
       on-column {S = λ vs. InLimits (occupationOf r vs)} (text-column 0 (omega arith) r 16 (range-at 0) (place-at 0))
       (on-column {S = λ vs. Text r 64 (getD vs 0 D.Null) × MomentAt 1 vs × MomentAt 2 vs}
@@ -137,31 +137,31 @@ module _ {B : Type 0} (S : B → Type 0) (k : Bool → Result B) (f : (p : Bool)
   abbrev Goes : Frame → Type 0
   Goes q = Gives S OfList (onFrame q refused k)
 
-  on-frame : (limit n v : ℕ) (least : Bool → ℕ) (r : List ℕ) → length r ≤ limit → Goes (frameWith limit n v least r)
-  on-frame limit n v least r h =
+  on-frame : (s : Bool) (n v : ℕ) (least : Bool → ℕ) (r : List ℕ) → length r ≤ rowLimit s → Goes (frameWith s n v least r)
+  on-frame s n v least r h =
       let sized = cond (ltb (length r) (least (isPacked r))) (Header.Refused RowTooShort) (Header.Good (isPacked r)) in
-      let varchars = cond (eqb (varlenField r % packedFlag) v) sized (Header.Refused WrongVarlenCount) in
+      let varchars = cond (eqb (varlenField r % leastMark s) v) sized (Header.Refused WrongVarlenCount) in
       let counted = cond (eqb (columnCount r) n) varchars (Header.Refused WrongColumnCount) in
-      by-cond Goes (ltb limit (length r)) (Header.Refused RowTooLong) (cond (ltb (length r) 4) (Header.Refused RowTooShort) counted)
-      (λ t. let l = ltb-true limit (length r) t in absurd (omega arith))
+      by-cond Goes (ltb (rowLimit s) (length r)) (Header.Refused RowTooLong) (cond (ltb (length r) 4) (Header.Refused RowTooShort) counted)
+      (λ t. let l = ltb-true (rowLimit s) (length r) t in absurd (omega arith))
       (λ t. by-cond Goes (ltb (length r) 4) (Header.Refused RowTooShort) counted (λ t. bad short)
       (λ t. by-cond Goes (eqb (columnCount r) n) varchars (Header.Refused WrongColumnCount)
-      (λ t. by-cond Goes (eqb (varlenField r % packedFlag) v) sized (Header.Refused WrongVarlenCount)
+      (λ t. by-cond Goes (eqb (varlenField r % leastMark s) v) sized (Header.Refused WrongVarlenCount)
       (λ t. by-cond Goes (ltb (length r) (least (isPacked r))) (Header.Refused RowTooShort) (Header.Good (isPacked r))
       (λ t. bad short) (λ t. f (isPacked r)))
       (λ t. bad R.varchars))
       (λ t. bad R.columns)))
 
-pub occupation-in : (r : List ℕ) → length r ≤ rowLimit → Gives Printable OfList (occupationIn r)
-occupation-in r h =
+pub occupation-in : (k : Bool) (r : List ℕ) → length r ≤ rowLimit k → Gives Printable OfList (occupationIn k r)
+occupation-in k r h =
     on-frame Printable _
-    (λ p. on-result (λ vs. printable (occupationOf r vs)) (read-sized p r) (λ vs s. printed (occupationOf r vs) s))
-    rowLimit (length columns) (varlens (map shapeOf columns)) (λ p. minimum offsetWidth p (map shapeOf columns)) r h
+    (λ p. on-result (λ vs. printable (occupationOf r vs)) (read-sized k p r) (λ vs s. printed (occupationOf r vs) s))
+    k (length columns) (varlens (map shapeOf columns)) (λ p. minimum (offsetWidth k) p (map shapeOf columns)) r h
 
 pub good-printable : ReadPrintable
 good-printable r o e =
-    cases rowLimit (length r) (λ l. absurd (false≢true (ap isGood (rw (lt-ltb rowLimit (length r) l) at e))))
-    (λ l. of-good (occupation-in r l) e)
+    cases (rowLimit false) (length r) (λ l. absurd (false≢true (ap isGood (rw (lt-ltb (rowLimit false) (length r) l) at e))))
+    (λ l. of-good (occupation-in false r l) e)
 
 -- ---- row by row
 
@@ -169,10 +169,10 @@ pub record Good (n : ℕ) (os : List Occupation) : Type 0 where
   pub count : length os ≤ n
   pub all : Every Printable os
 
-rows-read : (rs : List (List ℕ)) → Every (λ r. length r ≤ rowLimit) rs → Gives (Good (length rs)) OfList (occupationsIn rs)
+rows-read : (rs : List (List ℕ)) → Every (λ r. length r ≤ rowLimit false) rs → Gives (Good (length rs)) OfList (occupationsIn rs)
 rows-read [] e = good {x = []} (record { count = omega arith; all = tt })
 rows-read (r ∷ rs) e =
-    on-result (λ o. before o (occupationsIn rs)) (occupation-in r (e .0))
+    on-result (λ o. before o (occupationsIn rs)) (occupation-in false r (e .0))
     (λ o p. before-good o (rows-read rs (e .1)) (λ os g. record { count = omega (arith, g .count); all = (p, g .all) }))
 
 pub list-read : (list : List ℕ) → Gives (Good rowCountLimit) OfList (occupationsOf list)
@@ -180,5 +180,5 @@ list-read list =
     on-result occupationsIn (rows-of rowCountLimit list)
     (λ rs k.
     let l = k .limit in
-    good-map (rows-read rs (every-map (λ r. length r ≤ length list) (λ r. length r ≤ rowLimit) rs (λ r h. omega arith) (k .rows .short)))
+    good-map (rows-read rs (every-map (λ r. length r ≤ length list) (λ r. length r ≤ rowLimit false) rs (λ r h. omega arith) (k .rows .short)))
     (λ os g. record { count = omega (arith, g .count, k .rows .count); all = g .all }))

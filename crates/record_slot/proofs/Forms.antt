@@ -13,7 +13,6 @@ use mir.ValLaws.{ofZ-toZ}
 use Rattle.error.specs.declared.Refusal.the-variants.{BadValueList, WrongKind, Unsuitable}
 use Rattle.error.specs.declared.Answer.the-variants as Answer
 use Rattle.laws.proofs.Truths.{both, cases}
-use Rattle.row_format.specs.Places.{offsetWidth, rowLimit}
 use Rattle.text_limit.specs.Limit.{sizeBy, fitsText}
 use Rattle.text_limit.proofs.Limits.{fits-size, fits-valid}
 use Rattle.bit_utils.specs.Bits.{bytesFor}
@@ -254,8 +253,8 @@ module _ {s : List ℕ} {at : ℕ} {list : List ℕ} {from : ℕ} (r : Readable 
   by-type = body-of list (from + 1) t n (told s at (read-at r .type-is) .1)
 
   -- its bytes in the offset table, by its kind
-  pub entry-bytes : {j z : ℕ} → j ≡ heldKind (columnKind (getD s at 0)) → z ≡ cond (eqb j 9) offsetWidth 0 → z ≡ cond (isVarlen t) offsetWidth 0
-  entry-bytes e f = f ∙ ap (λ (m : ℕ). cond (eqb m 9) offsetWidth 0) (e ∙ told s at (read-at r .type-is) .0) ∙ ap (λ (b : Bool). cond b offsetWidth 0) (sym (varlen-kind t))
+  pub entry-bytes : (w : ℕ) {j z : ℕ} → j ≡ heldKind (columnKind (getD s at 0)) → z ≡ cond (eqb j 9) w 0 → z ≡ cond (isVarlen t) w 0
+  entry-bytes w e f = f ∙ ap (λ (m : ℕ). cond (eqb m 9) w 0) (e ∙ told s at (read-at r .type-is) .0) ∙ ap (λ (b : Bool). cond b w 0) (sym (varlen-kind t))
 
   pub within-at : (j : ℕ) → k ≡ j → from + 1 + bodyLength j ≤ length list
   within-at j e = subst (λ (m : ℕ). from + 1 + bodyLength m ≤ length list) e (body-within r)
@@ -328,10 +327,10 @@ module _ {s : List ℕ} {at : ℕ} {list : List ℕ} {from : ℕ} (r : Readable 
               by-shape true g = size-varchar i t v area (is-value z) held-matches suited g
               by-shape false g = size-fixed i t v area (is-value z) held-matches suited g
 
-          pub found-short : length area ≤ rowLimit → payloadLength k list (from + 1) ≤ rowLimit
+          pub found-short : length area ≤ 1048576 → payloadLength k list (from + 1) ≤ 1048576
           found-short l = rw held-size (by-shape (isVarlen t))
             where
-              by-shape : (o : Bool) → cond o (rangeOf v .length) 0 ≤ rowLimit
+              by-shape : (o : Bool) → cond o (rangeOf v .length) 0 ≤ 1048576
               by-shape true = payload-short t v area held-matches suited l
               by-shape false = omega arith
 

@@ -11,7 +11,6 @@ use Rattle.error.specs.declared.Refusal.{Refusal}
 use Rattle.error.specs.declared.Refusal.the-variants.{WrongKind, Unsuitable}
 use Rattle.error.specs.declared.Answer.the-variants as Answer
 use Rattle.error.specs.Result.{Result, ok, refused}
-use Rattle.row_format.specs.Places.{rowLimit}
 use Rattle.row_format.specs.Table.{Cell, bytes}
 use Rattle.datatype.specs.declared.DataType.{DataType}
 use Rattle.datatype.specs.Types.{sizeOf, isVarlen}
@@ -41,7 +40,7 @@ module _ (t : DataType) (v : DataValue) (area : List ℕ) (m : matches t v ≡ t
   pub length-payload : isVarlen t ≡ true → length form ≡ rangeOf v .length
   length-payload f = length-stored t v (textOf area v) m (accepted-suits t v area a) ∙ rw (f, length-part area (rangeOf v) (accepted-inside t v area a))
 
-  pub payload-short : length area ≤ rowLimit → rangeOf v .length ≤ rowLimit
+  pub payload-short : length area ≤ 1048576 → rangeOf v .length ≤ 1048576
   payload-short h = omega (arith, accepted-inside t v area a)
 
 -- ---- the four outcomes

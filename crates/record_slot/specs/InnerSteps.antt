@@ -13,7 +13,6 @@ use Rattle.error.specs.declared.Answer.{Answer}
 use Rattle.error.specs.declared.Answer.the-variants as Answer
 use Rattle.error.specs.Result.{Result, ok, refused}
 use Rattle.laws.specs.Bytes.{toLe}
-use Rattle.row_format.specs.Places.{rowLimit}
 use Rattle.row_format.specs.Table.{Cell, bytes}
 use Rattle.text.specs.Rfc3629.{isText}
 use Rattle.text_limit.specs.Limit.{fitsText}
@@ -142,8 +141,9 @@ payloadIn i s at list from area =
     payloadAnswer (typeIn (columnRecordAt s at))
     (cellIn i (typeIn (columnRecordAt s at)) (valueIn (valueRecordAt list from)) area)
 
+-- no more than a text area has, of either sort
 abbrev pub Short : Answer → Type 0
-Short (Answer.Done n) = n ≤ rowLimit
+Short (Answer.Done n) = n ≤ 1048576
 Short (Answer.Refused e) = Unit {0}
 
 -- ---- the stored form

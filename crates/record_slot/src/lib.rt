@@ -10,7 +10,7 @@ ghost use mathlib.Core.Bool.{true, false, cond};
 ghost use lib.Dec.{eqb};
 ghost use lib.ListN.{length};
 ghost use lib.Seq.{sets};
-ghost use Rattle.row_format.specs.Places.{offsetWidth, rowLimit};
+ghost use Rattle.row_format.specs.Places.{offsetWidth};
 ghost use Rattle.text.specs.Check.{points};
 ghost use Rattle.bit_utils.specs.Bits.{bytesFor};
 ghost use Rattle.datatype.specs.Types.{sizeOf};
@@ -140,7 +140,7 @@ pub fn payload_at(
     from: usize,
     text: &[u8],
 ) -> Answer
-    requires { ⌜ Readable (now schema) at (now values) from × (length (now text) ≤ rowLimit) ⌝ }
+    requires { ⌜ Readable (now schema) at (now values) from × (length (now text) ≤ 1048576) ⌝ }
     ensures { λ r. ⌜ (r ≡ payloadIn column (now (schema .entry)) at (now (values .entry)) from (now (text .entry)))
         × Short r ⌝ }
 {
@@ -186,11 +186,11 @@ pub fn slot_size(schema: &[u8], at: usize) -> usize
 }
 
 // The bytes in the offset table of a column that holds values of a kind.
-pub fn entry_size(kind: u8) -> usize
-    ensures { λ r. ⌜ (r ≡ cond (eqb kind 9) offsetWidth 0) × (r ≤ 2) ⌝ }
+pub fn entry_size(kind: u8, is_long: bool) -> usize
+    ensures { λ r. ⌜ (r ≡ cond (eqb kind 9) (offsetWidth «is_long») 0) × (r ≤ 4) ⌝ }
 {
     if kind == value_kinds::VARCHAR {
-        return 2;
+        return row_layout::offset_width(is_long);
     }
     0
 }

@@ -13,6 +13,7 @@ fn same_built(schema: &[u8], values: &[u8], area: &[u8], answer: &[u8]) -> bool 
     let mut counts = [0; 256];
     let r = answered(row_build::serialize_nullable_typed_row(
         schema,
+        false,
         values,
         area,
         &mut out,
@@ -23,7 +24,7 @@ fn same_built(schema: &[u8], values: &[u8], area: &[u8], answer: &[u8]) -> bool 
 
 fn same_fresh(schema: &[u8], answer: &[u8]) -> bool {
     let mut out = [0; 2048];
-    let r = answered(row_build::fresh(schema, &mut out));
+    let r = answered(row_build::fresh(schema, false, &mut out));
     same_handed(r.number, r.length, &out, answer)
 }
 

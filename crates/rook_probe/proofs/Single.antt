@@ -8,7 +8,6 @@ use borrow.Author.Tests.{eqb-true}
 use lib.ListN.{length, drop, length-drop}
 use lib.Seq.{length-take-le}
 use Rattle.error.specs.declared.Refusal.{Refusal}
-use Rattle.row_format.specs.Places.{rowLimit}
 use Rattle.datatype.specs.declared.DataType.{DataType}
 use Rattle.datatype.specs.Types.{sizeOf, isVarlen}
 use Rattle.value.specs.declared.DataValue.{DataValue}
@@ -33,11 +32,11 @@ use Rattle.rook_probe.specs.Values.{onlyValue, formLength, fitsSlot}
 -- ---- a list's one value
 
 module _ (area : ℕ) (s : List ℕ) where
-  pub one-value : Check.Good ≡ answer (checked rowLimit 1 area s) → (v : DataValue) (next : ℕ) → recordAt s 0 ≡ Value v next → One.Only v ≡ onlyValue (checked rowLimit 1 area s)
-  one-value g v next e = rw (sole-value rowLimit area s g v next e)
+  pub one-value : Check.Good ≡ answer (checked false 1 area s) → (v : DataValue) (next : ℕ) → recordAt s 0 ≡ Value v next → One.Only v ≡ onlyValue (checked false 1 area s)
+  one-value g v next e = rw (sole-value false area s g v next e)
 
-  pub none-good : (r : Refusal) → answer (checked rowLimit 1 area s) ≡ Check.Refused r → One.Bad ≡ onlyValue (checked rowLimit 1 area s)
-  none-good r e = rw (refused-list rowLimit area s (checked rowLimit 1 area s) r e)
+  pub none-good : (r : Refusal) → answer (checked false 1 area s) ≡ Check.Refused r → One.Bad ≡ onlyValue (checked false 1 area s)
+  none-good r e = rw (refused-list false area s (checked false 1 area s) r e)
 
 -- ---- a stored form's length
 
@@ -49,9 +48,9 @@ form-length t v area m e =
 
 -- ---- a value that was read
 
-pub read-narrow : (start : ℕ) (bs : List ℕ) → start ≤ 65535 → length bs ≤ 65535 → (t : DataType) {v : DataValue} → readSlot t start bs ≡ Slot.Value v → Narrow v
+pub read-narrow : (start : ℕ) (bs : List ℕ) → start ≤ 65535 → length bs ≤ 65535 → (t : DataType) {v : DataValue} → readSlot t start bs ≡ Slot.Value v → Narrow false v
 read-narrow start bs h k t {v} e =
-    range-narrow v (rw e at (slot-range NarrowRange (record { start = omega arith; size = omega arith }) start bs (record { start = omega arith; size = omega arith }) t))
+    range-narrow false v (rw e at (slot-range (NarrowRange 2) (record { start = omega arith; size = omega arith }) start bs (record { start = omega arith; size = omega arith }) t))
 
 pub slot-size : (t : DataType) (n : ℕ) → fitsSlot t n ≡ true → isVarlen t ≡ false → n ≡ sizeOf t
 slot-size t n e f = eqb-true n (sizeOf t) (rw f at e)

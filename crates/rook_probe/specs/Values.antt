@@ -1,7 +1,7 @@
 -- One value and one column: what the inner functions make of them, as numbers and bytes. A refusal leaves the lent
 -- bytes.
 use Prim.Native.Nat.{ℕ, _≤_}
-use mathlib.Core.Bool.{Bool, true, cond}
+use mathlib.Core.Bool.{Bool, true, false, cond}
 use mathlib.Core.List.{List, [], _∷_}
 use lib.Dec.{eqb, ltb}
 use lib.ListN.{length}
@@ -75,7 +75,7 @@ storedOne t (One.Only v) area out = storedValue t v area out
 storedOne t One.Bad area out = refuse 10 out
 
 abbrev pub storedList : DataType → List ℕ → List ℕ → List ℕ → ValueProbe × List ℕ
-storedList t list area out = storedOne t (onlyValue (checked rowLimit 1 (length area) list)) area out
+storedList t list area out = storedOne t (onlyValue (checked false 1 (length area) list)) area out
 
 abbrev pub storedAs : OneType → List ℕ → List ℕ → List ℕ → ValueProbe × List ℕ
 storedAs (Only t) list area out = storedList t list area out
@@ -85,7 +85,7 @@ storedAs (Bad n) list area out = refuse n out
 
 -- 8: no value of the type
 abbrev pub handValue : SlotRead → List ℕ → ValueProbe × List ℕ
-handValue (Value v) out = hand (recordOf v) out
+handValue (Value v) out = hand (recordOf false v) out
 handValue NoValue out = refuse 8 out
 
 -- whether n bytes fill the slot; a payload may have any number
@@ -99,8 +99,8 @@ placedRead r out = cond (ltb (length out) 18) (refuse 14 out) (handValue r out)
 -- 4: more than a record's two bytes tell; 3: a slot of another length
 abbrev pub readValue : DataType → List ℕ → ℕ → List ℕ → ValueProbe × List ℕ
 readValue t bs start out =
-    cond (ltb rowLimit start) (refuse 4 out)
-    (cond (ltb rowLimit (length bs)) (refuse 4 out)
+    cond (ltb (rowLimit false) start) (refuse 4 out)
+    (cond (ltb (rowLimit false) (length bs)) (refuse 4 out)
     (cond (fitsSlot t (length bs)) (placedRead (readSlot t start bs) out)
     (refuse 3 out)))
 

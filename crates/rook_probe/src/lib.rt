@@ -2,16 +2,14 @@
 use datatype::DataType;
 use datatype::Record;
 use datatype::SchemaCheck;
-use row_layout::RowLayout;
 use stored_form::SlotRead;
 use value::DataValue;
 use value_list::ListCheck;
 use value_list::ValueRecord;
 ghost use mathlib.Core.Path.{_≡_};
-ghost use mathlib.Core.Bool.{true};
+ghost use mathlib.Core.Bool.{true, false};
 ghost use Prim.Native.Nat.{_≤_};
 ghost use lib.ListN.{length};
-ghost use Rattle.row_format.specs.Places.{offsetWidth, rowLimit};
 ghost use Rattle.datatype.specs.Types.{precisionOf};
 ghost use Rattle.datatype.specs.Schema.{schemaOf};
 ghost use Rattle.datatype.specs.InnerCheck.{checkedSchema};
@@ -33,12 +31,12 @@ pub struct LayoutProbe {
     pub padded: usize,
 }
 
-// The layout of a schema's rows: the fixed columns' bytes, packed and padded.
+// The layout of a schema's short rows: the fixed columns' bytes, packed and padded.
 #[no_mangle]
 pub extern "C" fn rook_probe_layout(schema: &[u8]) -> LayoutProbe
-    ensures { λ r. ⌜ r ≡ layoutProbe (checkedSchema (schemaOf offsetWidth rowLimit (now (schema .entry)))) ⌝ }
+    ensures { λ r. ⌜ r ≡ layoutProbe (checkedSchema false (schemaOf false (now (schema .entry)))) ⌝ }
 {
-    match datatype::check_schema(schema) {
+    match datatype::check_schema(schema, false) {
         SchemaCheck::Good(layout) => LayoutProbe {
             number: 0,
             place: 0,
@@ -102,9 +100,9 @@ fn one_type(schema: &[u8]) -> OneType
 
 // The value of a list that is exactly one record, beside a text area of `area` bytes.
 fn one_value(list: &[u8], area: usize) -> OneValue
-    ensures { λ r. ⌜ r ≡ onlyValue (checkedList rowLimit 1 area (now (list .entry))) ⌝ }
+    ensures { λ r. ⌜ r ≡ onlyValue (checkedList false 1 area (now (list .entry))) ⌝ }
 {
-    match value_list::check_values(list, 1, area) {
+    match value_list::check_values(list, false, 1, area) {
         ListCheck::Good => match value_list::value_record_at(list, 0) {
             ValueRecord::Value(v, _) => OneValue::Only(v),
             ValueRecord::Refused(_) => OneValue::Bad,
@@ -197,21 +195,24 @@ fn place_read(ty: DataType, bytes: &[u8], start: usize, out: &mut [u8]) -> Value
     }
     match value_decode::from_bytes(ty, bytes, start) {
         SlotRead::Value(v) => {
-            let length = record_encode::write_value_record(out, 0, v);
+            let length = record_encode::write_value_record(out, 0, false, v);
             ValueProbe { number: 0, length }
         }
         SlotRead::NoValue => refused(8),
     }
 }
 
+// The most bytes of a short row.
+const ROW_LIMIT: usize = 65535;
+
 fn read_value(ty: DataType, bytes: &[u8], start: usize, out: &mut [u8]) -> ValueProbe
     requires { ⌜ precisionOf ty ≤ 38 ⌝ }
     ensures { λ r. ⌜ (r, now (out .exit)) ≡ readValue ty (now (bytes .entry)) start (now (out .entry)) ⌝ }
 {
-    if RowLayout::ROW_LIMIT < start {
+    if ROW_LIMIT < start {
         return refused(4);
     }
-    if RowLayout::ROW_LIMIT < bytes.len() {
+    if ROW_LIMIT < bytes.len() {
         return refused(4);
     }
     if fits_slot(ty, bytes.len()) {

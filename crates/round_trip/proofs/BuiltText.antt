@@ -1,9 +1,10 @@
 -- The text of a built row's column is the stored form.
 use Prim.Native.Nat.{ℕ, _<_}
 use mathlib.Core.Path.{_≡_, refl, ap, _∙_}
-use mathlib.Core.Bool.{true, false≢true}
+use mathlib.Core.Bool.{true, false≢true, Bool}
 use mathlib.Core.List.{List}
 use lib.ListN.{length}
+use Rattle.row_format.specs.Places.{offsetWidth}
 use Rattle.row_format.specs.Table.{Cell}
 use Rattle.datatype.specs.Check.{typeAt}
 use Rattle.value.specs.declared.DataValue.{DataValue}
@@ -42,16 +43,16 @@ null-is (D.Time z) e = absurd (false≢true e)
 null-is (D.Bit z) e = absurd (false≢true e)
 null-is (D.Timestamp z) e = absurd (false≢true e)
 
-module _ {w limit : ℕ} {schema list area out : List ℕ} {n : ℕ} {after : List ℕ}
-    (b : Built w limit schema list area out n after) (q : ReadsBack b)
+module _ {sort : Bool} {schema list area out : List ℕ} {n : ℕ} {after : List ℕ}
+    (b : Built sort schema list area out n after) (q : ReadsBack b)
     (i : ℕ) (h : i < length (b .columns)) (t : holdsText (typeAt (b .columns) i) ≡ true) where
   abbrev v : DataValue
   v = givenValue b i
 
-  answer-is : textCall w limit schema (row b) i ≡ Part (rangeOf (givenBack b i))
+  answer-is : textCall sort schema (row b) i ≡ Part (rangeOf (givenBack b i))
   answer-is =
-      text-in-row w limit schema (row b) i (b .columns) (b .schema-good) h t
-      ∙ ap (λ (f : Frame). onFrame f Refused (λ p. textRead (columnValue w p (b .columns) i (row b)))) (q .frame)
+      text-in-row sort schema (row b) i (b .columns) (b .schema-good) h t
+      ∙ ap (λ (f : Frame). onFrame f Refused (λ p. textRead (columnValue (offsetWidth sort) p (b .columns) i (row b)))) (q .frame)
       ∙ ap textRead (q .column i h)
 
   of-cell : (c : Cell) → CellIs (typeAt (b .columns) i) v area c → textOf (row b) (givenBack b i) ≡ givenForm b i
@@ -66,6 +67,6 @@ module _ {w limit : ℕ} {schema list area out : List ℕ} {n : ℕ} {after : Li
             ∙ of-cell _ (cell-at area (b .columns) (b .given) (b .cells-good) (taken b .count) i h);
       }
 
-pub built-text : {w limit : ℕ} {schema list area out : List ℕ} {n : ℕ} {after : List ℕ}
-    (b : Built w limit schema list area out n after) → BuiltTextBack b
-built-text b small bytes i h t = text-back b (read-built b small bytes) i h t
+pub built-text : {sort : Bool} {schema list area out : List ℕ} {n : ℕ} {after : List ℕ}
+    (b : Built sort schema list area out n after) → BuiltTextBack b
+built-text b bytes i h t = text-back b (read-built b bytes) i h t

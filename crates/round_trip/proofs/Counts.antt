@@ -1,5 +1,5 @@
 -- A read of a built row puts the counts that building put.
-use Prim.Native.Nat.{ℕ, zero, suc, _+_, _<_}
+use Prim.Native.Nat.{ℕ, suc, _+_, _<_}
 use mathlib.Core.Path.{_≡_, refl, sym, ap, ap₂, _∙_}
 use mathlib.Core.Bool.{Bool, true, false, cond}
 use mathlib.Core.List.{List, [], _∷_, map}
@@ -7,6 +7,7 @@ use mathlib.Core.Option.{none, some}
 use native.Mathlib.Nat.{add-zero}
 use native.Mathlib.Omega.{arith}
 use lib.ListN.{length, getD}
+use Rattle.row_format.specs.Places.{offsetWidth}
 use Rattle.row_format.specs.Table.{Cell}
 use Rattle.text.specs.Check.{points}
 use Rattle.datatype.specs.declared.DataType.{DataType}
@@ -61,8 +62,8 @@ all-wanted wanted i (n ∷ ns) h =
 
 -- ---- a build that answered Done
 
-module _ {w limit : ℕ} {schema list area out : List ℕ} {n : ℕ} {after : List ℕ}
-    (b : Built w limit schema list area out n after) (given : length (b .given) ≡ length (b .columns))
+module _ {sort : Bool} {schema list area out : List ℕ} {n : ℕ} {after : List ℕ}
+    (b : Built sort schema list area out n after) (given : length (b .given) ≡ length (b .columns))
     (cells : length (b .cells) ≡ length (b .columns))
     (text : (i : ℕ) → i < length (b .columns) → hasText (givenValue b i) ≡ true → textOf (row b) (givenBack b i) ≡ givenForm b i) where
   count-at : (i : ℕ) → i < length (b .columns) → pointsIn (row b) (givenBack b i) ≡ storedPoints (typeAt (b .columns) i) (getD (b .cells) i none)
@@ -76,18 +77,18 @@ module _ {w limit : ℕ} {schema list area out : List ℕ} {n : ℕ} {after : Li
       of-cell c (stored z m a) = by-kind (holdsText t) refl
         where
           is-text : isTextValue (givenBack b i) ≡ holdsText t
-          is-text = rw z (back-texts t (givenValue b i) m (startIn w (b .columns) i (row b)) (givenText b i))
+          is-text = rw z (back-texts t (givenValue b i) m (startIn (offsetWidth sort) (b .columns) i (row b)) (givenText b i))
 
           by-kind : (d : Bool) → holdsText t ≡ d → pointsIn (row b) (givenBack b i) ≡ storedPoints t (some (givenForm b i))
           by-kind true e = rw (is-text, e) (ap points (text i h (has-text t (givenValue b i) m e)))
           by-kind false e = rw (is-text, e)
 
   pub counts-back : (wanted : ℕ → Bool)
-      → map (pointsIn (row b)) (valuesBack w (b .columns) wanted area (row b) 0 (b .given))
+      → map (pointsIn (row b)) (valuesBack (offsetWidth sort) (b .columns) wanted area (row b) 0 (b .given))
       ≡ wantedPoints wanted 0 (cellsPoints (b .columns) (b .cells))
   counts-back wanted =
-      counts-from w (b .columns) wanted area (row b) 0 (b .given) (b .columns) (b .cells) given cells
+      counts-from (offsetWidth sort) (b .columns) wanted area (row b) 0 (b .given) (b .columns) (b .cells) given cells
       (λ k h.
       let j : 0 + k ≡ k = omega arith in
-      ap (λ (x : ℕ). pointsIn (row b) (valueBack w (b .columns) x (givenValue b k) (givenText b k) (row b))) j
+      ap (λ (x : ℕ). pointsIn (row b) (valueBack (offsetWidth sort) (b .columns) x (givenValue b k) (givenText b k) (row b))) j
       ∙ count-at k (rw given at h))

@@ -5,10 +5,11 @@ use mathlib.Core.Bool.{Bool, false≢true}
 use mathlib.Core.List.{List, [], _∷_, map}
 use mathlib.Core.Option.{some}
 use lib.ListN.{length}
+use Rattle.row_format.specs.Places.{offsetWidth}
 use Rattle.error.specs.Result.{ok}
 use Rattle.row_format.specs.declared.Shape.{Shape}
 use Rattle.row_format.specs.Table.{Cell}
-use Rattle.row_format.specs.Row.{builtRow}
+use Rattle.row_format.specs.Row.{builtRow, packedMarks}
 use Rattle.datatype.specs.declared.DataType.{DataType}
 use Rattle.datatype.specs.declared.DataType.the-variants.{Varchar}
 use Rattle.datatype.specs.Types.{shapeOf}
@@ -62,15 +63,15 @@ module _ (area : List ℕ) where
 
 -- ---- the rows
 
-module _ {w limit : ℕ} {schema list area out : List ℕ} {n : ℕ} {after : List ℕ} (b : Built w limit schema list area out n after)
-    {schema' out' : List ℕ} {n' : ℕ} {after' : List ℕ} (b' : Built w limit schema' list area out' n' after') where
+module _ {sort : Bool} {schema list area out : List ℕ} {n : ℕ} {after : List ℕ} (b : Built sort schema list area out n after)
+    {schema' out' : List ℕ} {n' : ℕ} {after' : List ℕ} (b' : Built sort schema' list area out' n' after') where
   same-values : b .given ≡ b' .given
   same-values =
-      let x = checked-taken limit (length (b .columns)) (length area) list (b .list-good) in
-      let y = checked-taken limit (length (b' .columns)) (length area) list (b' .list-good) in
+      let x = checked-taken sort (length (b .columns)) (length area) list (b .list-good) in
+      let y = checked-taken sort (length (b' .columns)) (length area) list (b' .list-good) in
       ap valuesGiven (sym (x .all) ∙ y .all)
 
   pub one-layout : OneLayout b b'
   one-layout a =
       let cells = cells-same area 0 a (b .given) (b .cells-good) (ap (λ (vs : List DataValue). cellsFrom 0 (b' .columns) vs area) same-values ∙ b' .cells-good) in
-      b .row ∙ ap (λ (ss : List Shape). builtRow w ss (b .cells)) (shapes-same a) ∙ ap (builtRow w (map shapeOf (b' .columns))) cells ∙ sym (b' .row)
+      b .row ∙ ap (λ (ss : List Shape). builtRow (offsetWidth sort) (packedMarks sort) ss (b .cells)) (shapes-same a) ∙ ap (builtRow (offsetWidth sort) (packedMarks sort) (map shapeOf (b' .columns))) cells ∙ sym (b' .row)

@@ -6,6 +6,7 @@ use mathlib.Core.List.{List, _∷_, map}
 use native.Mathlib.Nat.{add-zero}
 use native.Mathlib.Omega.{arith}
 use lib.ListN.{length, getD}
+use Rattle.row_format.specs.Places.{offsetWidth}
 use Rattle.error.specs.declared.Answer.the-variants as Answer
 use Rattle.error.specs.Answer.{unchangedBoth}
 use Rattle.error.specs.Result.{ok, refused, onResult}
@@ -80,51 +81,51 @@ module _ (w : ℕ) (p : Bool) (ts : List DataType) (r : List ℕ) where
 
 -- ---- the call
 
-pub record All {w limit : ℕ} {schema r : List ℕ} (q : FullRead w limit schema r) : Type 0 where
+pub record All {sort : Bool} {schema r : List ℕ} (q : FullRead sort schema r) : Type 0 where
   pub columns : List DataType
-  pub schema-good : schemaOf w limit schema ≡ ok columns
+  pub schema-good : schemaOf sort schema ≡ ok columns
   pub packed : Bool
-  pub frame : frameOf w limit columns r ≡ Frame.Good packed
+  pub frame : frameOf sort columns r ≡ Frame.Good packed
   pub read : List DataValue
-  pub all-read : allColumns w limit columns r ≡ ok read
+  pub all-read : allColumns sort columns r ≡ ok read
   pub count : length read ≡ length columns
-  pub each : (k : ℕ) → k < length columns → columnValue w packed columns k r ≡ Column.Value (getD read k Null)
-  pub list-is : listRead q ≡ listOf read
+  pub each : (k : ℕ) → k < length columns → columnValue (offsetWidth sort) packed columns k r ≡ Column.Value (getD read k Null)
+  pub list-is : listRead q ≡ listOf sort read
 
-module _ {w limit : ℕ} {schema r : List ℕ} (q : FullRead w limit schema r) where
-  of-values : (ts : List DataType) → schemaOf w limit schema ≡ ok ts → (p : Bool)
-      → frameOf w limit ts r ≡ Frame.Good p
-      → (u : Values) → readFrom w p ts (isWanted (q .wanted)) r 0 (length ts) ≡ u
-      → handOut (q .out) (q .counts) r u ≡ (Answer.Done (q .size), (q .after, q .numbers)) → All q
+module _ {sort : Bool} {schema r : List ℕ} (q : FullRead sort schema r) where
+  of-values : (ts : List DataType) → schemaOf sort schema ≡ ok ts → (p : Bool)
+      → frameOf sort ts r ≡ Frame.Good p
+      → (u : Values) → readFrom (offsetWidth sort) p ts (isWanted (q .wanted)) r 0 (length ts) ≡ u
+      → handOut sort (q .out) (q .counts) r u ≡ (Answer.Done (q .size), (q .after, q .numbers)) → All q
   of-values ts e p f (refused x) g o = absurd (subst IsDone (sym o) tt)
   of-values ts e p f (ok vs) g o =
-      let every : readFrom w p ts (λ j. true) r 0 (length ts) ≡ ok vs
-      = sym (wanted-all w p ts r (isWanted (q .wanted)) (length ts) 0 (λ j h. q .all ts e j (omega arith))) ∙ g in
-      let c = columns-read w p ts r (length ts) 0 every in
+      let every : readFrom (offsetWidth sort) p ts (λ j. true) r 0 (length ts) ≡ ok vs
+      = sym (wanted-all (offsetWidth sort) p ts r (isWanted (q .wanted)) (length ts) 0 (λ j h. q .all ts e j (omega arith))) ∙ g in
+      let c = columns-read (offsetWidth sort) p ts r (length ts) 0 every in
       record {
         columns = ts;
         schema-good = e;
         packed = p;
         frame = f;
         read = vs;
-        all-read = ap (λ (x : Frame). onFrame x refused (λ y. readFrom w y ts (λ j. true) r 0 (length ts))) f ∙ every;
+        all-read = ap (λ (x : Frame). onFrame x refused (λ y. readFrom (offsetWidth sort) y ts (λ j. true) r 0 (length ts))) f ∙ every;
         count = c .count;
-        each = λ k h. let z : 0 + k ≡ k = omega arith in ap (λ (j : ℕ). columnValue w p ts j r) (sym z) ∙ c .each k h;
-        list-is = placed-both-done (q .out) (q .counts) (listOf vs) (map (pointsIn r) vs) o .bytes .part;
+        each = λ k h. let z : 0 + k ≡ k = omega arith in ap (λ (j : ℕ). columnValue (offsetWidth sort) p ts j r) (sym z) ∙ c .each k h;
+        list-is = placed-both-done (q .out) (q .counts) (listOf sort vs) (map (pointsIn r) vs) o .bytes .part;
       }
 
-  of-frame : (ts : List DataType) → schemaOf w limit schema ≡ ok ts → (f : Frame) → frameOf w limit ts r ≡ f
+  of-frame : (ts : List DataType) → schemaOf sort schema ≡ ok ts → (f : Frame) → frameOf sort ts r ≡ f
       → onFrame f (unchangedBoth (q .out) (q .counts))
-      (λ p. handOut (q .out) (q .counts) r (readFrom w p ts (isWanted (q .wanted)) r 0 (length ts))) ≡
+      (λ p. handOut sort (q .out) (q .counts) r (readFrom (offsetWidth sort) p ts (isWanted (q .wanted)) r 0 (length ts))) ≡
       (Answer.Done (q .size), (q .after, q .numbers)) → All q
   of-frame ts e (Frame.Refused x) f o = absurd (subst IsDone (sym o) tt)
-  of-frame ts e (Frame.Good p) f o = of-values ts e p f (readFrom w p ts (isWanted (q .wanted)) r 0 (length ts)) refl o
+  of-frame ts e (Frame.Good p) f o = of-values ts e p f (readFrom (offsetWidth sort) p ts (isWanted (q .wanted)) r 0 (length ts)) refl o
 
-  of-schema : (x : Parsed) → schemaOf w limit schema ≡ x
-      → onResult x (unchangedBoth (q .out) (q .counts)) (λ ts. readRow w limit ts r (q .wanted) (q .out) (q .counts)) ≡
+  of-schema : (x : Parsed) → schemaOf sort schema ≡ x
+      → onResult x (unchangedBoth (q .out) (q .counts)) (λ ts. readRow sort ts r (q .wanted) (q .out) (q .counts)) ≡
       (Answer.Done (q .size), (q .after, q .numbers)) → All q
   of-schema (refused x) e o = absurd (subst IsDone (sym o) tt)
-  of-schema (ok ts) e o = of-frame ts e (frameOf w limit ts r) refl o
+  of-schema (ok ts) e o = of-frame ts e (frameOf sort ts r) refl o
 
   pub all-of : All q
-  all-of = of-schema (schemaOf w limit schema) refl (q .done)
+  all-of = of-schema (schemaOf sort schema) refl (q .done)

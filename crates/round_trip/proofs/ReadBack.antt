@@ -5,9 +5,11 @@ use mathlib.Core.Bool.{Bool, true}
 use mathlib.Core.List.{List, map}
 use native.Mathlib.Omega.{arith}
 use lib.ListN.{length}
+use Rattle.row_format.proofs.Sorts.{fits-limit}
+use Rattle.row_format.specs.Places.{offsetWidth, rowLimit}
 use Rattle.error.specs.Answer.{unchangedBoth, placedBoth}
 use Rattle.error.specs.Result.{ok, onResult}
-use Rattle.row_format.specs.Row.{builtRow}
+use Rattle.row_format.specs.Row.{builtRow, packedMarks}
 use Rattle.datatype.specs.Types.{shapeOf}
 use Rattle.datatype.specs.Schema.{Parsed}
 use Rattle.value.specs.Ranges.{textOf}
@@ -26,50 +28,50 @@ use Rattle.round_trip.specs.ReadBack.{valuesBack, wantedPoints, row, giv
 use Rattle.round_trip.proofs.Counts.{counts-back, all-wanted}
 use Rattle.round_trip.proofs.ReadBuilt.{frame-built, column-built, text-built, columns-built}
 
-module _ {w limit : ℕ} {schema list area out : List ℕ} {n : ℕ} {after : List ℕ}
-    (b : Built w limit schema list area out n after) where
+module _ {sort : Bool} {schema list area out : List ℕ} {n : ℕ} {after : List ℕ}
+    (b : Built sort schema list area out n after) where
   abbrev pub cellsRow : List ℕ
-  cellsRow = builtRow w (map shapeOf (b .columns)) (b .cells)
+  cellsRow = builtRow (offsetWidth sort) (packedMarks sort) (map shapeOf (b .columns)) (b .cells)
 
-  pub taken : Taken limit (length (b .columns)) (length area) list (b .given)
-  taken = checked-taken limit (length (b .columns)) (length area) list (b .list-good)
+  pub taken : Taken sort (length (b .columns)) (length area) list (b .given)
+  taken = checked-taken sort (length (b .columns)) (length area) list (b .list-good)
 
   pub few : length (b .columns) ≤ 256
-  few = schema-few w limit schema (b .schema-good)
+  few = schema-few sort schema (b .schema-good)
 
-  pub short : length cellsRow ≤ limit
+  pub short : length cellsRow ≤ (rowLimit sort)
   short = rw (← b .size) (b .short)
 
   -- the row's header is good
-  pub frame-back : frameOf w limit (b .columns) (row b) ≡ Good true
-  frame-back = rw (b .row) (frame-built w (b .columns) (b .given) area (b .cells-good) (taken .count) few limit short)
+  pub frame-back : frameOf sort (b .columns) (row b) ≡ Good true
+  frame-back = rw (b .row) (frame-built sort (b .columns) (b .given) area (b .cells-good) (taken .count) few short)
 
-  module _ (small : limit < 256 ^ w) (sized : AllSized (b .given)) where
-    fits : length cellsRow < 256 ^ w
-    fits = omega (arith, short, small)
+  module _ (sized : AllSized (b .given)) where
+    fits : length cellsRow < 256 ^ (offsetWidth sort)
+    fits = fits-limit sort short
 
     -- the columns that are wanted
-    pub columns-back : (wanted : ℕ → Bool) → readFrom w true (b .columns) wanted (row b) 0 (length (b .columns))
-        ≡ ok (valuesBack w (b .columns) wanted area (row b) 0 (b .given))
+    pub columns-back : (wanted : ℕ → Bool) → readFrom (offsetWidth sort) true (b .columns) wanted (row b) 0 (length (b .columns))
+        ≡ ok (valuesBack (offsetWidth sort) (b .columns) wanted area (row b) 0 (b .given))
     columns-back wanted = rw (b .row)
-        (columns-built w (b .columns) (b .given) area (b .cells-good) (taken .count) few fits sized wanted)
+        (columns-built sort (b .columns) (b .given) area (b .cells-good) (taken .count) few fits sized wanted)
 
     text-back : (i : ℕ) → i < length (b .columns) → hasText (givenValue b i) ≡ true → textOf (row b) (givenBack b i) ≡ givenForm b i
     text-back i h g = rw (b .row)
-        (text-built w (b .columns) (b .given) area (b .cells-good) (taken .count) few i h fits sized g)
+        (text-built sort (b .columns) (b .given) area (b .cells-good) (taken .count) few i h fits sized g)
 
     cells-many : length (b .cells) ≡ length (b .columns)
     cells-many = many-cells (b .columns) (b .given) area (b .cells-good) (taken .count)
 
     read-back : (ws o counts : List ℕ)
-        → readCall w limit schema (row b) ws o counts ≡ placedBoth o counts
-        (listOf (valuesBack w (b .columns) (isWanted ws) area (row b) 0 (b .given))) (wantedPoints (isWanted ws) 0 (countsPut b))
+        → readCall sort schema (row b) ws o counts ≡ placedBoth o counts
+        (listOf sort (valuesBack (offsetWidth sort) (b .columns) (isWanted ws) area (row b) 0 (b .given))) (wantedPoints (isWanted ws) 0 (countsPut b))
     read-back ws o counts =
-        ap (λ (p : Parsed). onResult p (unchangedBoth o counts) (λ ts. readRow w limit ts (row b) ws o counts)) (b .schema-good)
+        ap (λ (p : Parsed). onResult p (unchangedBoth o counts) (λ ts. readRow sort ts (row b) ws o counts)) (b .schema-good)
         ∙ ap (λ (q : Frame). onFrame q (unchangedBoth o counts)
-        (λ p. handOut o counts (row b) (readFrom w p (b .columns) (isWanted ws) (row b) 0 (length (b .columns))))) frame-back
-        ∙ ap (handOut o counts (row b)) (columns-back (isWanted ws))
-        ∙ ap (placedBoth o counts (listOf (valuesBack w (b .columns) (isWanted ws) area (row b) 0 (b .given))))
+        (λ p. handOut sort o counts (row b) (readFrom (offsetWidth sort) p (b .columns) (isWanted ws) (row b) 0 (length (b .columns))))) frame-back
+        ∙ ap (handOut sort o counts (row b)) (columns-back (isWanted ws))
+        ∙ ap (placedBoth o counts (listOf sort (valuesBack (offsetWidth sort) (b .columns) (isWanted ws) area (row b) 0 (b .given))))
         (counts-back b (taken .count) cells-many text-back (isWanted ws))
 
     -- the same of values that fit records, wherever they come from
@@ -78,11 +80,11 @@ module _ {w limit : ℕ} {schema list area out : List ℕ} {n : ℕ} {after : Li
         record {
           frame = frame-back;
           column = λ i h. rw (b .row)
-              (column-built w (b .columns) (b .given) area (b .cells-good) (taken .count) few i h fits sized);
+              (column-built sort (b .columns) (b .given) area (b .cells-good) (taken .count) few i h fits sized);
           text = text-back;
           read = read-back;
           all-counts = λ ws h. all-wanted (isWanted ws) 0 (countsPut b) (λ j l. h j (omega (arith, l, many-points (b .columns) (b .given) area (b .cells-good) (taken .count))));
         }
 
   pub read-built : BuiltReadsBack b
-  read-built small bytes = sized-back small (values-sized list bytes (taken .all))
+  read-built bytes = sized-back (values-sized list bytes (taken .all))

@@ -1,14 +1,15 @@
 -- A row that was built is read back.
-use Prim.Native.Nat.{ℕ, zero, suc, _+_, _-_, _%_, _^_, _≤_, _<_}
+use Prim.Native.Nat.{ℕ, zero, suc, _+_, _-_, _^_, _≤_, _<_}
 use mathlib.Core.Path.{_≡_, refl, sym, ap, _∙_}
 use mathlib.Core.Bool.{Bool, true, false, cond, false≢true}
 use mathlib.Core.List.{List, [], _∷_, _++_, append-assoc, map}
 use mathlib.Core.Option.{none, some}
 use native.Mathlib.Omega.{arith}
-use borrow.Author.Tests.{le-ltb, le-leb, eq-eqb, ne-eqb, eqb-true}
+use borrow.Author.Tests.{le-ltb, eq-eqb, ne-eqb, eqb-true}
 use lib.Dec.{eqb}
 use lib.ListN.{length, getD, take, drop, length-append, length-drop, length-map, take-append-drop, drop-of-length-le}
 use lib.Seq.{length-take-le, drop-at, drop-cons, take-append-le, drop-append-le}
+use Rattle.row_format.proofs.Sorts.{marks-small, marks-count, marks-packed}
 use Rattle.error.specs.Result.{ok, before}
 use Rattle.laws.specs.Bytes.{entryAt, fromLe}
 use Rattle.laws.specs.Bits.{bitAt}
@@ -17,9 +18,9 @@ use Rattle.laws.proofs.Forall.{forall-length}
 use Rattle.laws.proofs.Maps.{at-map}
 use Rattle.row_format.specs.declared.Shape.{Shape}
 use Rattle.row_format.specs.declared.Shape.the-variants.{Fixed, Varlen}
-use Rattle.row_format.specs.Places.{through, rankAfter, varlens, rankOf, bitmapStart, tableStart, slotPlace, minimum}
+use Rattle.row_format.specs.Places.{through, rankAfter, varlens, rankOf, bitmapStart, tableStart, slotPlace, minimum, offsetWidth, rowLimit}
 use Rattle.row_format.specs.Table.{Cell, bytes, payloads, lay, rangeEnd}
-use Rattle.row_format.specs.Row.{packedFlag, header, nullBit, varlenCells, rowWith, builtRow, slotSize}
+use Rattle.row_format.specs.Row.{packedMarks, header, nullBit, varlenCells, rowWith, builtRow, slotSize}
 use Rattle.row_format.proofs.Places.{packed-inside}
 use Rattle.row_format.proofs.Row.{length-header, header-columns, header-varlens, length-row, slots-fit, bit-row, entry-row, end-row, range-row, of-rank}
 use Rattle.row_format.proofs.Cells.{columnBytes, cellAt, cell-built}
@@ -102,28 +103,28 @@ second-field h x n = ap (take 2) (drop-append-le 2 h x (omega arith))
 
 -- ---- the row
 
-module _ (w : ℕ) (ts : List DataType) (vs : List DataValue) (area : List ℕ) {cs : List Cell}
+module _ (sort : Bool) (ts : List DataType) (vs : List DataValue) (area : List ℕ) {cs : List Cell}
     (e : cellsFrom 0 ts vs area ≡ ok cs) (n : length vs ≡ length ts) (few : length ts ≤ 256) where
   abbrev ss : List Shape
   ss = map shapeOf ts
 
   abbrev r : List ℕ
-  r = builtRow w ss cs
+  r = builtRow (offsetWidth sort) (packedMarks sort) ss cs
 
   fit : Forall₂ FitsCell ss cs
   fit = cells-fit area 0 ts vs e n
 
   abbrev hd : List ℕ
-  hd = header packedFlag ss
+  hd = header (packedMarks sort) ss
 
   four : length hd ≡ 4
-  four = length-header packedFlag ss
+  four = length-header (packedMarks sort) ss
 
   columns-are : length ss ≡ length ts
   columns-are = length-map ts shapeOf
 
-  pub row-length : length r ≡ minimum w true ss + length (payloads (varlenCells ss cs))
-  row-length = length-row w hd four fit (slots-fit fit)
+  pub row-length : length r ≡ minimum (offsetWidth sort) true ss + length (payloads (varlenCells ss cs))
+  row-length = length-row (offsetWidth sort) hd four fit (slots-fit fit)
 
   -- ---- its header
 
@@ -134,7 +135,7 @@ module _ (w : ℕ) (ts : List DataType) (vs : List DataValue) (area : List ℕ) 
   pub count-is : columnCount r ≡ length ts
   count-is =
       ap fromLe (ap (take 2) head-row ∙ first-field hd (drop 4 r) four)
-      ∙ header-columns packedFlag ss (rw length-map (omega arith)) ∙ columns-are
+      ∙ header-columns (packedMarks sort) ss (rw length-map (omega arith)) ∙ columns-are
 
   abbrev v : ℕ
   v = varlens ss
@@ -142,24 +143,23 @@ module _ (w : ℕ) (ts : List DataType) (vs : List DataValue) (area : List ℕ) 
   v-small : v ≤ 256
   v-small = omega (arith, ranks-le ss 0, columns-are)
 
-  field-is : varlenField r ≡ v + packedFlag
+  field-is : varlenField r ≡ v + packedMarks sort
   field-is =
       ap fromLe (ap (λ (z : List ℕ). take 2 (drop 2 z)) head-row ∙ second-field hd (drop 4 r) four)
-      ∙ header-varlens packedFlag ss (omega (arith, v-small))
+      ∙ header-varlens (packedMarks sort) ss (marks-small sort (omega (arith, v-small)))
 
-  pub frame-built : (limit : ℕ) → length r ≤ limit → frameOf w limit ts r ≡ Good true
-  frame-built limit short =
-      let masked : (v + packedFlag) % packedFlag ≡ v = omega (arith, v-small) in
-      let long : minimum w true ss ≤ length r = omega (arith, row-length) in
+  pub frame-built : length r ≤ rowLimit sort → frameOf sort ts r ≡ Good true
+  frame-built short =
+      let long : minimum (offsetWidth sort) true ss ≤ length r = omega (arith, row-length) in
       rw (
         field-is,
-        le-leb packedFlag (v + packedFlag) (omega arith),
-        masked,
-        le-ltb limit (length r) short,
+        marks-packed sort v,
+        marks-count sort {v = v} (omega (arith, v-small)),
+        le-ltb (rowLimit sort) (length r) short,
         le-ltb (length r) 4 (omega (arith, long)),
         eq-eqb (columnCount r) (length ts) count-is,
         eq-eqb v v refl,
-        le-ltb (length r) (minimum w true ss) long,
+        le-ltb (length r) (minimum (offsetWidth sort) true ss) long,
       )
 
   -- ---- a column of it
@@ -175,14 +175,14 @@ module _ (w : ℕ) (ts : List DataType) (vs : List DataValue) (area : List ℕ) 
     form = storedForm t x (textOf area x)
 
     abbrev place : ℕ
-    place = slotPlace w true ss i
+    place = slotPlace (offsetWidth sort) true ss i
 
     k : i < length ss
     k = rw length-map h
 
     bit-is : (c : Cell) → getD cs i none ≡ c → bitAt i (drop bitmapStart r) ≡ nullBit c
     bit-is c f =
-        bit-row w hd four fit (slots-fit fit) i k
+        bit-row (offsetWidth sort) hd four fit (slots-fit fit) i k
         ∙ ap nullBit (any-default cs i (some []) none (rw (forall-length fit) k) ∙ f)
 
     null-of-cell : (c : Cell) → getD cs i none ≡ c → CellIs t x area c
@@ -197,11 +197,11 @@ module _ (w : ℕ) (ts : List DataType) (vs : List DataValue) (area : List ℕ) 
     shape-is : getD ss i Varlen ≡ shapeOf t
     shape-is = at-map shapeOf i ts (T.Varchar false 0)
 
-    module _ (fits : length r < 256 ^ w) (sized : AllSized vs) where
+    module _ (fits : length r < 256 ^ (offsetWidth sort)) (sized : AllSized vs) where
       module _ (f : getD cs i none ≡ some form) where
-        bytes-are : columnBytes w ss i (getD ss i Varlen) r ≡ form
+        bytes-are : columnBytes (offsetWidth sort) ss i (getD ss i Varlen) r ≡ form
         bytes-are =
-            let c : cellAt w ss i r ≡ some form = cell-built w fit i k fits ∙ f in
+            let c : cellAt (offsetWidth sort) ss i r ≡ some form = cell-built (offsetWidth sort) (packedMarks sort) fit i k fits ∙ f in
             let d = rw (bit-is (some form) f) at c in
             ap bytes d
 
@@ -218,10 +218,10 @@ module _ (w : ℕ) (ts : List DataType) (vs : List DataValue) (area : List ℕ) 
           varlen-is = shape-is ∙ rw g
 
           abbrev entry : ℕ
-          entry = entryAt w (tableStart (length ss)) (rankOf ss i) r
+          entry = entryAt (offsetWidth sort) (tableStart (length ss)) (rankOf ss i) r
 
           abbrev end : ℕ
-          end = rangeEnd w (tableStart (length ss)) (varlens ss) (rankOf ss i) r
+          end = rangeEnd (offsetWidth sort) (tableStart (length ss)) (varlens ss) (rankOf ss i) r
 
           record Range : Type 0 where
             some-offset : entry ≡ 0 → ⊥
@@ -230,8 +230,8 @@ module _ (w : ℕ) (ts : List DataType) (vs : List DataValue) (area : List ℕ) 
 
           range : Range
           range =
-              let a = rw f at (entry-row w hd four fit (slots-fit fit) i k varlen-is fits) in
-              let z = rw f at (end-row w hd four fit (slots-fit fit) i k varlen-is fits) in
+              let a = rw f at (entry-row (offsetWidth sort) hd four fit (slots-fit fit) i k varlen-is fits) in
+              let z = rw f at (end-row (offsetWidth sort) hd four fit (slots-fit fit) i k varlen-is fits) in
               let o = of-rank i fit k varlen-is in
               let p = rw (o .cell, f) at (payload-inside (varlenCells ss cs) (rankOf ss i)) in
               record {
@@ -247,10 +247,10 @@ module _ (w : ℕ) (ts : List DataType) (vs : List DataValue) (area : List ℕ) 
               let m : end - entry ≡ length form = omega (arith, q .end-is) in
               record {
                 inside = omega (arith, q .end-is, q .end-inside);
-                part = rw m at (range-row w hd four fit (slots-fit fit) i k varlen-is fits form f);
+                part = rw m at (range-row (offsetWidth sort) hd four fit (slots-fit fit) i k varlen-is fits form f);
               }
 
-          range-is : varlenRange w (tableStart (length ss)) (varlens ss) (rankOf ss i) r ≡ Bytes entry end
+          range-is : varlenRange (offsetWidth sort) (tableStart (length ss)) (varlens ss) (rankOf ss i) r ≡ Bytes entry end
           range-is =
               let q = range in
               rw (
@@ -283,13 +283,13 @@ module _ (w : ℕ) (ts : List DataType) (vs : List DataValue) (area : List ℕ) 
             (length-take-le at r (p .inside))
 
       abbrev back : DataValue
-      back = valueBack w ts i x (textOf area x) r
+      back = valueBack (offsetWidth sort) ts i x (textOf area x) r
 
-      of-cell : (c : Cell) → getD cs i none ≡ c → CellIs t x area c → columnValue w true ts i r ≡ Value back
+      of-cell : (c : Cell) → getD cs i none ≡ c → CellIs t x area c → columnValue (offsetWidth sort) true ts i r ≡ Value back
       of-cell none f (null z) = rw (bit-is none f, z)
       of-cell (some y) f (stored z m a) = by-shape (isVarlen t) refl
         where
-          by-shape : (d : Bool) → isVarlen t ≡ d → columnValue w true ts i r ≡ Value back
+          by-shape : (d : Bool) → isVarlen t ≡ d → columnValue (offsetWidth sort) true ts i r ≡ Value back
           by-shape false g =
               let p = slot-stands f g (length-slot t x area m a g) in
               let o : place + sizeOf t - place ≡ length form = rw (length-slot t x area m a g) (omega arith) in
@@ -300,7 +300,7 @@ module _ (w : ℕ) (ts : List DataType) (vs : List DataValue) (area : List ℕ) 
               (ap (varlenValue t i r) (range-is f g) ∙ read-there m a (entry f g) (end f g) (range-stands f g) o)
 
       -- null for a null, the value for a value
-      pub column-built : columnValue w true ts i r ≡ Value back
+      pub column-built : columnValue (offsetWidth sort) true ts i r ≡ Value back
       column-built = of-cell (getD cs i none) refl (cell-at area ts vs e n i h)
 
       text-of-cell : (c : Cell) → getD cs i none ≡ c → CellIs t x area c → hasText x ≡ true → textOf r back ≡ form
@@ -317,27 +317,27 @@ module _ (w : ℕ) (ts : List DataType) (vs : List DataValue) (area : List ℕ) 
 
   -- ---- all of them
 
-  module _ (fits : length r < 256 ^ w) (sized : AllSized vs) (wanted : ℕ → Bool) where
+  module _ (fits : length r < 256 ^ (offsetWidth sort)) (sized : AllSized vs) (wanted : ℕ → Bool) where
     wanted-built : (i : ℕ) → i < length ts
-        → wantedValue (wanted i) (columnValue w true ts i r) ≡ Value
-        (cond (wanted i) (valueBack w ts i (valueAt vs i) (textOf area (valueAt vs i)) r) Null)
+        → wantedValue (wanted i) (columnValue (offsetWidth sort) true ts i r) ≡ Value
+        (cond (wanted i) (valueBack (offsetWidth sort) ts i (valueAt vs i) (textOf area (valueAt vs i)) r) Null)
     wanted-built i h = by-test (wanted i)
       where
         by-test : (d : Bool)
-            → wantedValue d (columnValue w true ts i r) ≡ Value
-            (cond d (valueBack w ts i (valueAt vs i) (textOf area (valueAt vs i)) r) Null)
+            → wantedValue d (columnValue (offsetWidth sort) true ts i r) ≡ Value
+            (cond d (valueBack (offsetWidth sort) ts i (valueAt vs i) (textOf area (valueAt vs i)) r) Null)
         by-test true = column-built i h fits sized
         by-test false = refl
 
     columns-from : (m i : ℕ) → i + m ≡ length ts
-        → readFrom w true ts wanted r i m ≡ ok (valuesBack w ts wanted area r i (drop i vs))
+        → readFrom (offsetWidth sort) true ts wanted r i m ≡ ok (valuesBack (offsetWidth sort) ts wanted area r i (drop i vs))
     columns-from zero i q = let none : drop i vs ≡ [] = drop-of-length-le vs {i = i} (omega arith) in rw none
     columns-from (suc m) i q =
         let h : i < length ts = omega arith in
         rw (drop-cons vs i Null (rw n h))
-        (ap (λ (c : ColumnRead). onColumn c (readFrom w true ts wanted r (suc i) m)) (wanted-built i h)
-        ∙ ap (before (cond (wanted i) (valueBack w ts i (valueAt vs i) (textOf area (valueAt vs i)) r) Null))
+        (ap (λ (c : ColumnRead). onColumn c (readFrom (offsetWidth sort) true ts wanted r (suc i) m)) (wanted-built i h)
+        ∙ ap (before (cond (wanted i) (valueBack (offsetWidth sort) ts i (valueAt vs i) (textOf area (valueAt vs i)) r) Null))
         (columns-from m (suc i) (omega arith)))
 
-    pub columns-built : readFrom w true ts wanted r 0 (length ts) ≡ ok (valuesBack w ts wanted area r 0 vs)
+    pub columns-built : readFrom (offsetWidth sort) true ts wanted r 0 (length ts) ≡ ok (valuesBack (offsetWidth sort) ts wanted area r 0 vs)
     columns-built = columns-from (length ts) 0 (omega arith)

@@ -39,28 +39,28 @@ values-sym a b (t ∷ ts) (v ∷ vs) (u ∷ us) =
 
 -- ---- the call on two rows that read as these values
 
-module _ (w limit : ℕ) (schema a b : List ℕ) (ts : List DataType) (e : schemaOf w limit schema ≡ ok ts) where
-  pub compared : (vs us : List DataValue) → allColumns w limit ts a ≡ ok vs → allColumns w limit ts b ≡ ok us
-      → sameCall w limit schema a b ≡ Is (sameValues ts a vs b us)
+module _ (sort : Bool) (schema a b : List ℕ) (ts : List DataType) (e : schemaOf sort schema ≡ ok ts) where
+  pub compared : (vs us : List DataValue) → allColumns sort ts a ≡ ok vs → allColumns sort ts b ≡ ok us
+      → sameCall sort schema a b ≡ Is (sameValues ts a vs b us)
   compared vs us f g =
-      ap (λ (p : Parsed). onResult p Refused (λ x. sameRows w limit x a b)) e
-      ∙ ap (λ (q : Values). onValues q (λ x. onValues (allColumns w limit ts b) (λ y. Is (sameValues ts a x b y)))) f
+      ap (λ (p : Parsed). onResult p Refused (λ x. sameRows sort x a b)) e
+      ∙ ap (λ (q : Values). onValues q (λ x. onValues (allColumns sort ts b) (λ y. Is (sameValues ts a x b y)))) f
       ∙ ap (λ (q : Values). onValues q (λ y. Is (sameValues ts a vs b y))) g
 
-pub same-itself : {w limit : ℕ} {schema r : List ℕ} (q : FullRead w limit schema r) → SameAsItself q
-same-itself {w} {limit} {schema} {r} q =
+pub same-itself : {sort : Bool} {schema r : List ℕ} (q : FullRead sort schema r) → SameAsItself q
+same-itself {sort} {schema} {r} q =
     let x = all-of q in
-    compared w limit schema r r (x .columns) (x .schema-good) (x .read) (x .read) (x .all-read) (x .all-read)
+    compared sort schema r r (x .columns) (x .schema-good) (x .read) (x .read) (x .all-read) (x .all-read)
     ∙ ap Is (values-self r (x .columns) (x .read) (x .count))
 
-pub same-either-way : {w limit : ℕ} {schema a b : List ℕ} (p : FullRead w limit schema a)
-    (q : FullRead w limit schema b) → SameEitherWay p q
-same-either-way {w} {limit} {schema} {a} {b} p q =
+pub same-either-way : {sort : Bool} {schema a b : List ℕ} (p : FullRead sort schema a)
+    (q : FullRead sort schema b) → SameEitherWay p q
+same-either-way {sort} {schema} {a} {b} p q =
     let x = all-of p in
     let y = all-of q in
     let ts : x .columns ≡ y .columns = ap columnsOf (sym (x .schema-good) ∙ y .schema-good) in
-    let f : allColumns w limit (x .columns) b ≡ ok (y .read) = ap
-    (λ (us : List DataType). allColumns w limit us b) ts ∙ y .all-read in
-    compared w limit schema a b (x .columns) (x .schema-good) (x .read) (y .read) (x .all-read) f
+    let f : allColumns sort (x .columns) b ≡ ok (y .read) = ap
+    (λ (us : List DataType). allColumns sort us b) ts ∙ y .all-read in
+    compared sort schema a b (x .columns) (x .schema-good) (x .read) (y .read) (x .all-read) f
     ∙ ap Is (values-sym a b (x .columns) (x .read) (y .read))
-    ∙ sym (compared w limit schema b a (x .columns) (x .schema-good) (y .read) (x .read) f (x .all-read))
+    ∙ sym (compared sort schema b a (x .columns) (x .schema-good) (y .read) (x .read) f (x .all-read))

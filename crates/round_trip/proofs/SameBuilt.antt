@@ -1,5 +1,5 @@
 -- A row that reads has the same content as what is built of its own values.
-use Prim.Native.Nat.{ℕ, zero, suc, _+_, _^_, _<_}
+use Prim.Native.Nat.{ℕ, zero, suc, _+_, _<_}
 use mathlib.Core.Path.{_≡_, sym, ap, _∙_}
 use mathlib.Core.Bool.{Bool, true, false}
 use mathlib.Core.List.{List, [], _∷_, map}
@@ -9,7 +9,7 @@ use lib.Seq.{drop-cons}
 use Rattle.error.specs.declared.Flag.the-variants.{Is}
 use Rattle.error.specs.Result.{ok, refused}
 use Rattle.laws.proofs.Bytes.{AllBytes}
-use Rattle.row_format.specs.Places.{varlens, minimum}
+use Rattle.row_format.specs.Places.{varlens, minimum, offsetWidth}
 use Rattle.row_format.specs.Table.{Cell}
 use Rattle.datatype.specs.declared.DataType.the-variants as T
 use Rattle.datatype.specs.Types.{shapeOf, lengthOf}
@@ -49,15 +49,14 @@ all-sized (v ∷ vs) h = (h 0 (omega arith), all-sized vs (λ k l. h (suc k) (om
 
 -- ---- a build whose text area is a row r that its values were read of
 
-module _ {w limit : ℕ} {schema list r out : List ℕ} {n : ℕ} {after : List ℕ}
-    (b : Built w limit schema list r out n after)
-    (small : limit < 256 ^ w)
+module _ {sort : Bool} {schema list r out : List ℕ} {n : ℕ} {after : List ℕ}
+    (b : Built sort schema list r out n after)
     (reads : (k : ℕ) → k < length (b .columns) → Read (typeAt (b .columns) k) r (givenValue b k)) where
   sized : AllSized (b .given)
   sized = all-sized (b .given) (λ k h. reads k (rw (← taken b .count) h) .sized)
 
   read-back : ReadsBack b
-  read-back = sized-back b small sized
+  read-back = sized-back b sized
 
   column-same : (i : ℕ) → i < length (b .columns)
       → sameContent (lengthOf (typeAt (b .columns) i)) (givenValue b i) (givenText b i) (givenBack b i)
@@ -80,7 +79,7 @@ module _ {w limit : ℕ} {schema list r out : List ℕ} {n : ℕ} {after : List 
 
   columns-same : (m i : ℕ) → i + m ≡ length (b .columns)
       → sameValues (drop i (b .columns)) r (drop i (b .given)) (row b)
-      (valuesBack w (b .columns) wanted r (row b) i (drop i (b .given))) ≡ true
+      (valuesBack (offsetWidth sort) (b .columns) wanted r (row b) i (drop i (b .given))) ≡ true
   columns-same zero i e = rw (drop-of-length-le (b .columns) {i = i} (omega arith))
   columns-same (suc m) i e =
       let h : i < length (b .columns) = omega arith in
@@ -92,56 +91,55 @@ module _ {w limit : ℕ} {schema list r out : List ℕ} {n : ℕ} {after : List 
       )
       (columns-same m (suc i) (omega arith))
 
-  row-read : allColumns w limit (b .columns) (row b) ≡ ok (valuesBack w (b .columns) wanted r (row b) 0 (b .given))
+  row-read : allColumns sort (b .columns) (row b) ≡ ok (valuesBack (offsetWidth sort) (b .columns) wanted r (row b) 0 (b .given))
   row-read =
-      ap (λ (f : Frame). onFrame f refused (λ p. readFrom w p (b .columns) wanted (row b) 0 (length (b .columns))))
+      ap (λ (f : Frame). onFrame f refused (λ p. readFrom (offsetWidth sort) p (b .columns) wanted (row b) 0 (length (b .columns))))
       (frame-back b)
-      ∙ columns-back b small sized wanted
+      ∙ columns-back b sized wanted
 
-  same-row : allColumns w limit (b .columns) r ≡ ok (b .given) → sameCall w limit schema r (row b) ≡ Is true
+  same-row : allColumns sort (b .columns) r ≡ ok (b .given) → sameCall sort schema r (row b) ≡ Is true
   same-row e =
-      compared w limit schema r (row b) (b .columns) (b .schema-good) (b .given)
-      (valuesBack w (b .columns) wanted r (row b) 0 (b .given)) e row-read
+      compared sort schema r (row b) (b .columns) (b .schema-good) (b .given)
+      (valuesBack (offsetWidth sort) (b .columns) wanted r (row b) 0 (b .given)) e row-read
       ∙ ap Is (columns-same (length (b .columns)) 0 (omega arith))
 
--- ---- the values that a read of r gave
+-- ---- the values that a read of a short row r gave
 
-module _ {w limit : ℕ} {schema r : List ℕ} (q : FullRead w limit schema r) (narrow : limit < 65536)
-    (octets : AllBytes r) where
+module _ {schema r : List ℕ} (q : FullRead false schema r) (octets : AllBytes r) where
   abbrev x : All q
   x = all-of q
 
-  row-fine : Fine limit (λ p. minimum w p (map shapeOf (x .columns))) r (x .packed)
-  row-fine = fine limit (length (x .columns)) (varlens (map shapeOf (x .columns)))
-      (λ p. minimum w p (map shapeOf (x .columns))) r (x .frame)
+  row-fine : Fine false (λ p. minimum (offsetWidth false) p (map shapeOf (x .columns))) r (x .packed)
+  row-fine = fine false (length (x .columns)) (varlens (map shapeOf (x .columns)))
+      (λ p. minimum (offsetWidth false) p (map shapeOf (x .columns))) r (x .frame)
 
   value-read : (k : ℕ) → k < length (x .columns) → Read (typeAt (x .columns) k) r (getD (x .read) k Null)
   value-read k h =
-      column-read w (x .packed) (x .columns) r octets (omega (arith, row-fine .short)) (row-fine .long) k h
-      (column-digits w limit schema (x .schema-good) k h) (column-scale w limit schema (x .schema-good) k h)
+      column-read (offsetWidth false) (x .packed) (x .columns) r octets (omega (arith, row-fine .short)) (row-fine .long) k h
+      (column-digits false schema (x .schema-good) k h) (column-scale false schema (x .schema-good) k h)
       (x .each k h)
 
-  list-good : checked limit (length (x .columns)) (length r) (listRead q) ≡ ok (x .read)
+  list-good : checked false (length (x .columns)) (length r) (listRead q) ≡ ok (x .read)
   list-good =
       rw (x .list-is)
-      (list-checked limit (length (x .columns)) (length r) (x .read)
+      (list-checked false (length (x .columns)) (length r) (x .read)
       (all-sized (x .read) (λ k h. value-read k (rw (← x .count) h) .sized)) (x .count) (row-fine .short))
 
-  module _ {out : List ℕ} {n : ℕ} {after : List ℕ} (b : Built w limit schema (listRead q) r out n after) where
+  module _ {out : List ℕ} {n : ℕ} {after : List ℕ} (b : Built false schema (listRead q) r out n after) where
     columns-are : x .columns ≡ b .columns
     columns-are = ap columnsOf (sym (x .schema-good) ∙ b .schema-good)
 
     given-are : x .read ≡ b .given
     given-are =
-        let said : checked limit (length (x .columns)) (length r) (listRead q) ≡ ok (b .given) = rw columns-are
+        let said : checked false (length (x .columns)) (length r) (listRead q) ≡ ok (b .given) = rw columns-are
         (b .list-good) in
         ap valuesGiven (sym list-good ∙ said)
 
     given-read : (k : ℕ) → k < length (b .columns) → Read (typeAt (b .columns) k) r (givenValue b k)
     given-read = rw (← columns-are, ← given-are) value-read
 
-pub same-as-built : {w limit : ℕ} {schema r : List ℕ} (q : FullRead w limit schema r) → SameAsBuilt q
-same-as-built {w} {limit} {schema} {r} q small narrow octets out counts n after numbers o =
-    let b = built w limit schema (listRead q) r out counts n after numbers o .built in
-    let all = rw (columns-are q narrow octets b, given-are q narrow octets b) at (all-of q .all-read) in
-    same-row b small (given-read q narrow octets b) all
+pub same-as-built : {schema r : List ℕ} (q : FullRead false schema r) → SameAsBuilt q
+same-as-built {schema} {r} q octets out counts n after numbers o =
+    let b = built false schema (listRead q) r out counts n after numbers o .built in
+    let all = rw (columns-are q octets b, given-are q octets b) at (all-of q .all-read) in
+    same-row b (given-read q octets b) all

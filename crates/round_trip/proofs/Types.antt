@@ -90,12 +90,12 @@ module _ (P : DataType → Type 0) (s : List ℕ)
           let p = first-left s at (suc n) e k n refl f in
           first-or (holds at t next f) (rest next (p .tail) (p .ahead)) ts (p .split) i h
 
-module _ (w limit : ℕ) (s : List ℕ) {ts : List DataType} (e : schemaOf w limit s ≡ ok ts) (i : ℕ)
+module _ (sort : Bool) (s : List ℕ) {ts : List DataType} (e : schemaOf sort s ≡ ok ts) (i : ℕ)
     (h : i < length ts) where
   pub column-digits : precisionOf (typeAt ts i) ≤ 38
   column-digits = each (λ t. precisionOf t ≤ 38) s (λ at t next f. few-digits s at f) 256 0 ts
-      (schema-records w limit s e) i h
+      (schema-records sort s e) i h
 
   pub column-scale : scaleOf (typeAt ts i) ≤ 38
   column-scale = each (λ t. scaleOf t ≤ 38) s (λ at t next f. small-scale s at f) 256 0 ts
-      (schema-records w limit s e) i h
+      (schema-records sort s e) i h

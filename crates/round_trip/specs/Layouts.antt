@@ -18,8 +18,8 @@ pub data AllAlike : List DataType → List DataType → Type 0 where
   more : {t u : DataType} {ts us : List DataType} → Alike t u → AllAlike ts us → AllAlike (t ∷ ts) (u ∷ us)
 
 -- two builds of one value list and text area, under schemas whose columns are alike, make the same row
-abbrev pub OneLayout : {w limit : ℕ} {schema list area out : List ℕ} {n : ℕ} {after : List ℕ}
+abbrev pub OneLayout : {sort : Bool} {schema list area out : List ℕ} {n : ℕ} {after : List ℕ}
     {schema' out' : List ℕ} {n' : ℕ} {after' : List ℕ}
-    (b : Built w limit schema list area out n after) (b' : Built w limit schema' list area out' n' after') → Type 0
+    (b : Built sort schema list area out n after) (b' : Built sort schema' list area out' n' after') → Type 0
 OneLayout {n = n} {after = after} {n' = n'} {after' = after'} b b' =
     AllAlike (b .columns) (b' .columns) → take n after ≡ take n' after'

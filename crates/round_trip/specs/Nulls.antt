@@ -9,9 +9,10 @@ use Rattle.null_bitmap.specs.Bitmap.{nullFlag}
 use Rattle.record_slot.specs.Stored.{isNull}
 use Rattle.row_build.specs.Built.{Built}
 use Rattle.round_trip.specs.ReadBack.{row, givenValue}
+use mathlib.Core.Bool.{Bool}
 
 -- a build that answered Done: whether null was given for a column; "9 against the header's count" past the last one
-pub record NullsBack {w limit : ℕ} {schema list area out : List ℕ} {n : ℕ} {after : List ℕ}
-    (b : Built w limit schema list area out n after) : Type 0 where
-  pub flag : (i : ℕ) → i < length (b .columns) → nullFlag limit (row b) i ≡ Is (isNull (givenValue b i))
-  pub past : (i : ℕ) → length (b .columns) ≤ i → nullFlag limit (row b) i ≡ Refused NoSuchColumn
+pub record NullsBack {sort : Bool} {schema list area out : List ℕ} {n : ℕ} {after : List ℕ}
+    (b : Built sort schema list area out n after) : Type 0 where
+  pub flag : (i : ℕ) → i < length (b .columns) → nullFlag sort (row b) i ≡ Is (isNull (givenValue b i))
+  pub past : (i : ℕ) → length (b .columns) ≤ i → nullFlag sort (row b) i ≡ Refused NoSuchColumn

@@ -1,6 +1,6 @@
 -- What a read of a built row gives: the values it was built of, with their texts as parts of the row, and the counts
 -- that building put. FORMAT 7.1.
-use Prim.Native.Nat.{ℕ, suc, _^_, _<_}
+use Prim.Native.Nat.{ℕ, suc, _<_}
 use mathlib.Core.Bool.{Bool, true, cond}
 use mathlib.Core.List.{List, [], _∷_, map}
 use mathlib.Core.Path.{_≡_}
@@ -9,7 +9,7 @@ use mir.Syntax.{w8}
 use mir.Val.{Fits}
 use Rattle.error.specs.Answer.{placedBoth}
 use Rattle.laws.specs.Bytes.{entryAt}
-use Rattle.row_format.specs.Places.{rankOf, tableStart, slotPlace}
+use Rattle.row_format.specs.Places.{rankOf, tableStart, slotPlace, offsetWidth}
 use Rattle.datatype.specs.declared.DataType.{DataType}
 use Rattle.datatype.specs.Types.{isVarlen, shapeOf}
 use Rattle.datatype.specs.Check.{typeAt}
@@ -53,8 +53,8 @@ wantedPoints wanted i (n ∷ ns) = cond (wanted i) n 0 ∷ wantedPoints wanted (
 
 -- ---- a build that answered Done
 
-module _ {w limit : ℕ} {schema list area out : List ℕ} {n : ℕ} {after : List ℕ}
-    (b : Built w limit schema list area out n after) where
+module _ {sort : Bool} {schema list area out : List ℕ} {n : ℕ} {after : List ℕ}
+    (b : Built sort schema list area out n after) where
   -- its row; what was given for column i, and its text
   abbrev pub row : List ℕ
   row = take n after
@@ -67,7 +67,7 @@ module _ {w limit : ℕ} {schema list area out : List ℕ} {n : ℕ} {after : Li
 
   -- what column i gives back, and its stored form
   abbrev pub givenBack : ℕ → DataValue
-  givenBack i = valueBack w (b .columns) i (givenValue i) (givenText i) row
+  givenBack i = valueBack (offsetWidth sort) (b .columns) i (givenValue i) (givenText i) row
 
   abbrev pub givenForm : ℕ → List ℕ
   givenForm i = storedForm (typeAt (b .columns) i) (givenValue i) (givenText i)
@@ -78,21 +78,23 @@ module _ {w limit : ℕ} {schema list area out : List ℕ} {n : ℕ} {after : Li
 
   pub record ReadsBack : Type 0 where
     -- no refusal by the header, which says packed
-    pub frame : frameOf w limit (b .columns) row ≡ Good true
+    pub frame : frameOf sort (b .columns) row ≡ Good true
     -- each column gives back what was given for it
-    pub column : (i : ℕ) → i < length (b .columns) → columnValue w true (b .columns) i row ≡ Value (givenBack i)
+    pub column : (i : ℕ) → i < length (b .columns)
+        → columnValue (offsetWidth sort) true (b .columns) i row ≡ Value (givenBack i)
     -- and its text, if it has one, is the stored form
     pub text : (i : ℕ) → i < length (b .columns) → hasText (givenValue i) ≡ true
         → textOf row (givenBack i) ≡ givenForm i
     -- the whole call, for any output, any list of counts and any list of wanted columns: "unknown column numbers
     -- ignored; null for an unwanted column"
-    pub read : (ws o counts : List ℕ) → readCall w limit schema row ws o counts
-        ≡ placedBoth o counts (listOf (valuesBack w (b .columns) (isWanted ws) area row 0 (b .given)))
+    pub read : (ws o counts : List ℕ) → readCall sort schema row ws o counts
+        ≡ placedBoth o counts
+        (listOf sort (valuesBack (offsetWidth sort) (b .columns) (isWanted ws) area row 0 (b .given)))
         (wantedPoints (isWanted ws) 0 countsPut)
     -- which are all of them where all columns are wanted
     pub all-counts : (ws : List ℕ) → ((i : ℕ) → i < length (b .columns) → isWanted ws i ≡ true)
         → wantedPoints (isWanted ws) 0 countsPut ≡ countsPut
 
-  -- where offsets hold every length up to the limit, and the value list is a list of bytes
+  -- where the value list is a list of bytes
   abbrev pub BuiltReadsBack : Type 0
-  BuiltReadsBack = limit < 256 ^ w → ((k : ℕ) → Fits w8 (getD list k 0)) → ReadsBack
+  BuiltReadsBack = ((k : ℕ) → Fits w8 (getD list k 0)) → ReadsBack

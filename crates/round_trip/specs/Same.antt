@@ -1,7 +1,7 @@
 -- 01, "Same content (added) compares two rows of one schema by what a read of all columns gives": on rows that read,
 -- and on a row that is built of what was read. FORMAT 7.4.
-use Prim.Native.Nat.{ℕ, _<_, _^_}
-use mathlib.Core.Bool.{true}
+use Prim.Native.Nat.{ℕ, _<_}
+use mathlib.Core.Bool.{true, Bool, false}
 use mathlib.Core.List.{List}
 use mathlib.Core.Path.{_≡_}
 use lib.ListN.{length, getD, take}
@@ -17,36 +17,35 @@ use Rattle.row_same.specs.Rows.{sameCall}
 use Rattle.row_build.specs.Build.{buildCall}
 
 -- "a read of all columns" that answered Done
-pub record FullRead (w limit : ℕ) (schema r : List ℕ) : Type 0 where
+pub record FullRead (sort : Bool) (schema r : List ℕ) : Type 0 where
   pub wanted : List ℕ
-  pub all : (ts : List DataType) → schemaOf w limit schema ≡ ok ts
+  pub all : (ts : List DataType) → schemaOf sort schema ≡ ok ts
       → (i : ℕ) → i < length ts → isWanted wanted i ≡ true
   pub out : List ℕ
   pub counts : List ℕ
   pub size : ℕ
   pub after : List ℕ
   pub numbers : List ℕ
-  pub done : readCall w limit schema r wanted out counts ≡ (Done size, (after, numbers))
+  pub done : readCall sort schema r wanted out counts ≡ (Done size, (after, numbers))
 
 -- the value list that it answered with
-abbrev pub listRead : {w limit : ℕ} {schema r : List ℕ} → FullRead w limit schema r → List ℕ
+abbrev pub listRead : {sort : Bool} {schema r : List ℕ} → FullRead sort schema r → List ℕ
 listRead q = take (q .size) (q .after)
 
-module _ {w limit : ℕ} {schema r : List ℕ} (q : FullRead w limit schema r) where
+module _ {sort : Bool} {schema r : List ℕ} (q : FullRead sort schema r) where
   -- such a row has the same content as itself
   abbrev pub SameAsItself : Type 0
-  SameAsItself = sameCall w limit schema r r ≡ Is true
+  SameAsItself = sameCall sort schema r r ≡ Is true
 
-  -- And as what is built of the values that were read, with the row as text area. The row is bytes; offsets, and
-  -- ranges of two bytes a number, hold every length up to the limit.
-  abbrev pub SameAsBuilt : Type 0
-  SameAsBuilt =
-      limit < 256 ^ w → limit < 65536 → ((k : ℕ) → Fits w8 (getD r k 0))
-      → (out counts : List ℕ) (n : ℕ) (after numbers : List ℕ)
-      → buildCall w limit schema (listRead q) r out counts ≡ (Done n, (after, numbers))
-      → sameCall w limit schema r (take n after) ≡ Is true
+-- A short row has the same content as what is built of the values that were read, with the row as text area. The row
+-- is bytes.
+abbrev pub SameAsBuilt : {schema r : List ℕ} → FullRead false schema r → Type 0
+SameAsBuilt {schema} {r} q =
+    ((k : ℕ) → Fits w8 (getD r k 0)) → (out counts : List ℕ) (n : ℕ) (after numbers : List ℕ)
+    → buildCall false schema (listRead q) r out counts ≡ (Done n, (after, numbers))
+    → sameCall false schema r (take n after) ≡ Is true
 
 -- two such rows, either way round
-abbrev pub SameEitherWay : {w limit : ℕ} {schema a b : List ℕ}
-    → FullRead w limit schema a → FullRead w limit schema b → Type 0
-SameEitherWay {w} {limit} {schema} {a} {b} p q = sameCall w limit schema a b ≡ sameCall w limit schema b a
+abbrev pub SameEitherWay : {sort : Bool} {schema a b : List ℕ}
+    → FullRead sort schema a → FullRead sort schema b → Type 0
+SameEitherWay {sort} {schema} {a} {b} p q = sameCall sort schema a b ≡ sameCall sort schema b a

@@ -1,7 +1,7 @@
 -- 01, "A further call (added) answers with a column's text": the text call beside a read of that column, and on rows
 -- that were built. FORMAT 7.3.
-use Prim.Native.Nat.{ℕ, _^_, _<_}
-use mathlib.Core.Bool.{true}
+use Prim.Native.Nat.{ℕ, _<_}
+use mathlib.Core.Bool.{true, Bool}
 use mathlib.Core.List.{List, [], _∷_}
 use mathlib.Core.Logic.{_↔_}
 use mathlib.Core.Path.{_≡_}
@@ -27,10 +27,10 @@ use Rattle.round_trip.specs.ReadBack.{row, givenBack, givenForm}
 
 -- ---- "It refuses as a read of that column"
 
-module _ (w limit : ℕ) (schema r : List ℕ) (i : ℕ) where
+module _ (sort : Bool) (schema r : List ℕ) (i : ℕ) where
   -- a read of column i alone
   abbrev pub readColumn : List ℕ → List ℕ → Counted
-  readColumn out counts = readCall w limit schema r (i ∷ []) out counts
+  readColumn out counts = readCall sort schema r (i ∷ []) out counts
 
   -- Such a read answers with `value` for that column, "null for an unwanted column", and with its count, "0 for all
   -- other columns"; the value has the range x. "A null [..] gives the empty part".
@@ -40,35 +40,35 @@ module _ (w limit : ℕ) (schema r : List ℕ) (i : ℕ) where
     pub value : DataValue
     pub range : rangeOf value ≡ x
     pub read : (out counts : List ℕ) → readColumn out counts
-        ≡ placedBoth out counts (listOf (set (replicate columns Null) i value))
+        ≡ placedBoth out counts (listOf sort (set (replicate columns Null) i value))
         (set (replicate columns 0) i (pointsIn r value))
     pub null-empty : value ≡ Null → textPart r (Part x) ≡ []
 
   -- both refuse alike, whatever room the read has; else the part is the range that the read's record names
   pub record AsRead : Type 0 where
     pub refuses : (e : Refusal)
-        → (textCall w limit schema r i ≡ Refused e)
+        → (textCall sort schema r i ≡ Refused e)
         ↔ ((out counts : List ℕ) → readColumn out counts ≡ unchangedBoth out counts e)
-    pub names : (x : TextRange) → textCall w limit schema r i ≡ Part x → Names x
+    pub names : (x : TextRange) → textCall sort schema r i ≡ Part x → Names x
 
   -- "9 and 11 (not Char, Character or Varchar) come after 2": where the text call answers neither of them
   abbrev pub TextAsRead : Type 0
   TextAsRead =
-      (textCall w limit schema r i ≡ Refused NoSuchColumn → ⊥)
-      → (textCall w limit schema r i ≡ Refused (WrongKind i) → ⊥)
+      (textCall sort schema r i ≡ Refused NoSuchColumn → ⊥)
+      → (textCall sort schema r i ≡ Refused (WrongKind i) → ⊥)
       → AsRead
 
 -- ---- a build that answered Done
 
-module _ {w limit : ℕ} {schema list area out : List ℕ} {n : ℕ} {after : List ℕ}
-    (b : Built w limit schema list area out n after) where
+module _ {sort : Bool} {schema list area out : List ℕ} {n : ℕ} {after : List ℕ}
+    (b : Built sort schema list area out n after) where
   -- a column that holds text: no refusal, and the part is the stored form of what was given, which is empty for a null
   pub record TextBack (i : ℕ) : Type 0 where
-    pub answer : textCall w limit schema (row b) i ≡ Part (rangeOf (givenBack b i))
-    pub text : textPart (row b) (textCall w limit schema (row b) i) ≡ givenForm b i
+    pub answer : textCall sort schema (row b) i ≡ Part (rangeOf (givenBack b i))
+    pub text : textPart (row b) (textCall sort schema (row b) i) ≡ givenForm b i
 
-  -- where offsets hold every length up to the limit, and the value list is a list of bytes
+  -- where the value list is a list of bytes
   abbrev pub BuiltTextBack : Type 0
   BuiltTextBack =
-      limit < 256 ^ w → ((k : ℕ) → Fits w8 (getD list k 0))
+      ((k : ℕ) → Fits w8 (getD list k 0))
       → (i : ℕ) → i < length (b .columns) → holdsText (typeAt (b .columns) i) ≡ true → TextBack i

@@ -1,5 +1,5 @@
 -- What a build that answers Done has done, and which lists build equal rows.
-use Prim.Native.Nat.{ℕ, _^_, _≤_, _<_}
+use Prim.Native.Nat.{ℕ, _≤_}
 use mathlib.Core.Path.{_≡_, refl, sym, ap, _∙_, subst}
 use mathlib.Core.Bool.{Bool, true, false, cond, _||_}
 use mathlib.Core.List.{List, map}
@@ -15,9 +15,11 @@ use Rattle.error.specs.Answer.{Outcome, unchanged, placed, Counted, unchangedBo
 use Rattle.error.specs.Result.{Result, ok, refused, onResult}
 use Rattle.laws.specs.InnerForall.{Forall₂}
 use Rattle.laws.proofs.Bytes.{part-stored}
+use Rattle.row_format.specs.Places.{offsetWidth, rowLimit}
 use Rattle.row_format.specs.Table.{Cell}
-use Rattle.row_format.specs.Row.{builtRow}
+use Rattle.row_format.specs.Row.{packedMarks, builtRow}
 use Rattle.row_format.proofs.Cells.{built-inj}
+use Rattle.row_format.proofs.Sorts.{fits-limit}
 use Rattle.row_format.specs.InnerRow.{FitsCell}
 use Rattle.datatype.specs.declared.DataType.{DataType}
 use Rattle.datatype.specs.Types.{shapeOf}
@@ -83,26 +85,26 @@ placed-both-done out counts x ns {n} {after} {numbers} e = by-room (ltb (length 
           put = sym (ap (λ (z : Counted). z .1 .1) p);
         }
 
-module _ (w limit : ℕ) (schema list area out counts : List ℕ) (n : ℕ) (after numbers : List ℕ) where
+module _ (k : Bool) (schema list area out counts : List ℕ) (n : ℕ) (after numbers : List ℕ) where
   abbrev Goal : Type 0
-  Goal = DoneBuild w limit schema list area out counts n after numbers
+  Goal = DoneBuild k schema list area out counts n after numbers
 
-  of-cells : (ts : List DataType) → schemaOf w limit schema ≡ ok ts → (vs : List DataValue) → checked limit (length ts) (length area) list ≡ ok vs
+  of-cells : (ts : List DataType) → schemaOf k schema ≡ ok ts → (vs : List DataValue) → checked k (length ts) (length area) list ≡ ok vs
       → (q : Result (List Cell)) → cellsFrom 0 ts vs area ≡ q
-      → onResult q (unchangedBoth out counts) (λ cs. rowPlacedBoth limit out counts (builtRow w (map shapeOf ts) cs) (cellsPoints ts cs)) ≡ (Answer.Done n, (after, numbers)) → Goal
+      → onResult q (unchangedBoth out counts) (λ cs. rowPlacedBoth k out counts (builtRow (offsetWidth k) (packedMarks k) (map shapeOf ts) cs) (cellsPoints ts cs)) ≡ (Answer.Done n, (after, numbers)) → Goal
   of-cells ts e vs f (refused u) g o = absurd (subst IsDone (sym o) tt)
-  of-cells ts e vs f (ok cs) g o = by-limit (ltb limit (length r)) refl o
+  of-cells ts e vs f (ok cs) g o = by-limit (ltb (rowLimit k) (length r)) refl o
     where
       r : List ℕ
-      r = builtRow w (map shapeOf ts) cs
+      r = builtRow (offsetWidth k) (packedMarks k) (map shapeOf ts) cs
 
       many : length (cellsPoints ts cs) ≡ length ts
-      many = many-points ts vs area g (checked-taken limit (length ts) (length area) list f .count)
+      many = many-points ts vs area g (checked-taken k (length ts) (length area) list f .count)
 
-      by-limit : (t : Bool) → ltb limit (length r) ≡ t
+      by-limit : (t : Bool) → ltb (rowLimit k) (length r) ≡ t
           → cond t (unchangedBoth out counts RowLimit) (placedBoth out counts r (cellsPoints ts cs)) ≡ (Answer.Done n, (after, numbers)) → Goal
-      by-limit true k p = absurd (subst IsDone (sym p) tt)
-      by-limit false k p =
+      by-limit true l p = absurd (subst IsDone (sym p) tt)
+      by-limit false l p =
           let q = placed-both-done out counts r (cellsPoints ts cs) p in
           let x = q .bytes in
           record {
@@ -115,7 +117,7 @@ module _ (w limit : ℕ) (schema list area out counts : List ℕ) (n : ℕ) (aft
                   cells = cs;
                   cells-good = g;
                   size = x .size;
-                  short = rw (x .size) (ltb-false limit (length r) k);
+                  short = rw (x .size) (ltb-false (rowLimit k) (length r) l);
                   room = rw (x .size) (x .room);
                   stored = x .stored;
                   row = x .part;
@@ -123,41 +125,41 @@ module _ (w limit : ℕ) (schema list area out counts : List ℕ) (n : ℕ) (aft
             counted = record { many = many; enough = rw many at (q .enough); put = q .put };
           }
 
-  of-values : (ts : List DataType) → schemaOf w limit schema ≡ ok ts → (q : Values) → checked limit (length ts) (length area) list ≡ q
-      → onResult q (unchangedBoth out counts) (λ vs. buildValues w limit ts vs area out counts) ≡ (Answer.Done n, (after, numbers)) → Goal
+  of-values : (ts : List DataType) → schemaOf k schema ≡ ok ts → (q : Values) → checked k (length ts) (length area) list ≡ q
+      → onResult q (unchangedBoth out counts) (λ vs. buildValues k ts vs area out counts) ≡ (Answer.Done n, (after, numbers)) → Goal
   of-values ts e (refused u) f o = absurd (subst IsDone (sym o) tt)
   of-values ts e (ok vs) f o = of-cells ts e vs f (cellsFrom 0 ts vs area) refl o
 
-  of-schema : (q : Parsed) → schemaOf w limit schema ≡ q → onResult q (unchangedBoth out counts) (λ ts. buildRow w limit ts list area out counts) ≡ (Answer.Done n, (after, numbers)) → Goal
+  of-schema : (q : Parsed) → schemaOf k schema ≡ q → onResult q (unchangedBoth out counts) (λ ts. buildRow k ts list area out counts) ≡ (Answer.Done n, (after, numbers)) → Goal
   of-schema (refused u) e o = absurd (subst IsDone (sym o) tt)
-  of-schema (ok ts) e o = of-values ts e (checked limit (length ts) (length area) list) refl o
+  of-schema (ok ts) e o = of-values ts e (checked k (length ts) (length area) list) refl o
 
-pub built : (w limit : ℕ) (schema list area out counts : List ℕ) → DoneIsBuilt w limit schema list area out counts
-built w limit schema list area out counts n after numbers o = of-schema w limit schema list area out counts n after numbers (schemaOf w limit schema) refl o
+pub built : (k : Bool) (schema list area out counts : List ℕ) → DoneIsBuilt k schema list area out counts
+built k schema list area out counts n after numbers o = of-schema k schema list area out counts n after numbers (schemaOf k schema) refl o
 
 -- ---- equal rows
 
-cells-suit : {w limit : ℕ} {schema list area out : List ℕ} {n : ℕ} {after : List ℕ} (b : Built w limit schema list area out n after)
+cells-suit : {k : Bool} {schema list area out : List ℕ} {n : ℕ} {after : List ℕ} (b : Built k schema list area out n after)
     → Forall₂ FitsCell (map shapeOf (b .columns)) (b .cells)
-cells-suit {w} {limit} {schema} {list} {area} b =
+cells-suit {k} {schema} {list} {area} b =
     cells-fit area 0 (b .columns) (b .given) (b .cells-good)
-    (checked-taken limit (length (b .columns)) (length area) list (b .list-good) .count)
+    (checked-taken k (length (b .columns)) (length area) list (b .list-good) .count)
 
-module _ {w limit : ℕ} {schema list area out : List ℕ} {n : ℕ} {after : List ℕ} (b : Built w limit schema list area out n after)
-    {list' area' out' : List ℕ} {n' : ℕ} {after' : List ℕ} (b' : Built w limit schema list' area' out' n' after') where
+module _ {k : Bool} {schema list area out : List ℕ} {n : ℕ} {after : List ℕ} (b : Built k schema list area out n after)
+    {list' area' out' : List ℕ} {n' : ℕ} {after' : List ℕ} (b' : Built k schema list' area' out' n' after') where
   same-columns : b .columns ≡ b' .columns
   same-columns = ap columnsOf (sym (b .schema-good) ∙ b' .schema-good)
 
-  row-out : take n' after' ≡ builtRow w (map shapeOf (b .columns)) (b' .cells)
-  row-out = b' .row ∙ ap (λ (ts : List DataType). builtRow w (map shapeOf ts) (b' .cells)) (sym same-columns)
+  row-out : take n' after' ≡ builtRow (offsetWidth k) (packedMarks k) (map shapeOf (b .columns)) (b' .cells)
+  row-out = b' .row ∙ ap (λ (ts : List DataType). builtRow (offsetWidth k) (packedMarks k) (map shapeOf ts) (b' .cells)) (sym same-columns)
 
   same-rows : b .cells ≡ b' .cells → take n after ≡ take n' after'
-  same-rows e = b .row ∙ ap (builtRow w (map shapeOf (b .columns))) e ∙ sym row-out
+  same-rows e = b .row ∙ ap (builtRow (offsetWidth k) (packedMarks k) (map shapeOf (b .columns))) e ∙ sym row-out
 
-  same-cells : limit < 256 ^ w → take n after ≡ take n' after' → b .cells ≡ b' .cells
-  same-cells small e =
+  same-cells : take n after ≡ take n' after' → b .cells ≡ b' .cells
+  same-cells e =
       let f' = cells-suit b' in
-      built-inj w (cells-suit b) (rw (← same-columns) at f') (rw (← b .size) (omega (arith, b .short))) (sym (b .row) ∙ e ∙ row-out)
+      built-inj (offsetWidth k) (packedMarks k) (cells-suit b) (rw (← same-columns) at f') (rw (← b .size) (fits-limit k (b .short))) (sym (b .row) ∙ e ∙ row-out)
 
   pub same-built : EqualRows b b'
-  same-built small = (same-cells small, same-rows)
+  same-built = (same-cells, same-rows)

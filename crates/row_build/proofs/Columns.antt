@@ -1,7 +1,7 @@
 -- One column written: its slot, or its payload with its offset.
 use Prim.Native.Nat.{ℕ, _+_}
 use mathlib.Core.Path.{_≡_, ap, _∙_}
-use mathlib.Core.Bool.{true, false}
+use mathlib.Core.Bool.{Bool, true, false}
 use mathlib.Core.List.{List}
 use lib.ListN.{length, getD}
 use Rattle.datatype.specs.declared.DataType.{DataType}
@@ -19,7 +19,7 @@ use Rattle.record_slot.proofs.Tests.{length-payload}
 use Rattle.record_slot.proofs.Forms.{is-fixed, is-varlen, range-is, varchar-form}
 use Rattle.row_build.specs.InnerSteps.{varlenStored, fixedStored, columnStored, PayloadReady, Storable}
 
-pub storable-suited : {columns i slot entry : ℕ} {t : DataType} {v : DataValue} {area : List ℕ} {end n : ℕ} → Storable columns i slot entry t v area end n → Suited t v area
+pub storable-suited : {k : Bool} {columns i slot entry : ℕ} {t : DataType} {v : DataValue} {area : List ℕ} {end n : ℕ} → Storable k columns i slot entry t v area end n → Suited t v area
 storable-suited p = record { match = p .match; suited = p .suited }
 
 module _ {s : List ℕ} {at : ℕ} {list : List ℕ} {from : ℕ} (r : Readable s at list from) where
@@ -29,14 +29,14 @@ module _ {s : List ℕ} {at : ℕ} {list : List ℕ} {from : ℕ} (r : Readable 
   abbrev v : DataValue
   v = valueIn (valueRecordAt list from)
 
-  module _ {columns i slot entry : ℕ} {area : List ℕ} {end n : ℕ} (p : Storable columns i slot entry t v area end n) where
+  module _ {k : Bool} {columns i slot entry : ℕ} {area : List ℕ} {end n : ℕ} (p : Storable k columns i slot entry t v area end n) where
     pub slot-ready : (getD list from 0 ≡ 9 → ⊥) → SlotReady t v area slot n
-    slot-ready k =
-        let f = is-fixed r (p .match) k in
+    slot-ready o =
+        let f = is-fixed r (p .match) o in
         record { fixed = f; digits = p .digits; match = p .match; suited = p .suited; room = p .slot-in f }
 
-    pub slot-stored : (getD list from 0 ≡ 9 → ⊥) → (out out' : List ℕ) → isNull v ≡ false → out' ≡ fixedStored i slot (formIn s at list from area) out → (end, out') ≡ columnStored i slot entry t v (formIn s at list from area) end out
-    slot-stored k out out' z g = rw (z, is-fixed r (p .match) k, g)
+    pub slot-stored : (getD list from 0 ≡ 9 → ⊥) → (out out' : List ℕ) → isNull v ≡ false → out' ≡ fixedStored i slot (formIn s at list from area) out → (end, out') ≡ columnStored k i slot entry t v (formIn s at list from area) end out
+    slot-stored o out out' z g = rw (z, is-fixed r (p .match) o, g)
 
     module _ (e : getD list from 0 ≡ 9) where
       abbrev vl : isVarlen t ≡ true
@@ -45,7 +45,7 @@ module _ {s : List ℕ} {at : ℕ} {list : List ℕ} {from : ℕ} (r : Readable 
       form-length : length (formIn s at list from area) ≡ rangeAt list (from + 1) .length
       form-length = length-payload t v area (p .match) (p .suited) vl ∙ ap (λ (q : TextRange). q .length) (range-is r (p .match) e)
 
-      pub payload-ready : PayloadReady (rangeAt list (from + 1)) area entry end n
+      pub payload-ready : PayloadReady k (rangeAt list (from + 1)) area entry end n
       payload-ready =
           record {
             inside = rw (range-is r (p .match) e) at (accepted-inside t v area (p .suited));
@@ -54,6 +54,6 @@ module _ {s : List ℕ} {at : ℕ} {list : List ℕ} {from : ℕ} (r : Readable 
             small = rw (vl, form-length) at (p .end-fits);
           }
 
-      pub varchar-stored : (res : ℕ) (out out' : List ℕ) → isNull v ≡ false → res ≡ end + rangeAt list (from + 1) .length → out' ≡ varlenStored i entry (part area (rangeAt list (from + 1))) end out
-          → (res, out') ≡ columnStored i slot entry t v (formIn s at list from area) end out
+      pub varchar-stored : (res : ℕ) (out out' : List ℕ) → isNull v ≡ false → res ≡ end + rangeAt list (from + 1) .length → out' ≡ varlenStored k i entry (part area (rangeAt list (from + 1))) end out
+          → (res, out') ≡ columnStored k i slot entry t v (formIn s at list from area) end out
       varchar-stored res out out' z f g = rw (z, vl, form-length) (rw (f, g, varchar-form r (p .match) e area))

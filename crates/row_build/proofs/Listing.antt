@@ -36,19 +36,19 @@ refused-values : {A : Type 0} (q : Values) {e : Refusal} (bad : Refusal → A) (
 refused-values (ok vs) bad k f = absurd (subst IsGood f tt)
 refused-values (refused u) bad k f = ap bad (sym (ap reasonIn f))
 
-module _ {s : List ℕ} {l : RowLayout} (a : Accepted s l) (list area : List ℕ) {c : ListCheck} (e : c ≡ answer (checked rowLimit (l .«num_columns») (length area) list)) where
+module _ {s : List ℕ} {l : RowLayout} (a : Accepted s l) (list area : List ℕ) {c : ListCheck} (e : c ≡ answer (checked (l .«is_long») (l .«num_columns») (length area) list)) where
   abbrev said : Values
-  said = checked rowLimit (length (typesIn s)) (length area) list
+  said = checked (l .«is_long») (length (typesIn s)) (length area) list
 
   said-is : c ≡ answer said
-  said-is = e ∙ ap (λ (n : ℕ). answer (checked rowLimit n (length area) list)) (columns-all a)
+  said-is = e ∙ ap (λ (n : ℕ). answer (checked (l .«is_long») n (length area) list)) (columns-all a)
 
   pub on-list-refused : {A : Type 0} {u : Refusal} (bad : Refusal → A) (k : List DataValue → A) → c ≡ Check.Refused u → bad u ≡ onResult said bad k
   on-list-refused bad k f = refused-values said bad k (sym said-is ∙ f)
 
   module _ (f : c ≡ Check.Good) where
-    taken : Taken rowLimit (length (typesIn s)) (length area) list (valuesGiven said)
-    taken = checked-taken rowLimit (length (typesIn s)) (length area) list (good-values said (sym said-is ∙ f))
+    taken : Taken (l .«is_long») (length (typesIn s)) (length area) list (valuesGiven said)
+    taken = checked-taken (l .«is_long») (length (typesIn s)) (length area) list (good-values said (sym said-is ∙ f))
 
     same-values : valuesIn list ≡ valuesGiven said
     unfolding valuesIn
@@ -59,7 +59,7 @@ module _ {s : List ℕ} {l : RowLayout} (a : Accepted s l) (list area : List ℕ
 
 -- and of a list that is known to be good
 pub on-list : {s : List ℕ} {l : RowLayout} {list area : List ℕ} → Buildable s l list area → {A : Type 0} (bad : Refusal → A) (k : List DataValue → A)
-    → k (valuesIn list) ≡ onResult (checked rowLimit (length (typesIn s)) (length area) list) bad k
+    → k (valuesIn list) ≡ onResult (checked (l .«is_long») (length (typesIn s)) (length area) list) bad k
 on-list {s} {l} {list} {area} b bad k =
-    sym (ap (λ (q : Values). onResult (judged rowLimit (length (typesIn s)) (length area) (length list) q) bad k) (b .taken)
-    ∙ rw (eq-eqb (length (valuesIn list)) (length (typesIn s)) (b .count), le-ltb rowLimit (length area) (b .short)))
+    sym (ap (λ (q : Values). onResult (judged (l .«is_long») (length (typesIn s)) (length area) (length list) q) bad k) (b .taken)
+    ∙ rw (eq-eqb (length (valuesIn list)) (length (typesIn s)) (b .count), le-ltb (rowLimit (l .«is_long»)) (length area) (b .short)))

@@ -15,6 +15,7 @@ use Rattle.row_format.specs.declared.Shape.the-variants.{Fixed, Varlen}
 use Rattle.row_format.specs.Places.{rowLimit}
 use Rattle.row_format.specs.Table.{Cell, bytes, payloads}
 use Rattle.row_format.specs.Row.{varlenCells}
+use Rattle.row_format.proofs.Sorts.{table-le}
 use Rattle.row_layout.specs.declared.RowLayout.{RowLayout}
 use Rattle.row_layout.specs.InnerLayout.{minimumOf}
 use Rattle.datatype.specs.declared.DataType.{DataType}
@@ -69,7 +70,7 @@ module _ (m : ℕ) (t : DataType) (ts : List DataType) (rest : Result (List Cell
 pub record Measuring (s : List ℕ) (l : RowLayout) (list area : List ℕ) (size i at from : ℕ) : Type 0 where
   pub walk : Together s list i at from
   pub rest : measured size (drop i (typesIn s)) (cellsFrom i (drop i (typesIn s)) (drop i (valuesIn list)) area) ≡ measured (minimumOf l true) (typesIn s) (cellsFrom 0 (typesIn s) (valuesIn list) area)
-  pub bound : size ≤ minimumOf l true + 65535 * i
+  pub bound : size ≤ minimumOf l true + 1048576 * i
 
 module _ {s : List ℕ} {l : RowLayout} {list area : List ℕ} (b : Buildable s l list area) where
   pub measure-start : Measuring s l list area (minimumOf l true) 0 0 0
@@ -97,7 +98,7 @@ module _ {s : List ℕ} {l : RowLayout} {list area : List ℕ} (b : Buildable s 
 
       pub measure-more : {n : ℕ} → res ≡ Answer.Done n → Short res → Measuring s l list area (size + n) (i + 1) (g .next-type) (g .next-value)
       measure-more {n} f short =
-          let few : n ≤ 65535 = rw f at short in
+          let few : n ≤ 1048576 = rw f at short in
           record {
             walk = together-next b (k .walk) h r;
             rest = sym (counted-more size (g .ty) (drop (i + 1) (typesIn s)) others (cellIn i (g .ty) (g .value) area) (sym e ∙ f)) ∙ next;
@@ -114,11 +115,11 @@ pub record Walking (s : List ℕ) (l : RowLayout) (list area : List ℕ) (size i
   pub told : Buildable s l list area → Measuring s l list area size i at from
   pub side : Columns s i at
   pub prefix : Prefix list i from
-  pub bound : size ≤ minimumOf l true + 65535 * i
-  pub short : length area ≤ rowLimit
+  pub bound : size ≤ minimumOf l true + 1048576 * i
+  pub short : length area ≤ rowLimit (l .«is_long»)
 
 module _ {s : List ℕ} {l : RowLayout} (a : Accepted s l) {list area : List ℕ} where
-  pub walk-start : length area ≤ rowLimit → Walking s l list area (minimumOf l true) 0 0 0
+  pub walk-start : length area ≤ rowLimit (l .«is_long») → Walking s l list area (minimumOf l true) 0 0 0
   walk-start h =
       record {
         told = λ b. measure-start b;
@@ -153,12 +154,15 @@ module _ {s : List ℕ} {l : RowLayout} (a : Accepted s l) {list area : List ℕ
           walk-bad g b = measure-bad b (k .told b) h (read-at walk-readable) res f g
 
           module _ {m : ℕ} (g : res ≡ Answer.Done m) (short : Short res) where
-            few : m ≤ 65535
+            few : m ≤ 1048576
             few = rw g at short
 
             -- far from the machine's limit
-            pub walk-room : size + m ≤ 40000000
-            walk-room = let b = a .bounded in omega (arith, few, k .bound, h, columns-all a, b .few, b .ranked, b .tight)
+            pub walk-room : size + m ≤ 400000000
+            walk-room =
+                let b = a .bounded in
+                let table = table-le (l .«is_long») (l .«num_varlen_cols») (omega (arith, b .few, b .ranked)) in
+                omega (arith, few, k .bound, h, columns-all a, b .few, b .tight, table)
 
             pub walk-more : Walking s l list area (size + m) (i + 1) (afterColumn s at) (from + z)
             walk-more =

@@ -18,7 +18,7 @@ use Rattle.laws.proofs.Bytes.{sets-over}
 use Rattle.laws.proofs.Stores.{sets-append}
 use Rattle.row_format.specs.Places.{offsetWidth, rowLimit}
 use Rattle.row_format.specs.Table.{Cell}
-use Rattle.row_format.specs.Row.{packedFlag, header, builtRow}
+use Rattle.row_format.specs.Row.{packedMarks, header, builtRow}
 use Rattle.row_format.proofs.Row.{length-header, length-row, slots-fit}
 use Rattle.row_layout.specs.declared.RowLayout.{RowLayout}
 use Rattle.row_layout.specs.InnerLayout.{minimumOf}
@@ -62,10 +62,10 @@ module _ {s : List ℕ} {l : RowLayout} {list area : List ℕ} (b : Buildable s 
   cells-good : cellsFrom 0 (typesIn s) (valuesIn list) area ≡ ok (cellsIn s list area)
   cells-good = all-good (minimumOf l true) (typesIn s) (cellsFrom 0 (typesIn s) (valuesIn list) area) d
 
-  length-is : length (rowGiven s list area) ≡ n
+  length-is : length (rowGiven (l .«is_long») s list area) ≡ n
   length-is =
       let f = cells-fit area 0 (typesIn s) (valuesIn list) cells-good (b .count) in
-      let e = length-row offsetWidth (header packedFlag (map shapeOf (typesIn s))) (length-header packedFlag (map shapeOf (typesIn s))) f (slots-fit f) in
+      let e = length-row (offsetWidth (l .«is_long»)) (header (packedMarks (l .«is_long»)) (map shapeOf (typesIn s))) (length-header (packedMarks (l .«is_long»)) (map shapeOf (typesIn s))) f (slots-fit f) in
       let m = ap (λ (k : RowLayout). minimumOf k true) (b .accepted .layout) in
       let z = ap counted (rw cells-good at d) in
       omega (arith, e, m, z)
@@ -78,21 +78,21 @@ module _ {s : List ℕ} {l : RowLayout} {list area : List ℕ} (b : Buildable s 
 
   module _ (out counts : List ℕ) where
     abbrev call : Counted
-    call = buildValues offsetWidth rowLimit (typesIn s) (valuesIn list) area out counts
+    call = buildValues (l .«is_long») (typesIn s) (valuesIn list) area out counts
 
-    whole : rowPlacedBoth rowLimit out counts (rowGiven s list area) (countsGiven s list area) ≡ call
-    whole = sym (ap (λ (q : Result (List Cell)). onResult q (unchangedBoth out counts) (λ cs. rowPlacedBoth rowLimit out counts (builtRow offsetWidth (map shapeOf (typesIn s)) cs) (cellsPoints (typesIn s) cs))) cells-good)
+    whole : rowPlacedBoth (l .«is_long») out counts (rowGiven (l .«is_long») s list area) (countsGiven s list area) ≡ call
+    whole = sym (ap (λ (q : Result (List Cell)). onResult q (unchangedBoth out counts) (λ cs. rowPlacedBoth (l .«is_long») out counts (builtRow (offsetWidth (l .«is_long»)) (packedMarks (l .«is_long»)) (map shapeOf (typesIn s)) cs) (cellsPoints (typesIn s) cs))) cells-good)
 
-    pub too-long : rowLimit < n → unchangedBoth out counts RowLimit ≡ call
-    too-long h = rw (length-is, lt-ltb rowLimit n h) at whole
+    pub too-long : rowLimit (l .«is_long») < n → unchangedBoth out counts RowLimit ≡ call
+    too-long h = rw (length-is, lt-ltb (rowLimit (l .«is_long»)) n h) at whole
 
-    module _ (h : n ≤ rowLimit) where
+    module _ (h : n ≤ rowLimit (l .«is_long»)) where
       pub no-room : length out < n → unchangedBoth out counts NoRoom ≡ call
-      no-room k = rw (length-is, le-ltb rowLimit n h, lt-ltb (length out) n k) at whole
+      no-room k = rw (length-is, le-ltb (rowLimit (l .«is_long»)) n h, lt-ltb (length out) n k) at whole
 
       module _ (k : n ≤ length out) where
         pub few-counts : length counts < l .«num_columns» → unchangedBoth out counts NoRoom ≡ call
-        few-counts m = rw (length-is, many, le-ltb rowLimit n h, le-ltb (length out) n k, lt-ltb (length counts) (l .«num_columns») m) at whole
+        few-counts m = rw (length-is, many, le-ltb (rowLimit (l .«is_long»)) n h, le-ltb (length out) n k, lt-ltb (length counts) (l .«num_columns») m) at whole
 
         module _ {first : List ℕ} (e : first ≡ sets out 0 (nullRow l)) where
           least-row : length (nullRow l) ≤ length out
@@ -108,9 +108,9 @@ module _ {s : List ℕ} {l : RowLayout} {list area : List ℕ} (b : Buildable s 
                 short = rw length-is h;
               }
 
-          pub row-placed : l .«num_columns» ≤ length counts → {last numbers : List ℕ} → last ≡ sets first 0 (rowGiven s list area) → numbers ≡ sets counts 0 (countsGiven s list area)
+          pub row-placed : l .«num_columns» ≤ length counts → {last numbers : List ℕ} → last ≡ sets first 0 (rowGiven (l .«is_long») s list area) → numbers ≡ sets counts 0 (countsGiven s list area)
               → (Answer.Done n, (last, numbers)) ≡ call
           row-placed m {last} f g =
-              let same = f ∙ ap (λ (z : List ℕ). sets z 0 (rowGiven s list area)) e ∙ sets-longer out (nullRow l) (rowGiven s list area) least-row (rw (length-null-row, length-is) least) in
+              let same = f ∙ ap (λ (z : List ℕ). sets z 0 (rowGiven (l .«is_long») s list area)) e ∙ sets-longer out (nullRow l) (rowGiven (l .«is_long») s list area) least-row (rw (length-null-row, length-is) least) in
               ap (λ (z : List ℕ). (Answer.Done n, (last, z))) g ∙ ap (λ (z : List ℕ). (Answer.Done n, (z, sets counts 0 (countsGiven s list area)))) same
-              ∙ rw (length-is, many, le-ltb rowLimit n h, le-ltb (length out) n k, le-ltb (length counts) (l .«num_columns») m) at whole
+              ∙ rw (length-is, many, le-ltb (rowLimit (l .«is_long»)) n h, le-ltb (length out) n k, le-ltb (length counts) (l .«num_columns») m) at whole

@@ -10,7 +10,7 @@ use lib.ListN.{length}
 use Rattle.error.specs.declared.Refusal.the-variants.{BadSchema}
 use Rattle.error.specs.Result.{ok, refused}
 use Rattle.laws.proofs.Truths.{cases}
-use Rattle.row_format.specs.Places.{minimum}
+use Rattle.row_format.specs.Places.{minimum, offsetWidth, rowLimit}
 use Rattle.row_format.proofs.Sizes.{packed-least}
 use Rattle.datatype.specs.declared.DataType.{DataType}
 use Rattle.datatype.specs.declared.Record.{Record}
@@ -30,17 +30,17 @@ abbrev typesOf : Parsed → List DataType
 typesOf (ok ts) = ts
 typesOf (refused e) = []
 
-record Passed (w limit : ℕ) (q : Parsed) (ts : List DataType) : Type 0 where
+record Passed (k : Bool) (q : Parsed) (ts : List DataType) : Type 0 where
   all : q ≡ ok ts
-  padded : minimum w false (map shapeOf ts) ≤ limit
+  padded : minimum (offsetWidth k) false (map shapeOf ts) ≤ rowLimit k
 
-passed : (w limit len : ℕ) (q : Parsed) {ts : List DataType} → limited w limit len q ≡ ok ts → Passed w limit q ts
-passed w limit len (refused e) f = absurd (subst IsTypes (sym f) tt)
-passed w limit len (ok us) {ts} f = within (ltb limit (minimum w false (map shapeOf us))) refl f
+passed : (k : Bool) (len : ℕ) (q : Parsed) {ts : List DataType} → limited k len q ≡ ok ts → Passed k q ts
+passed k len (refused e) f = absurd (subst IsTypes (sym f) tt)
+passed k len (ok us) {ts} f = within (ltb (rowLimit k) (minimum (offsetWidth k) false (map shapeOf us))) refl f
   where
-    within : (t : Bool) → ltb limit (minimum w false (map shapeOf us)) ≡ t → cond t (refused (BadSchema len)) (ok us) ≡ ok ts → Passed w limit (ok us) ts
-    within true k g = absurd (subst IsTypes (sym g) tt)
-    within false k g = subst (Passed w limit (ok us)) (ap typesOf g) (record { all = refl; padded = ltb-false limit (minimum w false (map shapeOf us)) k })
+    within : (t : Bool) → ltb (rowLimit k) (minimum (offsetWidth k) false (map shapeOf us)) ≡ t → cond t (refused (BadSchema len)) (ok us) ≡ ok ts → Passed k (ok us) ts
+    within true q g = absurd (subst IsTypes (sym g) tt)
+    within false q g = subst (Passed k (ok us)) (ap typesOf g) (record { all = refl; padded = ltb-false (rowLimit k) (minimum (offsetWidth k) false (map shapeOf us)) q })
 
 -- a record more than the columns behind it
 more-types : (m : ℕ) (s : List ℕ) (at : ℕ) (ts : List DataType) (q : Record) → columnRecordAt s at ≡ q → at < length s → columnRecords (suc m) s at ≡ ok ts
@@ -55,16 +55,16 @@ few-types : (n : ℕ) (s : List ℕ) (at : ℕ) (ts : List DataType) → columnR
 few-types zero s at ts e = cases at (length s) (λ h. absurd (omega (arith, some-left s at 0 e h))) (λ h. rw (none-left s at 0 e h) (omega arith))
 few-types (suc m) s at ts e = cases at (length s) (λ h. more-types m s at ts (columnRecordAt s at) refl h e (few-types m s)) (λ h. rw (none-left s at (suc m) e h) (omega arith))
 
-module _ (w limit : ℕ) (s : List ℕ) {ts : List DataType} (f : schemaOf w limit s ≡ ok ts) where
-  of-schema : Passed w limit (columnRecords 256 s 0) ts
+module _ (k : Bool) (s : List ℕ) {ts : List DataType} (f : schemaOf k s ≡ ok ts) where
+  of-schema : Passed k (columnRecords 256 s 0) ts
   unfolding schemaOf
-  of-schema = passed w limit (length s) (columnRecords 256 s 0) f
+  of-schema = passed k (length s) (columnRecords 256 s 0) f
 
   pub schema-records : columnRecords 256 s 0 ≡ ok ts
   schema-records = of-schema .all
 
-  pub schema-minimum : minimum w true (map shapeOf ts) ≤ limit
-  schema-minimum = omega (arith, of-schema .padded, packed-least w (all-aligned ts))
+  pub schema-minimum : minimum (offsetWidth k) true (map shapeOf ts) ≤ rowLimit k
+  schema-minimum = omega (arith, of-schema .padded, packed-least (offsetWidth k) (all-aligned ts))
 
   pub schema-few : length ts ≤ 256
   schema-few = few-types 256 s 0 ts schema-records

@@ -15,9 +15,10 @@ use Rattle.row_format.specs.declared.Shape.{Shape}
 use Rattle.row_format.specs.declared.Shape.the-variants.{Fixed, Varlen}
 use Rattle.row_format.specs.Places.{varlens, rankOf, slotStart, offsetWidth, rowLimit, minimum, tableStart, fixedStart}
 use Rattle.row_format.specs.Table.{Cell}
-use Rattle.row_format.specs.Row.{packedFlag, header, builtRow, slotSize}
+use Rattle.row_format.specs.Row.{packedMarks, header, builtRow, slotSize}
 use Rattle.row_format.proofs.Places.{rank-inside, packed-inside}
 use Rattle.row_format.proofs.Row.{length-header, length-row, slots-fit, packed-start}
+use Rattle.row_format.proofs.Sorts.{table-le, entry-in}
 use Rattle.row_format.proofs.Fresh.{length-fresh}
 use Rattle.row_format.proofs.Build.{upTo, up-to-start, up-to-end, built-le, built-null, length-built-fixed, length-built-varlen, step-fixed, step-varlen}
 use Rattle.row_format.specs.InnerRow.{FitsCell}
@@ -40,15 +41,15 @@ use Rattle.row_build.proofs.Walk.{Together, together-start, type-given,
 use Rattle.row_build.proofs.Cells.{cell-at, cells-fit}
 
 -- the row of the columns before i
-abbrev pub rowUpTo : List ℕ → List ℕ → List ℕ → ℕ → List ℕ
-rowUpTo s list area i = builtRow offsetWidth (map shapeOf (typesIn s)) (upTo i (cellsIn s list area))
+abbrev pub rowUpTo : Bool → List ℕ → List ℕ → List ℕ → ℕ → List ℕ
+rowUpTo k s list area i = builtRow (offsetWidth k) (packedMarks k) (map shapeOf (typesIn s)) (upTo i (cellsIn s list area))
 
 pub record Writing (s : List ℕ) (l : RowLayout) (list area out₀ out : List ℕ) (i at from slot entry end : ℕ) : Type 0 where
   pub walk : Together s list i at from
-  pub slot-is : slot ≡ fixedStart offsetWidth (l .«num_columns») (l .«num_varlen_cols») + layoutBefore (typesIn s) i .«packed_size»
-  pub entry-is : entry ≡ tableStart (l .«num_columns») + layoutBefore (typesIn s) i .«num_varlen_cols» * offsetWidth
-  pub written : out ≡ sets out₀ 0 (rowUpTo s list area i)
-  pub end-is : end ≡ length (rowUpTo s list area i)
+  pub slot-is : slot ≡ fixedStart (offsetWidth (l .«is_long»)) (l .«num_columns») (l .«num_varlen_cols») + layoutBefore (typesIn s) i .«packed_size»
+  pub entry-is : entry ≡ tableStart (l .«num_columns») + layoutBefore (typesIn s) i .«num_varlen_cols» * offsetWidth (l .«is_long»)
+  pub written : out ≡ sets out₀ 0 (rowUpTo (l .«is_long») s list area i)
+  pub end-is : end ≡ length (rowUpTo (l .«is_long») s list area i)
 
 -- a column more in a layout
 packed-more : (b : RowLayout) (t : DataType) → withColumn b (shapeOf t) .«packed_size» ≡ b .«packed_size» + sizeOf t
@@ -68,11 +69,15 @@ packed-more b T.Time = refl
 packed-more b (T.Bit n) = refl
 packed-more b T.Timestamp = refl
 
-rank-more : (b : RowLayout) (t : DataType) → withColumn b (shapeOf t) .«num_varlen_cols» * offsetWidth ≡ b .«num_varlen_cols» * offsetWidth + cond (isVarlen t) offsetWidth 0
-rank-more b t = by-shape (isVarlen t)
+entry-more : (k : Bool) (n : ℕ) → (n + 1) * offsetWidth k ≡ n * offsetWidth k + offsetWidth k
+entry-more false n = omega arith
+entry-more true n = omega arith
+
+rank-more : (k : Bool) (b : RowLayout) (t : DataType) → withColumn b (shapeOf t) .«num_varlen_cols» * offsetWidth k ≡ b .«num_varlen_cols» * offsetWidth k + cond (isVarlen t) (offsetWidth k) 0
+rank-more k b t = by-shape (isVarlen t)
   where
-    by-shape : (f : Bool) → withColumn b (cond f Varlen (Fixed (sizeOf t) (alignmentOf t))) .«num_varlen_cols» * offsetWidth ≡ b .«num_varlen_cols» * offsetWidth + cond f offsetWidth 0
-    by-shape true = omega arith
+    by-shape : (f : Bool) → withColumn b (cond f Varlen (Fixed (sizeOf t) (alignmentOf t))) .«num_varlen_cols» * offsetWidth k ≡ b .«num_varlen_cols» * offsetWidth k + cond f (offsetWidth k) 0
+    by-shape true = entry-more k (b .«num_varlen_cols»)
     by-shape false = omega arith
 
 module _ {s : List ℕ} {l : RowLayout} {list area out₀ : List ℕ} (f : Fillable s l list area out₀) where
@@ -95,31 +100,31 @@ module _ {s : List ℕ} {l : RowLayout} {list area out₀ : List ℕ} (f : Filla
   varlens-are : l .«num_varlen_cols» ≡ varlens ss
   varlens-are = ap (λ (k : RowLayout). k .«num_varlen_cols») (sym (f .given .accepted .layout))
 
-  minimum-is : minimumOf l true ≡ minimum offsetWidth true ss
+  minimum-is : minimumOf l true ≡ minimum (offsetWidth (l .«is_long»)) true ss
   minimum-is = ap (λ (k : RowLayout). minimumOf k true) (sym (f .given .accepted .layout))
 
   -- nothing is written yet
-  start-row : rowUpTo s list area 0 ≡ freshRow offsetWidth ts
-  start-row = ap (builtRow offsetWidth ss) (up-to-start cs ∙ rw (forall-length fit, length-map ts shapeOf))
+  start-row : rowUpTo (l .«is_long») s list area 0 ≡ freshRow (l .«is_long») ts
+  start-row = ap (builtRow (offsetWidth (l .«is_long»)) (packedMarks (l .«is_long»)) ss) (up-to-start cs ∙ rw (forall-length fit, length-map ts shapeOf))
 
-  pub write-start : Writing s l list area out₀ out₀ 0 0 0 (fixedStart offsetWidth (l .«num_columns») (l .«num_varlen_cols»)) (tableStart (l .«num_columns»)) (minimumOf l true)
+  pub write-start : Writing s l list area out₀ out₀ 0 0 0 (fixedStart (offsetWidth (l .«is_long»)) (l .«num_columns») (l .«num_varlen_cols»)) (tableStart (l .«num_columns»)) (minimumOf l true)
   write-start =
       record {
         walk = together-start (f .given);
         slot-is = omega arith;
         entry-is = omega arith;
         written = f .nulls ∙ ap (sets out₀ 0) (sym start-row);
-        end-is = minimum-is ∙ sym (length-fresh offsetWidth ss) ∙ ap length (rw (← length-map ts shapeOf) at (sym start-row));
+        end-is = minimum-is ∙ sym (length-fresh (offsetWidth (l .«is_long»)) (packedMarks (l .«is_long»)) ss) ∙ ap length (rw (← length-map ts shapeOf) at (sym start-row));
       }
 
   module _ {out : List ℕ} {i at from slot entry end : ℕ} (k : Writing s l list area out₀ out i at from slot entry end) where
     pub write-size : length out ≡ length out₀
     write-size = rw (k .written, length-sets)
 
-    pub write-end : l .«num_columns» ≤ i → out ≡ sets out₀ 0 (rowGiven s list area)
+    pub write-end : l .«num_columns» ≤ i → out ≡ sets out₀ 0 (rowGiven (l .«is_long») s list area)
     write-end h =
         let n : i ≡ length cs = rw (forall-length fit, length-map ts shapeOf) (omega (arith, k .walk .side .within, columns-all (f .given .accepted))) in
-        k .written ∙ ap (λ (ds : List Cell). sets out₀ 0 (builtRow offsetWidth ss ds)) (ap (λ (j : ℕ). upTo j cs) n ∙ up-to-end cs)
+        k .written ∙ ap (λ (ds : List Cell). sets out₀ 0 (builtRow (offsetWidth (l .«is_long»)) (packedMarks (l .«is_long»)) ss ds)) (ap (λ (j : ℕ). upTo j cs) n ∙ up-to-end cs)
 
     module _ (h : i < length ts) {g : Given} (r : ReadAt s at list from g) where
       inside : i < length ss
@@ -132,10 +137,10 @@ module _ {s : List ℕ} {l : RowLayout} {list area out₀ : List ℕ} (f : Filla
       start-is : layoutBefore ts i .«packed_size» ≡ slotStart true ss i
       start-is = rw (packed-start (getD ss i Varlen), take-map shapeOf i ts)
 
-      slot-at : slot ≡ fixedStart offsetWidth (length ss) (varlens ss) + slotStart true ss i
+      slot-at : slot ≡ fixedStart (offsetWidth (l .«is_long»)) (length ss) (varlens ss) + slotStart true ss i
       slot-at = k .slot-is ∙ rw (columns-are, varlens-are, start-is)
 
-      entry-at : entry ≡ tableStart (length ss) + rankOf ss i * offsetWidth
+      entry-at : entry ≡ tableStart (length ss) + rankOf ss i * offsetWidth (l .«is_long»)
       entry-at = k .entry-is ∙ rw (columns-are, rank-is)
 
       shape-is : getD ss i Varlen ≡ shapeOf (g .ty)
@@ -159,49 +164,52 @@ module _ {s : List ℕ} {l : RowLayout} {list area out₀ : List ℕ} (f : Filla
       packed-next : layoutBefore ts (i + 1) .«packed_size» ≡ layoutBefore ts i .«packed_size» + sizeOf (g .ty)
       packed-next = ap (λ (q : RowLayout). q .«packed_size») next-layout ∙ packed-more (layoutBefore ts i) (g .ty)
 
-      rank-next : layoutBefore ts (i + 1) .«num_varlen_cols» * offsetWidth ≡ layoutBefore ts i .«num_varlen_cols» * offsetWidth + cond (isVarlen (g .ty)) offsetWidth 0
-      rank-next = ap (λ (q : RowLayout). q .«num_varlen_cols» * offsetWidth) next-layout ∙ rank-more (layoutBefore ts i) (g .ty)
+      rank-next : layoutBefore ts (i + 1) .«num_varlen_cols» * offsetWidth (l .«is_long») ≡ layoutBefore ts i .«num_varlen_cols» * offsetWidth (l .«is_long») + cond (isVarlen (g .ty)) (offsetWidth (l .«is_long»)) 0
+      rank-next = ap (λ (q : RowLayout). q .«num_varlen_cols» * offsetWidth (l .«is_long»)) next-layout ∙ rank-more (l .«is_long») (layoutBefore ts i) (g .ty)
 
       -- far from the machine's limit
       pub write-places : (slot + sizeOf (g .ty) ≤ 40000000) × (entry ≤ 40000000)
       write-places =
           let b = f .given .accepted .bounded in
           let e = f .given .accepted .layout in
-          let u = rw e at (grown ts (i + 1) (omega (arith, h))) in
-          let v = rw e at (grown ts i (omega (arith, h))) in
-          (rw (k .slot-is) (omega (arith, packed-next, u .packed, b .few, b .ranked, b .tight)), rw (k .entry-is) (omega (arith, v .varlens, b .few, b .ranked)))
+          let u = rw e at (grown (l .«is_long») ts (i + 1) (omega (arith, h))) in
+          let v = rw e at (grown (l .«is_long») ts i (omega (arith, h))) in
+          let few : l .«num_varlen_cols» ≤ 256 = omega (arith, b .few, b .ranked) in
+          let x = table-le (l .«is_long») (l .«num_varlen_cols») few in
+          let y = table-le (l .«is_long») (layoutBefore ts i .«num_varlen_cols») (omega (arith, v .varlens, few)) in
+          (rw (k .slot-is) (omega (arith, packed-next, u .packed, b .few, b .tight, x)), rw (k .entry-is) (omega (arith, b .few, y)))
 
       -- ---- the stores
 
       module _ (res : ℕ) (out' : List ℕ) where
         abbrev Stepped : Type 0
-        Stepped = (out' ≡ sets out₀ 0 (rowUpTo s list area (suc i))) × (res ≡ length (rowUpTo s list area (suc i)))
+        Stepped = (out' ≡ sets out₀ 0 (rowUpTo (l .«is_long») s list area (suc i))) × (res ≡ length (rowUpTo (l .«is_long») s list area (suc i)))
 
         fixed : getD cs i none ≡ some form → isVarlen (g .ty) ≡ false → res ≡ end → out' ≡ fixedStored i slot form out → Stepped
         fixed e v p q = (
-          q ∙ rw (slot-at, k .written) (step-fixed offsetWidth fit i inside form e out₀ (f .room) (sizeOf (g .ty)) (alignmentOf (g .ty)) (fixed-is v)),
-          p ∙ k .end-is ∙ sym (length-built-fixed offsetWidth fit i inside form e (sizeOf (g .ty)) (alignmentOf (g .ty)) (fixed-is v)),
+          q ∙ rw (slot-at, k .written) (step-fixed (offsetWidth (l .«is_long»)) (packedMarks (l .«is_long»)) fit i inside form e out₀ (f .room) (sizeOf (g .ty)) (alignmentOf (g .ty)) (fixed-is v)),
+          p ∙ k .end-is ∙ sym (length-built-fixed (offsetWidth (l .«is_long»)) (packedMarks (l .«is_long»)) fit i inside form e (sizeOf (g .ty)) (alignmentOf (g .ty)) (fixed-is v)),
         )
 
-        varlen : getD cs i none ≡ some form → isVarlen (g .ty) ≡ true → res ≡ end + length form → out' ≡ varlenStored i entry form end out → Stepped
+        varlen : getD cs i none ≡ some form → isVarlen (g .ty) ≡ true → res ≡ end + length form → out' ≡ varlenStored (l .«is_long») i entry form end out → Stepped
         varlen e v p q = (
-          q ∙ rw (entry-at, k .written, k .end-is) (step-varlen offsetWidth fit i inside form e out₀ (f .room) (varlen-is v)),
-          p ∙ rw (k .end-is) (sym (length-built-varlen offsetWidth fit i inside form e (varlen-is v))),
+          q ∙ rw (entry-at, k .written, k .end-is) (step-varlen (offsetWidth (l .«is_long»)) (packedMarks (l .«is_long»)) fit i inside form e out₀ (f .room) (varlen-is v)),
+          p ∙ rw (k .end-is) (sym (length-built-varlen (offsetWidth (l .«is_long»)) (packedMarks (l .«is_long»)) fit i inside form e (varlen-is v))),
         )
 
         kept : getD cs i none ≡ none → res ≡ end → out' ≡ out → Stepped
-        kept e p q = let same = built-null offsetWidth fit i e in (q ∙ k .written ∙ ap (sets out₀ 0) (sym same), p ∙ k .end-is ∙ ap length (sym same))
+        kept e p q = let same = built-null (offsetWidth (l .«is_long»)) (packedMarks (l .«is_long»)) fit i e in (q ∙ k .written ∙ ap (sets out₀ 0) (sym same), p ∙ k .end-is ∙ ap length (sym same))
 
-        stepped : (c : Cell) → getD cs i none ≡ c → CellIs (g .ty) (g .value) area c → (res, out') ≡ columnStored i slot entry (g .ty) (g .value) form end out → Stepped
+        stepped : (c : Cell) → getD cs i none ≡ c → CellIs (g .ty) (g .value) area c → (res, out') ≡ columnStored (l .«is_long») i slot entry (g .ty) (g .value) form end out → Stepped
         stepped none e (null n) o = let p = rw n at o in kept e (ap (λ (z : ℕ × List ℕ). z .0) p) (ap (λ (z : ℕ × List ℕ). z .1) p)
         stepped (some x) e (stored n m a) o = by-shape (isVarlen (g .ty)) refl (rw n at o)
           where
-            by-shape : (t : Bool) → isVarlen (g .ty) ≡ t → _≡_ {A = ℕ × List ℕ} (res, out') (cond t (end + length form, varlenStored i entry form end out) (end, fixedStored i slot form out)) → Stepped
+            by-shape : (t : Bool) → isVarlen (g .ty) ≡ t → _≡_ {A = ℕ × List ℕ} (res, out') (cond t (end + length form, varlenStored (l .«is_long») i entry form end out) (end, fixedStored i slot form out)) → Stepped
             by-shape true v p = varlen e v (ap (λ (z : ℕ × List ℕ). z .0) p) (ap (λ (z : ℕ × List ℕ). z .1) p)
             by-shape false v p = fixed e v (ap (λ (z : ℕ × List ℕ). z .0) p) (ap (λ (z : ℕ × List ℕ). z .1) p)
 
-        pub write-more : (res, out') ≡ columnStored i slot entry (g .ty) (g .value) form end out
-            → Writing s l list area out₀ out' (i + 1) (g .next-type) (g .next-value) (slot + sizeOf (g .ty)) (entry + cond (isVarlen (g .ty)) offsetWidth 0) res
+        pub write-more : (res, out') ≡ columnStored (l .«is_long») i slot entry (g .ty) (g .value) form end out
+            → Writing s l list area out₀ out' (i + 1) (g .next-type) (g .next-value) (slot + sizeOf (g .ty)) (entry + cond (isVarlen (g .ty)) (offsetWidth (l .«is_long»)) 0) res
         write-more o =
             let p = stepped (getD cs i none) refl write-cell o in
             record {
@@ -214,16 +222,16 @@ module _ {s : List ℕ} {l : RowLayout} {list area out₀ : List ℕ} (f : Filla
 
       -- ---- there is room for them
 
-      long : minimum offsetWidth true ss ≤ length out
-      long = rw write-size (omega (arith, f .room, length-row offsetWidth (header packedFlag ss) (length-header packedFlag ss) fit (slots-fit fit)))
+      long : minimum (offsetWidth (l .«is_long»)) true ss ≤ length out
+      long = rw write-size (omega (arith, f .room, length-row (offsetWidth (l .«is_long»)) (header (packedMarks (l .«is_long»)) ss) (length-header (packedMarks (l .«is_long»)) ss) fit (slots-fit fit)))
 
-      payload-end : getD cs i none ≡ some form → isVarlen (g .ty) ≡ true → end + length form ≤ length (rowGiven s list area)
-      payload-end e v = rw (k .end-is) (omega (arith, built-le offsetWidth fit (suc i), length-built-varlen offsetWidth fit i inside form e (varlen-is v)))
+      payload-end : getD cs i none ≡ some form → isVarlen (g .ty) ≡ true → end + length form ≤ length (rowGiven (l .«is_long») s list area)
+      payload-end e v = rw (k .end-is) (omega (arith, built-le (offsetWidth (l .«is_long»)) (packedMarks (l .«is_long»)) fit (suc i), length-built-varlen (offsetWidth (l .«is_long»)) (packedMarks (l .«is_long»)) fit i inside form e (varlen-is v)))
 
-      end-small : end ≤ rowLimit
-      end-small = rw (k .end-is) (omega (arith, built-le offsetWidth fit i, f .short))
+      end-small : end ≤ rowLimit (l .«is_long»)
+      end-small = rw (k .end-is) (omega (arith, built-le (offsetWidth (l .«is_long»)) (packedMarks (l .«is_long»)) fit i, f .short))
 
-      room-for : (c : Cell) → getD cs i none ≡ c → CellIs (g .ty) (g .value) area c → isNull (g .value) ≡ false → Storable (l .«num_columns») i slot entry (g .ty) (g .value) area end (length out)
+      room-for : (c : Cell) → getD cs i none ≡ c → CellIs (g .ty) (g .value) area c → isNull (g .value) ≡ false → Storable (l .«is_long») (l .«num_columns») i slot entry (g .ty) (g .value) area end (length out)
       room-for none e (null n) z = let q : true ≡ false = sym n ∙ z in absurd (subst IsTrue q tt)
         where
           IsTrue : Bool → Type 0
@@ -236,14 +244,14 @@ module _ {s : List ℕ} {l : RowLayout} {list area out₀ : List ℕ} (f : Filla
             match = m;
             suited = a;
             slot-in = λ v. rw slot-at (omega (arith, long, rw (ap slotSize (fixed-is v)) at (packed-inside ss i inside)));
-            entry-in = λ v. rw entry-at (omega (arith, long, rank-inside ss i inside (varlen-is v)));
+            entry-in = λ v. rw entry-at (omega (arith, entry-more (l .«is_long») (rankOf ss i), entry-in (l .«is_long») (tableStart (length ss)) (varlens ss) (rankOf ss i) (length out) (rank-inside ss i inside (varlen-is v)) (omega (arith, long))));
             payload = λ v. rw write-size (omega (arith, f .room, payload-end e v));
             end-fits = by-shape (isVarlen (g .ty)) refl;
           }
         where
-          by-shape : (t : Bool) → isVarlen (g .ty) ≡ t → end + cond t (length form) 0 ≤ rowLimit
+          by-shape : (t : Bool) → isVarlen (g .ty) ≡ t → end + cond t (length form) 0 ≤ rowLimit (l .«is_long»)
           by-shape true v = omega (arith, f .short, payload-end e v)
           by-shape false v = omega (arith, end-small)
 
-      pub write-room : isNull (g .value) ≡ false → Storable (l .«num_columns») i slot entry (g .ty) (g .value) area end (length out)
+      pub write-room : isNull (g .value) ≡ false → Storable (l .«is_long») (l .«num_columns») i slot entry (g .ty) (g .value) area end (length out)
       write-room = room-for (getD cs i none) refl write-cell

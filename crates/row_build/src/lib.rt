@@ -16,7 +16,7 @@ ghost use lib.Seq.{sets};
 ghost use Rattle.row_layout.specs.InnerLayout.{Bounded, minimumOf};
 ghost use Rattle.error.specs.Answer.{placed};
 ghost use Rattle.error.specs.declared.Answer.the-variants.{Done};
-ghost use Rattle.row_format.specs.Places.{offsetWidth, rowLimit, bitmapStart, bitmapSize};
+ghost use Rattle.row_format.specs.Places.{bitmapStart, bitmapSize};
 ghost use Rattle.row_format.specs.Edit.{bitEdit};
 ghost use Rattle.datatype.specs.Schema.{columnRecordAt};
 ghost use Rattle.datatype.specs.InnerSteps.{typeIn};
@@ -51,12 +51,12 @@ fn write_nulls(layout: RowLayout, out: &mut [u8])
     let n = layout.num_columns;
     let v = layout.num_varlen_cols;
     endian::write_u16(out, 0, n as u16);
-    endian::write_u16(out, 2, v as u16 + RowLayout::PACKED_LAYOUT_FLAG);
+    endian::write_u16(out, 2, v as u16 + row_layout::packed_marks(layout.is_long));
     write_null_bits(out, RowLayout::bitmap_offset(), n);
     endian::fill(
         out,
         layout.varlen_table_offset(),
-        v * 2 + layout.packed_size,
+        v * row_layout::offset_width(layout.is_long) + layout.packed_size,
         0,
     );
 }
@@ -75,10 +75,10 @@ fn fresh_row(layout: RowLayout, out: &mut [u8]) -> Answer
 }
 
 // A row of which every column is null.
-pub fn fresh(schema: &[u8], out: &mut [u8]) -> Answer
-    ensures { λ r. ⌜ (r, now (out .exit)) ≡ freshCall offsetWidth rowLimit (now (schema .entry)) (now (out .entry)) ⌝ }
+pub fn fresh(schema: &[u8], is_long: bool, out: &mut [u8]) -> Answer
+    ensures { λ r. ⌜ (r, now (out .exit)) ≡ freshCall «is_long» (now (schema .entry)) (now (out .entry)) ⌝ }
 {
-    match datatype::check_schema(schema) {
+    match datatype::check_schema(schema, is_long) {
         SchemaCheck::Refused(e) => Answer::Refused(e),
         SchemaCheck::Good(layout) => fresh_row(layout, out),
     }
@@ -90,7 +90,7 @@ fn row_length(schema: &[u8], layout: RowLayout, values: &[u8], text: &[u8]) -> A
     requires { ⌜ Accepted (now schema) layout ⌝ }
     ensures { λ r. ⌜ Lengthed (now (schema .entry)) layout (now (values .entry)) (now (text .entry)) r ⌝ }
 {
-    if RowLayout::ROW_LIMIT < text.len() {
+    if row_layout::row_limit(layout.is_long) < text.len() {
         return Answer::Refused(Refusal::BadValueList(0));
     }
     let mut size = layout.min_row_size(true);
@@ -159,22 +159,23 @@ fn write_varchar(
     body: usize,
     text: &[u8],
     out: &mut [u8],
+    is_long: bool,
     columns: usize,
     column: usize,
     entry: usize,
     end: usize,
 ) -> usize
     requires { ⌜ (body + 4 ≤ length (now values))
-        × (PayloadReady (rangeAt (now values) body) (now text) entry end (length (now out))
+        × (PayloadReady «is_long» (rangeAt (now values) body) (now text) entry end (length (now out))
         × BitReady columns column (length (now out))) ⌝ }
     ensures { λ r. ⌜ (r ≡ end + rangeAt (now (values .entry)) body .length)
         × (now (out .exit)
-        ≡ varlenStored column entry (part (now (text .entry)) (rangeAt (now (values .entry)) body)) end
+        ≡ varlenStored «is_long» column entry (part (now (text .entry)) (rangeAt (now (values .entry)) body)) end
         (now (out .entry))) ⌝ }
 {
     let start = endian::read_u16(values, body) as usize;
     let length = endian::read_u16(values, body + 2) as usize;
-    endian::write_u16(out, entry, end as u16);
+    row_layout::write_offset(out, is_long, entry, end);
     endian::copy(out, end, &text[start..start + length]);
     clear_bit(out, columns, column);
     end + length
@@ -188,6 +189,7 @@ fn write_column(
     from: usize,
     text: &[u8],
     out: &mut [u8],
+    is_long: bool,
     columns: usize,
     column: usize,
     slot: usize,
@@ -196,10 +198,10 @@ fn write_column(
 ) -> usize
     requires { ⌜ Readable (now schema) at (now values) from
         × (isNull (valueIn (valueRecordAt (now values) from)) ≡ false
-        → Storable columns column slot entry (typeIn (columnRecordAt (now schema) at))
+        → Storable «is_long» columns column slot entry (typeIn (columnRecordAt (now schema) at))
         (valueIn (valueRecordAt (now values) from)) (now text) end (length (now out))) ⌝ }
     ensures { λ r. ⌜ (r, now (out .exit))
-        ≡ columnStored column slot entry (typeIn (columnRecordAt (now (schema .entry)) at))
+        ≡ columnStored «is_long» column slot entry (typeIn (columnRecordAt (now (schema .entry)) at))
         (valueIn (valueRecordAt (now (values .entry)) from))
         (formIn (now (schema .entry)) at (now (values .entry)) from (now (text .entry))) end
         (now (out .entry)) ⌝ }
@@ -209,7 +211,17 @@ fn write_column(
         return end;
     }
     if kind == value_kinds::VARCHAR {
-        return write_varchar(values, from + 1, text, out, columns, column, entry, end);
+        return write_varchar(
+            values,
+            from + 1,
+            text,
+            out,
+            is_long,
+            columns,
+            column,
+            entry,
+            end,
+        );
     }
     write_fixed(schema, at, values, from, text, out, columns, column, slot);
     end
@@ -227,7 +239,8 @@ fn write_columns(
     requires { ⌜ Fillable (now schema) layout (now values) (now text) (now out)
         × (length (typesIn (now schema)) ≤ length (now counts)) ⌝ }
     ensures { λ _. ⌜ (now (out .exit)
-        ≡ sets (now (out .entry)) 0 (rowGiven (now (schema .entry)) (now (values .entry)) (now (text .entry))))
+        ≡ sets (now (out .entry)) 0
+        (rowGiven (layout .«is_long») (now (schema .entry)) (now (values .entry)) (now (text .entry))))
         × (now (counts .exit)
         ≡ sets (now (counts .entry)) 0
         (countsGiven (now (schema .entry)) (now (values .entry)) (now (text .entry)))) ⌝ }
@@ -247,6 +260,7 @@ fn write_columns(
             from,
             text,
             out,
+            layout.is_long,
             columns,
             column,
             slot,
@@ -256,7 +270,7 @@ fn write_columns(
         let points = record_slot::points_at(schema, at, values, from, text);
         counts[column] = points;
         slot += record_slot::slot_size(schema, at);
-        entry += record_slot::entry_size(value::held_kind(schema[at]));
+        entry += record_slot::entry_size(value::held_kind(schema[at]), layout.is_long);
         at = record_slot::after_column(schema, at);
         from = from + 1 + value_list::body_length(values[from]);
         column += 1;
@@ -278,10 +292,10 @@ fn place_row(
         ≡ measured (minimumOf layout true) (typesIn (now schema))
         (cellsFrom 0 (typesIn (now schema)) (valuesIn (now values)) (now text))) ⌝ }
     ensures { λ r. ⌜ (r, (now (out .exit), now (counts .exit)))
-        ≡ buildValues offsetWidth rowLimit (typesIn (now (schema .entry))) (valuesIn (now (values .entry)))
+        ≡ buildValues (layout .«is_long») (typesIn (now (schema .entry))) (valuesIn (now (values .entry)))
         (now (text .entry)) (now (out .entry)) (now (counts .entry)) ⌝ }
 {
-    if RowLayout::ROW_LIMIT < n {
+    if row_layout::row_limit(layout.is_long) < n {
         return Answer::Refused(Refusal::RowLimit);
     }
     if out.len() < n {
@@ -307,13 +321,13 @@ fn build_row(
 ) -> Answer
     requires { ⌜ Accepted (now schema) layout ⌝ }
     ensures { λ r. ⌜ (r, (now (out .exit), now (counts .exit)))
-        ≡ buildRow offsetWidth rowLimit (typesIn (now (schema .entry))) (now (values .entry)) (now (text .entry))
+        ≡ buildRow (layout .«is_long») (typesIn (now (schema .entry))) (now (values .entry)) (now (text .entry))
         (now (out .entry)) (now (counts .entry)) ⌝ }
 {
     match row_length(schema, layout, values, text) {
         Answer::Done(n) => place_row(schema, layout, values, text, out, counts, n),
         Answer::Refused(e) => {
-            match value_list::check_values(values, layout.num_columns, text.len()) {
+            match value_list::check_values(values, layout.is_long, layout.num_columns, text.len()) {
                 ListCheck::Refused(first) => Answer::Refused(first),
                 ListCheck::Good => Answer::Refused(e),
             }
@@ -325,16 +339,17 @@ fn build_row(
 // stored, 0 where there is none.
 pub fn serialize_nullable_typed_row(
     schema: &[u8],
+    is_long: bool,
     values: &[u8],
     text: &[u8],
     out: &mut [u8],
     counts: &mut [u32],
 ) -> Answer
     ensures { λ r. ⌜ (r, (now (out .exit), now (counts .exit)))
-        ≡ buildCall offsetWidth rowLimit (now (schema .entry)) (now (values .entry)) (now (text .entry))
+        ≡ buildCall «is_long» (now (schema .entry)) (now (values .entry)) (now (text .entry))
         (now (out .entry)) (now (counts .entry)) ⌝ }
 {
-    match datatype::check_schema(schema) {
+    match datatype::check_schema(schema, is_long) {
         SchemaCheck::Refused(e) => Answer::Refused(e),
         SchemaCheck::Good(layout) => build_row(schema, layout, values, text, out, counts),
     }

@@ -14,7 +14,7 @@ use Rattle.laws.specs.Bytes.{fromLe, fromTable, entryAt, splice}
 use Rattle.laws.proofs.Bytes.{same-length-splice, splice-outside}
 use Rattle.laws.proofs.Parts.{part-same}
 use Rattle.laws.proofs.Truths.{cases, by-cond}
-use Rattle.row_format.specs.Places.{varlens, rankOf, bitmapStart, tableStart, slotPlace, minimum}
+use Rattle.row_format.specs.Places.{varlens, rankOf, bitmapStart, tableStart, slotPlace, minimum, offsetWidth, rowLimit}
 use Rattle.row_format.specs.Table.{firstOffset, rangeEnd}
 use Rattle.row_format.proofs.Table.{first-zero, first-some, first-none}
 use Rattle.row_layout.specs.declared.VarlenRange.{VarlenRange}
@@ -175,12 +175,12 @@ last-two : (q : List ℕ) → 4 ≤ length q → take 2 (drop 2 q) ≡ drop 2 (t
 last-two q h = sym (ap (drop 2) (take-add 2 2 q) ∙ drop-at (take 2 q) (take 2 (drop 2 q)) 2 (length-take-le 2 q (omega arith)))
 
 -- the minimum is that of the row's own flag, which is in the header
-pub frame-depends : (w limit : ℕ) (ts : List DataType) (r r' : List ℕ) → take 4 r ≡ take 4 r' → length r ≤ limit
-    → length r' ≤ limit
-    → minimum w (isPacked r) (map shapeOf ts) ≤ length r → minimum w (isPacked r) (map shapeOf ts) ≤ length r'
-    → frameOf w limit ts r ≡ frameOf w limit ts r'
-frame-depends w limit ts r r' e a a' m m' =
-    let least : ℕ = minimum w (isPacked r) (map shapeOf ts) in
+pub frame-depends : (k : Bool) (ts : List DataType) (r r' : List ℕ) → take 4 r ≡ take 4 r' → length r ≤ rowLimit k
+    → length r' ≤ rowLimit k
+    → minimum (offsetWidth k) (isPacked r) (map shapeOf ts) ≤ length r → minimum (offsetWidth k) (isPacked r) (map shapeOf ts) ≤ length r'
+    → frameOf k ts r ≡ frameOf k ts r'
+frame-depends k ts r r' e a a' m m' =
+    let least : ℕ = minimum (offsetWidth k) (isPacked r) (map shapeOf ts) in
     let h : 4 ≤ length r = omega arith in
     let h' : 4 ≤ length r' = omega arith in
     let columns : columnCount r ≡ columnCount r' = ap fromLe (first-two r ∙ ap (take 2) e ∙ sym (first-two r')) in
@@ -188,8 +188,8 @@ frame-depends w limit ts r r' e a a' m m' =
     rw (
       ← columns,
       ← varlens,
-      le-ltb limit (length r) a,
-      le-ltb limit (length r') a',
+      le-ltb (rowLimit k) (length r) a,
+      le-ltb (rowLimit k) (length r') a',
       le-ltb (length r) 4 h,
       le-ltb (length r') 4 h',
       le-ltb (length r) least m,

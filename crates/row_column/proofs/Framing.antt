@@ -9,8 +9,8 @@ use lib.ListN.{length}
 use Rattle.error.specs.declared.Refusal.{Refusal}
 use Rattle.error.specs.declared.Refusal.the-variants.{RowTooShort, RowTooLong, WrongColumnCount, WrongVarlenCount}
 use Rattle.laws.proofs.Truths.{by-cond}
-use Rattle.row_format.specs.Places.{offsetWidth, rowLimit}
-use Rattle.row_format.specs.Row.{packedFlag}
+use Rattle.row_format.specs.Places.{rowLimit}
+use Rattle.row_format.specs.Row.{leastMark}
 use Rattle.row_layout.specs.declared.RowLayout.{RowLayout}
 use Rattle.row_layout.specs.InnerLayout.{minimumOf}
 use Rattle.datatype.specs.declared.DataType.{DataType}
@@ -22,39 +22,39 @@ use Rattle.row_column.specs.Frame.{columnCount, varlenField, isPacked, f
 use Rattle.row_column.specs.InnerWalk.{walkedFrame, Framed}
 use Rattle.row_column.proofs.Walk.{frame-walked}
 
-pub record Fine (limit : ℕ) (least : Bool → ℕ) (r : List ℕ) (p : Bool) : Type 0 where
-  pub short : length r ≤ limit
+pub record Fine (k : Bool) (least : Bool → ℕ) (r : List ℕ) (p : Bool) : Type 0 where
+  pub short : length r ≤ rowLimit k
   pub flag : isPacked r ≡ p
   pub long : least p ≤ length r
 
-abbrev IfGood : ℕ → (Bool → ℕ) → List ℕ → Frame → Type 0
-IfGood limit least r (Good p) = Fine limit least r p
-IfGood limit least r (Refused e) = Unit {0}
+abbrev IfGood : Bool → (Bool → ℕ) → List ℕ → Frame → Type 0
+IfGood k least r (Good p) = Fine k least r p
+IfGood k least r (Refused e) = Unit {0}
 
-if-good : (limit n v : ℕ) (least : Bool → ℕ) (r : List ℕ) → IfGood limit least r (frameWith limit n v least r)
-if-good limit n v least r =
-    let P = IfGood limit least r in
-    by-cond P (ltb limit (length r)) (Refused RowTooLong) _ (λ a. tt)
+if-good : (k : Bool) (n v : ℕ) (least : Bool → ℕ) (r : List ℕ) → IfGood k least r (frameWith k n v least r)
+if-good k n v least r =
+    let P = IfGood k least r in
+    by-cond P (ltb (rowLimit k) (length r)) (Refused RowTooLong) _ (λ a. tt)
     (λ a. by-cond P (ltb (length r) 4) (Refused RowTooShort) _ (λ b. tt)
     (λ b. by-cond P (eqb (columnCount r) n) _ (Refused WrongColumnCount)
-    (λ c. by-cond P (eqb (varlenField r % packedFlag) v) _ (Refused WrongVarlenCount)
+    (λ c. by-cond P (eqb (varlenField r % leastMark k) v) _ (Refused WrongVarlenCount)
     (λ d. by-cond P (ltb (length r) (least (isPacked r))) (Refused RowTooShort) (Good (isPacked r)) (λ e. tt)
     (λ e. record {
-      short = ltb-false limit (length r) a;
+      short = ltb-false (rowLimit k) (length r) a;
       flag = refl;
       long = ltb-false (length r) (least (isPacked r)) e;
     }))
     (λ d. tt))
     (λ c. tt)))
 
-pub fine : (limit n v : ℕ) (least : Bool → ℕ) (r : List ℕ) {p : Bool} → frameWith limit n v least r ≡ Good p
-    → Fine limit least r p
-fine limit n v least r e = rw e at (if-good limit n v least r)
+pub fine : (k : Bool) (n v : ℕ) (least : Bool → ℕ) (r : List ℕ) {p : Bool} → frameWith k n v least r ≡ Good p
+    → Fine k least r p
+fine k n v least r e = rw e at (if-good k n v least r)
 
-pub framed : {s : List ℕ} {l : RowLayout} {r : List ℕ} {p : Bool} → Accepted s l → walkedFrame rowLimit l r ≡ Good p
+pub framed : {s : List ℕ} {l : RowLayout} {r : List ℕ} {p : Bool} → Accepted s l → walkedFrame l r ≡ Good p
     → Framed s l p r
 framed {s} {l} {r} a e =
-    let f = fine rowLimit (l .«num_columns») (l .«num_varlen_cols») (minimumOf l) r e in
+    let f = fine (l .«is_long») (l .«num_columns») (l .«num_varlen_cols») (minimumOf l) r e in
     record { accepted = a; long = f .long; short = f .short }
 
 -- calls that go on alike
@@ -64,11 +64,11 @@ same-good (Good p) bad h = h p refl
 same-good (Refused e) bad h = refl
 
 -- the call behind a header, where the layout of the columns ts is known as l
-module _ {A : Type 0} (limit : ℕ) (ts : List DataType) {l : RowLayout} (r : List ℕ) (e : layoutFor ts ≡ l)
+module _ {A : Type 0} (ts : List DataType) {l : RowLayout} (r : List ℕ) (e : layoutFor (l .«is_long») ts ≡ l)
     (bad : Refusal → A) (k : Bool → A) where
-  pub frame-refused : {q : Refusal} → walkedFrame limit l r ≡ Refused q → bad q
-      ≡ onFrame (frameOf offsetWidth limit ts r) bad k
-  frame-refused f = sym (ap (λ (x : Frame). onFrame x bad k) (frame-walked limit ts r e ∙ f))
+  pub frame-refused : {q : Refusal} → walkedFrame l r ≡ Refused q → bad q
+      ≡ onFrame (frameOf (l .«is_long») ts r) bad k
+  frame-refused f = sym (ap (λ (x : Frame). onFrame x bad k) (frame-walked ts r e ∙ f))
 
-  pub frame-good : {p : Bool} → walkedFrame limit l r ≡ Good p → k p ≡ onFrame (frameOf offsetWidth limit ts r) bad k
-  frame-good f = sym (ap (λ (x : Frame). onFrame x bad k) (frame-walked limit ts r e ∙ f))
+  pub frame-good : {p : Bool} → walkedFrame l r ≡ Good p → k p ≡ onFrame (frameOf (l .«is_long») ts r) bad k
+  frame-good f = sym (ap (λ (x : Frame). onFrame x bad k) (frame-walked ts r e ∙ f))

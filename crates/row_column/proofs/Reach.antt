@@ -37,7 +37,7 @@ module _ {s : List ℕ} {l : RowLayout} {p : Bool} {r : List ℕ} (f : Framed s 
       let next : layoutBefore (typesIn s) (i + 1) ≡ withColumn b (shapeOf t) =
       before-next (typesIn s) i h ∙ ap (λ (k : RowLayout). withColumn k (shapeOf (typeAt (typesIn s) i))) (sym e) ∙ ap (λ (u : DataType). withColumn b (shapeOf u)) (sym d) in
       let g : Grown (withColumn b (shapeOf t)) l =
-      subst (λ (k : RowLayout). Grown k l) next (subst (Grown (layoutBefore (typesIn s) (i + 1))) (f .accepted .layout) (grown (typesIn s) (i + 1) (omega (arith, h)))) in
+      subst (λ (k : RowLayout). Grown k l) next (subst (Grown (layoutBefore (typesIn s) (i + 1))) (f .accepted .layout) (grown (l .«is_long») (typesIn s) (i + 1) (omega (arith, h)))) in
       record {
         whole = f .accepted .bounded;
         before = small;

@@ -9,9 +9,8 @@ use lib.ListN.{length, getD, take, drop, length-map}
 use lib.Seq.{length-take-le}
 use Rattle.laws.specs.Bits.{bitAt}
 use Rattle.laws.proofs.Maps.{take-map, at-map}
-use Rattle.row_format.specs.declared.Shape.{Shape}
 use Rattle.row_format.specs.declared.Shape.the-variants.{Fixed, Varlen}
-use Rattle.row_format.specs.Places.{varlens, rankOf, bitmapStart, tableStart, fixedStart, slotPlace, minimum, offsetWidth}
+use Rattle.row_format.specs.Places.{varlens, rankOf, bitmapStart, tableStart, slotPlace, minimum, offsetWidth}
 use Rattle.row_layout.specs.declared.RowLayout.{RowLayout}
 use Rattle.row_layout.specs.declared.VarlenRange.{VarlenRange}
 use Rattle.row_layout.specs.Layout.{layoutOf}
@@ -35,23 +34,25 @@ same-cond false f g = g refl
 
 -- ---- the header
 
-pub minimum-walked : (ts : List DataType) (p : Bool) → minimum offsetWidth p (map shapeOf ts)
-    ≡ minimumOf (layoutFor ts) p
-minimum-walked ts p = sym (layout-minimum (map shapeOf ts) p)
+pub minimum-walked : (k : Bool) (ts : List DataType) (p : Bool) → minimum (offsetWidth k) p (map shapeOf ts)
+    ≡ minimumOf (layoutFor k ts) p
+minimum-walked k ts p = sym (layout-minimum k (map shapeOf ts) p)
 
-least-same : (limit n v : ℕ) (f g : Bool → ℕ) (r : List ℕ) → f (isPacked r) ≡ g (isPacked r)
-    → frameWith limit n v f r ≡ frameWith limit n v g r
-least-same limit n v f g r e = rw e
+least-same : (k : Bool) (n v : ℕ) (f g : Bool → ℕ) (r : List ℕ) → f (isPacked r) ≡ g (isPacked r)
+    → frameWith k n v f r ≡ frameWith k n v g r
+least-same k n v f g r e = rw e
+
+frame-same : (k : Bool) (ts : List DataType) (r : List ℕ) → frameOf k ts r ≡ walkedFrame (layoutFor k ts) r
+frame-same k ts r =
+    let v : ℕ = varlens (map shapeOf ts) in
+    least-same k (length ts) v (λ p. minimum (offsetWidth k) p (map shapeOf ts)) (minimumOf (layoutFor k ts)) r
+    (minimum-walked k ts (isPacked r))
+    ∙ ap (λ (n : ℕ). frameWith k n v (minimumOf (layoutFor k ts)) r) (sym (length-map ts shapeOf))
 
 -- where the layout of the columns is known as l
-pub frame-walked : (limit : ℕ) (ts : List DataType) (r : List ℕ) {l : RowLayout} → layoutFor ts ≡ l
-    → frameOf offsetWidth limit ts r ≡ walkedFrame limit l r
-frame-walked limit ts r e =
-    let v : ℕ = varlens (map shapeOf ts) in
-    least-same limit (length ts) v (λ p. minimum offsetWidth p (map shapeOf ts)) (minimumOf (layoutFor ts)) r
-    (minimum-walked ts (isPacked r))
-    ∙ ap (λ (n : ℕ). frameWith limit n v (minimumOf (layoutFor ts)) r) (sym (length-map ts shapeOf))
-    ∙ ap (λ (m : RowLayout). walkedFrame limit m r) e
+pub frame-walked : (ts : List DataType) (r : List ℕ) {l : RowLayout} → layoutFor (l .«is_long») ts ≡ l
+    → frameOf (l .«is_long») ts r ≡ walkedFrame l r
+frame-walked ts r {l} e = frame-same (l .«is_long») ts r ∙ ap (λ (m : RowLayout). walkedFrame m r) e
 
 -- ---- a column
 
@@ -69,31 +70,31 @@ pub shape-fixed : (ts : List DataType) (i : ℕ) → isVarlen (typeAt ts i) ≡ 
     → getD (map shapeOf ts) i Varlen ≡ Fixed (sizeOf (typeAt ts i)) (alignmentOf (typeAt ts i))
 shape-fixed ts i v = shape-at ts i ∙ rw v
 
-pub shapes-before : (ts : List DataType) (i : ℕ) → layoutBefore ts i ≡ layoutOf (take i (map shapeOf ts))
-shapes-before ts i = ap layoutOf (sym (take-map shapeOf i ts))
+pub shapes-before : (ts : List DataType) (i : ℕ) → layoutBefore ts i ≡ layoutOf false (take i (map shapeOf ts))
+shapes-before ts i = ap (layoutOf false) (sym (take-map shapeOf i ts))
 
-pub place-walked : (p : Bool) (ts : List DataType) (i : ℕ) → isVarlen (typeAt ts i) ≡ false
-    → slotPlace offsetWidth p (map shapeOf ts) i ≡ walkedPlace (layoutFor ts) p (layoutBefore ts i) (typeAt ts i)
-place-walked p ts i v =
+pub place-walked : (k p : Bool) (ts : List DataType) (i : ℕ) → isVarlen (typeAt ts i) ≡ false
+    → slotPlace (offsetWidth k) p (map shapeOf ts) i ≡ walkedPlace (layoutFor k ts) p (layoutBefore ts i) (typeAt ts i)
+place-walked k p ts i v =
     rw (
       shapes-before ts i,
-      layout-slot (map shapeOf ts) i p (sizeOf (typeAt ts i)) (alignmentOf (typeAt ts i))
+      layout-slot false (map shapeOf ts) i p (sizeOf (typeAt ts i)) (alignmentOf (typeAt ts i))
           (shape-fixed ts i v),
     )
 
-pub column-walked : (p : Bool) (ts : List DataType) (i : ℕ) (r : List ℕ) → i < length ts
-    → columnValue offsetWidth p ts i r ≡ walkedColumn (layoutFor ts) p (layoutBefore ts i) (typeAt ts i) r
-column-walked p ts i r h =
+pub column-walked : (k p : Bool) (ts : List DataType) (i : ℕ) (r : List ℕ) → i < length ts
+    → columnValue (offsetWidth k) p ts i r ≡ walkedColumn (layoutFor k ts) p (layoutBefore ts i) (typeAt ts i) r
+column-walked k p ts i r h =
     let t : DataType = typeAt ts i in
     let v : ℕ = varlens (map shapeOf ts) in
-    let q : VarlenRange = varlenRange offsetWidth (tableStart (length ts)) v (rankOf (map shapeOf ts) i) r in
-    let at : ℕ = slotPlace offsetWidth p (map shapeOf ts) i in
-    let l : RowLayout = layoutFor ts in
+    let q : VarlenRange = varlenRange (offsetWidth k) (tableStart (length ts)) v (rankOf (map shapeOf ts) i) r in
+    let at : ℕ = slotPlace (offsetWidth k) p (map shapeOf ts) i in
+    let l : RowLayout = layoutFor k ts in
     let b : RowLayout = layoutBefore ts i in
-    let q' : VarlenRange = varlenRange offsetWidth (tableStart (l .«num_columns»)) v (b .«num_varlen_cols») r in
+    let q' : VarlenRange = varlenRange (offsetWidth k) (tableStart (l .«num_columns»)) v (b .«num_varlen_cols») r in
     let n : i ≡ b .«num_columns» = sym (length-map (take i ts) shapeOf ∙ length-take-le i ts (omega arith)) in
-    let k : rankOf (map shapeOf ts) i ≡ b .«num_varlen_cols» = ap varlens (take-map shapeOf i ts) in
+    let rank : rankOf (map shapeOf ts) i ≡ b .«num_varlen_cols» = ap varlens (take-map shapeOf i ts) in
     column-same t i r q q' at (walkedPlace l p b t)
-    (λ f. ap₂ (λ (m j : ℕ). varlenRange offsetWidth (tableStart m) v j r) (sym (length-map ts shapeOf)) k)
-    (λ f. place-walked p ts i f)
+    (λ f. ap₂ (λ (m j : ℕ). varlenRange (offsetWidth k) (tableStart m) v j r) (sym (length-map ts shapeOf)) rank)
+    (λ f. place-walked k p ts i f)
     ∙ ap (λ (m : ℕ). columnWith t m r q' (walkedPlace l p b t)) n

@@ -7,8 +7,8 @@ use lib.ListN.{length, take, drop}
 use Rattle.error.specs.declared.Refusal.{Refusal}
 use Rattle.error.specs.declared.Refusal.the-variants.{RowTooShort, RowTooLong, WrongColumnCount, WrongVarlenCount}
 use Rattle.laws.specs.Bytes.{fromLe}
-use Rattle.row_format.specs.Places.{varlens, minimum}
-use Rattle.row_format.specs.Row.{packedFlag}
+use Rattle.row_format.specs.Places.{varlens, minimum, offsetWidth, rowLimit}
+use Rattle.row_format.specs.Row.{packedFlag, leastMark}
 use Rattle.datatype.specs.declared.DataType.{DataType}
 use Rattle.datatype.specs.Types.{shapeOf}
 use Rattle.row_column.specs.declared.Frame.{Frame}
@@ -24,22 +24,23 @@ varlenField r = fromLe (take 2 (drop 2 r))
 abbrev pub isPacked : List ℕ → Bool
 isPacked r = leb packedFlag (varlenField r)
 
--- "header's column count is not the schema's", which is n; "header's Varchar count, flag masked off, is not the
--- schema's", which is v; "row [..] under the layout's minimum", which is `least` of the row's own flag
-abbrev pub frameWith : ℕ → ℕ → ℕ → (Bool → ℕ) → List ℕ → Frame
-frameWith limit n v least r =
-    cond (ltb limit (length r)) (Refused RowTooLong)
+-- A row that is taken as of sort k. "header's column count is not the schema's", which is n; "header's Varchar count,
+-- flag masked off, is not the schema's", which is v; "row [..] under the layout's minimum", which is `least` of the
+-- row's own flag
+abbrev pub frameWith : Bool → ℕ → ℕ → (Bool → ℕ) → List ℕ → Frame
+frameWith k n v least r =
+    cond (ltb (rowLimit k) (length r)) (Refused RowTooLong)
     (cond (ltb (length r) 4) (Refused RowTooShort)
     (cond (eqb (columnCount r) n)
-    (cond (eqb (varlenField r % packedFlag) v)
+    (cond (eqb (varlenField r % leastMark k) v)
     (cond (ltb (length r) (least (isPacked r))) (Refused RowTooShort) (Good (isPacked r)))
     (Refused WrongVarlenCount))
     (Refused WrongColumnCount)))
 
--- columns of the types ts, with offsets of w bytes
-abbrev pub frameOf : ℕ → ℕ → List DataType → List ℕ → Frame
-frameOf w limit ts r =
-    frameWith limit (length ts) (varlens (map shapeOf ts)) (λ p. minimum w p (map shapeOf ts)) r
+-- columns of the types ts
+abbrev pub frameOf : Bool → List DataType → List ℕ → Frame
+frameOf k ts r =
+    frameWith k (length ts) (varlens (map shapeOf ts)) (λ p. minimum (offsetWidth k) p (map shapeOf ts)) r
 
 -- a call on a row: refused with its header, or gone on with the row's own flag
 abbrev pub onFrame : {A : Type 0} → Frame → (Refusal → A) → (Bool → A) → A

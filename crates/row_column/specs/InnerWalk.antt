@@ -24,18 +24,20 @@ use Rattle.row_column.specs.Frame.{frameWith}
 
 -- ---- a row r with layout l, packed or padded: its header, and the column of type t after those of layout b
 
-abbrev pub walkedFrame : ℕ → RowLayout → List ℕ → Frame
-walkedFrame limit l r = frameWith limit (l .«num_columns») (l .«num_varlen_cols») (minimumOf l) r
+abbrev pub walkedFrame : RowLayout → List ℕ → Frame
+walkedFrame l r = frameWith (l .«is_long») (l .«num_columns») (l .«num_varlen_cols») (minimumOf l) r
 
 -- where its slot starts
 abbrev pub walkedPlace : RowLayout → Bool → RowLayout → DataType → ℕ
 walkedPlace l p b t =
-    fixedStart offsetWidth (l .«num_columns») (l .«num_varlen_cols») + startAt p (alignmentOf t) (sizeIn b p)
+    fixedStart (offsetWidth (l .«is_long»)) (l .«num_columns») (l .«num_varlen_cols»)
+    + startAt p (alignmentOf t) (sizeIn b p)
 
 abbrev pub walkedColumn : RowLayout → Bool → RowLayout → DataType → List ℕ → ColumnRead
 walkedColumn l p b t r =
     columnWith t (b .«num_columns») r
-    (varlenRange offsetWidth (tableStart (l .«num_columns»)) (l .«num_varlen_cols») (b .«num_varlen_cols») r)
+    (varlenRange (offsetWidth (l .«is_long»)) (tableStart (l .«num_columns»)) (l .«num_varlen_cols»)
+    (b .«num_varlen_cols») r)
     (walkedPlace l p b t)
 
 -- ---- column i of a schema, as the walk comes to it
@@ -51,14 +53,14 @@ pub record Found (s : List ℕ) (i : ℕ) (c : Column) : Type 0 where
 pub record Framed (s : List ℕ) (l : RowLayout) (p : Bool) (r : List ℕ) : Type 0 where
   pub accepted : Accepted s l
   pub long : minimumOf l p ≤ length r
-  pub short : length r ≤ rowLimit
+  pub short : length r ≤ rowLimit (l .«is_long»)
 
 pub record Reachable (l : RowLayout) (p : Bool) (b : RowLayout) (t : DataType) (r : List ℕ) : Type 0 where
   pub whole : Bounded l
   pub before : Bounded b
   pub digits : precisionOf t ≤ 38
   pub column : b .«num_columns» < l .«num_columns»
-  pub table : fixedStart offsetWidth (l .«num_columns») (l .«num_varlen_cols») ≤ length r
+  pub table : fixedStart (offsetWidth (l .«is_long»)) (l .«num_columns») (l .«num_varlen_cols») ≤ length r
   pub rank : isVarlen t ≡ true → b .«num_varlen_cols» < l .«num_varlen_cols»
   pub slot : isVarlen t ≡ false → walkedPlace l p b t + sizeOf t ≤ length r
 

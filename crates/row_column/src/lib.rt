@@ -11,7 +11,7 @@ ghost use mathlib.Core.Bool.{true, false};
 ghost use Prim.Native.Nat.{_+_, _*_, _-_, _≤_, _<_};
 ghost use lib.ListN.{length};
 ghost use Rattle.error.specs.Result.{ok};
-ghost use Rattle.row_format.specs.Places.{offsetWidth, rowLimit};
+ghost use Rattle.row_format.specs.Places.{offsetWidth};
 ghost use Rattle.row_layout.specs.Range.{varlenRange};
 ghost use Rattle.row_layout.specs.InnerLayout.{Bounded};
 ghost use Rattle.datatype.specs.Types.{sizeOf, isVarlen, precisionOf};
@@ -29,9 +29,9 @@ pub enum Frame {
 
 pub fn check_frame(layout: RowLayout, row: &[u8]) -> Frame
     requires { ⌜ Bounded layout ⌝ }
-    ensures { λ r. ⌜ r ≡ walkedFrame rowLimit layout (now (row .entry)) ⌝ }
+    ensures { λ r. ⌜ r ≡ walkedFrame layout (now (row .entry)) ⌝ }
 {
-    if RowLayout::ROW_LIMIT < row.len() {
+    if row_layout::row_limit(layout.is_long) < row.len() {
         return Frame::Refused(Refusal::RowTooLong);
     }
     if row.len() < 4 {
@@ -42,7 +42,7 @@ pub fn check_frame(layout: RowLayout, row: &[u8]) -> Frame
     if columns != layout.num_columns {
         return Frame::Refused(Refusal::WrongColumnCount);
     }
-    if (field % RowLayout::PACKED_LAYOUT_FLAG) as usize != layout.num_varlen_cols {
+    if row_layout::varlen_count(field, layout.is_long) != layout.num_varlen_cols {
         return Frame::Refused(Refusal::WrongVarlenCount);
     }
     let packed = RowLayout::PACKED_LAYOUT_FLAG <= field;
@@ -113,17 +113,19 @@ fn read_varlen(
     ty: DataType,
     i: usize,
     row: &[u8],
+    is_long: bool,
     table: usize,
     varlens: usize,
     rank: usize,
 ) -> ColumnRead
     requires { ⌜ (precisionOf ty ≤ 38)
-        × ((isVarlen ty ≡ true) × ((rank < varlens) × (table + varlens * offsetWidth ≤ length (now row)))) ⌝ }
+        × ((isVarlen ty ≡ true) × ((rank < varlens) × (table + varlens * offsetWidth «is_long» ≤ length (now row)))) ⌝ }
     ensures { λ r. ⌜ (r
-        ≡ varlenValue ty i (now (row .entry)) (varlenRange offsetWidth table varlens rank (now (row .entry))))
+        ≡ varlenValue ty i (now (row .entry))
+        (varlenRange (offsetWidth «is_long») table varlens rank (now (row .entry))))
         × InRow (length (now (row .entry))) r ⌝ }
 {
-    match row_layout::varlen_range(row, table, varlens, rank) {
+    match row_layout::varlen_range(row, is_long, table, varlens, rank) {
         VarlenRange::Null => ColumnRead::Value(DataValue::Null),
         VarlenRange::Bytes(start, end) => read_bytes(ty, i, row, start, end),
         VarlenRange::Outside => ColumnRead::Refused(Refusal::BadRange(i)),
@@ -152,6 +154,7 @@ pub fn read_column(
             ty,
             i,
             row,
+            layout.is_long,
             table,
             layout.num_varlen_cols,
             before.num_varlen_cols,

@@ -28,7 +28,7 @@ use Rattle.value_list.specs.Lists.{Values, listOf}
 use Rattle.value_list.proofs.Records.{record-short}
 use Rattle.row_column.specs.declared.ColumnRead.{ColumnRead}
 use Rattle.row_column.specs.declared.ColumnRead.the-variants.{Value, Refused}
-use Rattle.row_column.specs.InnerWalk.{walkedColumn, InRow}
+use Rattle.row_column.specs.InnerWalk.{walkedColumn}
 use Rattle.row_column.proofs.Reach.{reach-typed}
 use Rattle.row_decode.specs.Read.{wantedValue}
 use Rattle.row_decode.specs.InnerWalk.{walkedRead}
@@ -48,12 +48,12 @@ prepend-next : (vs : List DataValue) (v : DataValue) (ws : Values) → prepend (
 prepend-next vs v (ok ws) = ap ok (append-assoc vs (v ∷ []) ws)
 prepend-next vs v (refused e) = refl
 
-list-append : (vs ws : List DataValue) → listOf (vs ++ ws) ≡ listOf vs ++ listOf ws
-list-append [] ws = refl
-list-append (v ∷ vs) ws = rw (list-append vs ws, append-assoc)
+list-append : (k : Bool) (vs ws : List DataValue) → listOf k (vs ++ ws) ≡ listOf k vs ++ listOf k ws
+list-append k [] ws = refl
+list-append k (v ∷ vs) ws = rw (list-append k vs ws, append-assoc)
 
-list-one : (vs : List DataValue) (v : DataValue) → listOf (vs ++ (v ∷ [])) ≡ listOf vs ++ recordOf v
-list-one vs v = list-append vs (v ∷ []) ∙ rw (append-nil (recordOf v))
+list-one : (k : Bool) (vs : List DataValue) (v : DataValue) → listOf k (vs ++ (v ∷ [])) ≡ listOf k vs ++ recordOf k v
+list-one k vs v = list-append k vs (v ∷ []) ∙ rw (append-nil (recordOf k v))
 
 -- ---- the walk
 
@@ -61,8 +61,8 @@ pub record Decoding (s : List ℕ) (l : RowLayout) (p : Bool) (r marks buf₀ po
   pub walk : Ahead s b at
   pub done : List DataValue
   pub rest : prepend done (walkedRead l p (isMarked marks) r b (drop (b .«num_columns») (typesIn s))) ≡ walkedRead l p (isMarked marks) r noColumns (typesIn s)
-  pub written : buf ≡ sets buf₀ 0 (listOf done)
-  pub so-far : end ≡ length (listOf done)
+  pub written : buf ≡ sets buf₀ 0 (listOf (l .«is_long») done)
+  pub so-far : end ≡ length (listOf (l .«is_long») done)
   pub few : end ≤ 18 * b .«num_columns»
   pub many : length done ≡ b .«num_columns»
   pub counted : points ≡ sets points₀ 0 (map (pointsIn r) done)
@@ -111,12 +111,12 @@ module _ {s : List ℕ} {l : RowLayout} {p : Bool} {r marks buf₀ points₀ buf
   decode-numbers = rw (k .counted, length-sets)
 
   -- no record is left
-  pub decode-end : length s ≤ at → Filled r (l .«num_columns») (walkedRead l p (isMarked marks) r noColumns (typesIn s)) buf₀ points₀ (Answer.Done end) buf points
+  pub decode-end : length s ≤ at → Filled (l .«is_long») r (l .«num_columns») (walkedRead l p (isMarked marks) r noColumns (typesIn s)) buf₀ points₀ (Answer.Done end) buf points
   decode-end h =
       let n : b .«num_columns» ≡ length (typesIn s) = ahead-end (k .walk) h in
       let none : drop (b .«num_columns») (typesIn s) ≡ [] = drop-of-length-le (typesIn s) {i = b .«num_columns»} (omega (arith, n)) in
       let all : ok (k .done) ≡ walkedRead l p (isMarked marks) r noColumns (typesIn s) = rw (none, append-nil) at (k .rest) in
-      subst (λ (vs : Values). Filled r (l .«num_columns») vs buf₀ points₀ (Answer.Done end) buf points) all
+      subst (λ (vs : Values). Filled (l .«is_long») r (l .«num_columns») vs buf₀ points₀ (Answer.Done end) buf points) all
       (record {
         done = ap Answer.Done (k .so-far);
         written = k .written;
@@ -136,37 +136,37 @@ module _ {s : List ℕ} {l : RowLayout} {p : Bool} {r marks buf₀ points₀ buf
     split : drop (b .«num_columns») (typesIn s) ≡ t ∷ drop (b .«num_columns» + 1) (typesIn s)
     split = ahead-split (k .walk) h e
 
-    module _ (res : Recorded) (buf' : List ℕ) (x : ColumnRead) (is : wantedValue (isMarked marks (b .«num_columns»)) (walkedColumn l p b t r) ≡ x) (o : (res, buf') ≡ stepped buf end (pointsIn r) x) where
+    module _ (res : Recorded) (buf' : List ℕ) (x : ColumnRead) (is : wantedValue (isMarked marks (b .«num_columns»)) (walkedColumn l p b t r) ≡ x) (o : (res, buf') ≡ stepped (l .«is_long») buf end (pointsIn r) x) where
       pub decode-more : {n m : ℕ} → res ≡ Recorded.Done n m → Bounded (withColumn b (shapeOf t)) → Decoding s l p r marks buf₀ points₀ buf' (set points (b .«num_columns») m) (withColumn b (shapeOf t)) next n
       decode-more {n} {m} f small = more x is o f
         where
-          more : (y : ColumnRead) → wantedValue (isMarked marks (b .«num_columns»)) (walkedColumn l p b t r) ≡ y → (res, buf') ≡ stepped buf end (pointsIn r) y → res ≡ Recorded.Done n m
+          more : (y : ColumnRead) → wantedValue (isMarked marks (b .«num_columns»)) (walkedColumn l p b t r) ≡ y → (res, buf') ≡ stepped (l .«is_long») buf end (pointsIn r) y → res ≡ Recorded.Done n m
               → Decoding s l p r marks buf₀ points₀ buf' (set points (b .«num_columns») m) (withColumn b (shapeOf t)) next n
           more (Refused q) i j g = absurd (subst IsDone (sym g ∙ ap (λ (z : Recorded × List ℕ). z .0) j) tt)
           more (Value v) i j g =
-              let o : n ≡ end + length (recordOf v) = ap wrote (sym g ∙ ap (λ (z : Recorded × List ℕ). z .0) j) in
+              let o : n ≡ end + length (recordOf (l .«is_long») v) = ap wrote (sym g ∙ ap (λ (z : Recorded × List ℕ). z .0) j) in
               let u : m ≡ pointsIn r v = ap count (sym g ∙ ap (λ (z : Recorded × List ℕ). z .0) j) in
-              let c : buf' ≡ sets buf end (recordOf v) = ap (λ (z : Recorded × List ℕ). z .1) j in
+              let c : buf' ≡ sets buf end (recordOf (l .«is_long») v) = ap (λ (z : Recorded × List ℕ). z .1) j in
               record {
                 walk = ahead-more (k .walk) h e small;
                 done = k .done ++ (v ∷ []);
                 rest = prepend-next (k .done) v (walkedRead l p (isMarked marks) r (withColumn b (shapeOf t)) (drop (b .«num_columns» + 1) (typesIn s))) ∙ rw (split, i) at (k .rest);
                 written = c ∙ rw (k .written, k .so-far, list-one, sets-append, zero-add);
                 so-far = rw (o, k .so-far, list-one, length-append);
-                few = rw o (omega (arith, k .few, record-short v));
+                few = rw o (omega (arith, k .few, record-short (l .«is_long») v));
                 many = rw length-append (omega (arith, k .many));
                 counted = rw (u, k .counted, map-append, sets-append, length-map, k .many, zero-add);
               }
 
-      pub decode-bad : {q : Refusal} → res ≡ Recorded.Refused q → Filled r (l .«num_columns») (walkedRead l p (isMarked marks) r noColumns (typesIn s)) buf₀ points₀ (Answer.Refused q) buf' points
+      pub decode-bad : {q : Refusal} → res ≡ Recorded.Refused q → Filled (l .«is_long») r (l .«num_columns») (walkedRead l p (isMarked marks) r noColumns (typesIn s)) buf₀ points₀ (Answer.Refused q) buf' points
       decode-bad {q} f = bad x is o f
         where
-          bad : (y : ColumnRead) → wantedValue (isMarked marks (b .«num_columns»)) (walkedColumn l p b t r) ≡ y → (res, buf') ≡ stepped buf end (pointsIn r) y → res ≡ Recorded.Refused q
-              → Filled r (l .«num_columns») (walkedRead l p (isMarked marks) r noColumns (typesIn s)) buf₀ points₀ (Answer.Refused q) buf' points
+          bad : (y : ColumnRead) → wantedValue (isMarked marks (b .«num_columns»)) (walkedColumn l p b t r) ≡ y → (res, buf') ≡ stepped (l .«is_long») buf end (pointsIn r) y → res ≡ Recorded.Refused q
+              → Filled (l .«is_long») r (l .«num_columns») (walkedRead l p (isMarked marks) r noColumns (typesIn s)) buf₀ points₀ (Answer.Refused q) buf' points
           bad (Value v) i j g = absurd (subst IsDone (sym (ap (λ (z : Recorded × List ℕ). z .0) j) ∙ g) tt)
           bad (Refused u) i j g =
               let all : refused u ≡ walkedRead l p (isMarked marks) r noColumns (typesIn s) = rw (split, i) at (k .rest) in
-              subst (λ (vs : Values). Filled r (l .«num_columns») vs buf₀ points₀ (Answer.Refused q) buf' points) all (ap refusal (sym g ∙ ap (λ (z : Recorded × List ℕ). z .0) j))
+              subst (λ (vs : Values). Filled (l .«is_long») r (l .«num_columns») vs buf₀ points₀ (Answer.Refused q) buf' points) all (ap refusal (sym g ∙ ap (λ (z : Recorded × List ℕ). z .0) j))
 
 -- ---- a step of the walk: the column whose record stands at `at`
 
@@ -193,12 +193,12 @@ module _ {s : List ℕ} {l : RowLayout} {p : Bool} {r marks buf₀ points₀ buf
   same : wantedValue (isMarked marks (b .«num_columns»)) (walkedColumn l p b (ahead-column (k .walk) h .ty) r) ≡ here
   same = ap (λ (t : DataType). wantedValue (isMarked marks (b .«num_columns»)) (walkedColumn l p b t r)) (ahead-type (k .walk) h (ahead-column (k .walk) h .is))
 
-  module _ (res : Recorded) (buf' : List ℕ) (o : (res, buf') ≡ stepped buf end (pointsIn r) here) where
+  module _ (res : Recorded) (buf' : List ℕ) (o : (res, buf') ≡ stepped (l .«is_long») buf end (pointsIn r) here) where
     pub decode-next : {n m : ℕ} {q : Step} → res ≡ Recorded.Done n m → q ≡ passed at b (columnRecordAt s at) → Bounded (q .before) → Decoding s l p r marks buf₀ points₀ buf' (set points (b .«num_columns») m) (q .before) (q .at) n
     decode-next {n} {m} {q} f e small =
         let is = step-is (k .walk) h e in
         subst (λ (x : Step). Decoding s l p r marks buf₀ points₀ buf' (set points (b .«num_columns») m) (x .before) (x .at) n) (sym is)
         (decode-more d k h (ahead-column (k .walk) h .is) res buf' here same o f (subst (λ (x : Step). Bounded (x .before)) is small))
 
-    pub decode-refused : {e : Refusal} → res ≡ Recorded.Refused e → Filled r (l .«num_columns») (walkedRead l p (isMarked marks) r noColumns (typesIn s)) buf₀ points₀ (Answer.Refused e) buf' points
+    pub decode-refused : {e : Refusal} → res ≡ Recorded.Refused e → Filled (l .«is_long») r (l .«num_columns») (walkedRead l p (isMarked marks) r noColumns (typesIn s)) buf₀ points₀ (Answer.Refused e) buf' points
     decode-refused f = decode-bad d k h (ahead-column (k .walk) h .is) res buf' here same o f

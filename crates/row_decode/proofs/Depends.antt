@@ -8,7 +8,7 @@ use native.Mathlib.Omega.{arith}
 use lib.ListN.{length, take}
 use Rattle.error.specs.Answer.{unchangedBoth, placedBoth}
 use Rattle.error.specs.Result.{ok, refused}
-use Rattle.row_format.specs.Places.{minimum}
+use Rattle.row_format.specs.Places.{minimum, offsetWidth, rowLimit}
 use Rattle.datatype.specs.declared.DataType.{DataType}
 use Rattle.datatype.specs.Types.{shapeOf}
 use Rattle.text.specs.Check.{points}
@@ -67,21 +67,21 @@ module _ (r r' : List ℕ) where
       (wanted-text (wanted i) (columnValue w p ts i r) (λ a. text-depends r r' w p ts i (s i (omega arith) a)))
       (counts-depend w p ts wanted s n (suc i) (omega arith))
 
-  handed-same : (out counts : List ℕ) (vs : Values) → SameCounts vs → handOut out counts r vs ≡ handOut out counts r' vs
-  handed-same out counts (ok vs) e = ap (placedBoth out counts (listOf vs)) e
-  handed-same out counts (refused e) h = refl
+  handed-same : (k : Bool) (out counts : List ℕ) (vs : Values) → SameCounts vs → handOut k out counts r vs ≡ handOut k out counts r' vs
+  handed-same k out counts (ok vs) e = ap (placedBoth out counts (listOf k vs)) e
+  handed-same k out counts (refused e) h = refl
 
 -- the answer, the values and the counts
-pub read-depends : (w limit : ℕ) (ts : List DataType) (r r' ws out counts : List ℕ) → take 4 r ≡ take 4 r'
-    → length r ≤ limit → length r' ≤ limit
-    → minimum w (isPacked r) (map shapeOf ts) ≤ length r → minimum w (isPacked r) (map shapeOf ts) ≤ length r'
-    → ((p : Bool) → frameOf w limit ts r ≡ Frame.Good p → SameWanted w p ts (isWanted ws) r r')
-    → readRow w limit ts r ws out counts ≡ readRow w limit ts r' ws out counts
-read-depends w limit ts r r' ws out counts e a a' m m' s =
-    same-good (frameOf w limit ts r) (unchangedBoth out counts)
+pub read-depends : (k : Bool) (ts : List DataType) (r r' ws out counts : List ℕ) → take 4 r ≡ take 4 r'
+    → length r ≤ rowLimit k → length r' ≤ rowLimit k
+    → minimum (offsetWidth k) (isPacked r) (map shapeOf ts) ≤ length r → minimum (offsetWidth k) (isPacked r) (map shapeOf ts) ≤ length r'
+    → ((p : Bool) → frameOf k ts r ≡ Frame.Good p → SameWanted (offsetWidth k) p ts (isWanted ws) r r')
+    → readRow k ts r ws out counts ≡ readRow k ts r' ws out counts
+read-depends k ts r r' ws out counts e a a' m m' s =
+    same-good (frameOf k ts r) (unchangedBoth out counts)
     (λ p g.
-    handed-same r r' out counts (readFrom w p ts (isWanted ws) r 0 (length ts))
-    (counts-depend r r' w p ts (isWanted ws) (s p g) (length ts) 0 (omega arith))
-    ∙ ap (handOut out counts r') (columns-depend w p ts (isWanted ws) r r' (s p g) (length ts) 0 (omega arith)))
-    ∙ ap (λ (f : Frame). onFrame f (unchangedBoth out counts) (λ p. handOut out counts r' (readFrom w p ts (isWanted ws) r' 0 (length ts))))
-    (frame-depends w limit ts r r' e a a' m m')
+    handed-same r r' k out counts (readFrom (offsetWidth k) p ts (isWanted ws) r 0 (length ts))
+    (counts-depend r r' (offsetWidth k) p ts (isWanted ws) (s p g) (length ts) 0 (omega arith))
+    ∙ ap (handOut k out counts r') (columns-depend (offsetWidth k) p ts (isWanted ws) r r' (s p g) (length ts) 0 (omega arith)))
+    ∙ ap (λ (f : Frame). onFrame f (unchangedBoth out counts) (λ p. handOut k out counts r' (readFrom (offsetWidth k) p ts (isWanted ws) r' 0 (length ts))))
+    (frame-depends k ts r r' e a a' m m')

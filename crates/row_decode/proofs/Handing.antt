@@ -24,16 +24,16 @@ use Rattle.row_decode.specs.InnerWalk.{walkedRead}
 use Rattle.row_decode.specs.InnerMarks.{marked, isMarked, Filled, Held, copiedOut}
 use Rattle.row_decode.proofs.Marking.{marks-tell}
 
-module _ (r : List ℕ) (columns : ℕ) (buf points buf' points' : List ℕ) (res : Answer) where
-  pub filled-held : (vs : Values) → Filled r columns vs buf points res buf' points' → Held res columns buf' points'
+module _ (k : Bool) (r : List ℕ) (columns : ℕ) (buf points buf' points' : List ℕ) (res : Answer) where
+  pub filled-held : (vs : Values) → Filled k r columns vs buf points res buf' points' → Held res columns buf' points'
   filled-held (ok vs) f = rw (f .done, f .written, f .counted, length-sets buf, length-sets points) (f .room, f .numbers)
   filled-held (refused e) f = rw f tt
 
-  pub filled-out : (vs : Values) → Filled r columns vs buf points res buf' points' → (out counts : List ℕ)
-      → copiedOut res columns buf' points' out counts ≡ handOut out counts r vs
+  pub filled-out : (vs : Values) → Filled k r columns vs buf points res buf' points' → (out counts : List ℕ)
+      → copiedOut res columns buf' points' out counts ≡ handOut k out counts r vs
   filled-out (ok vs) f out counts =
       let n : length (map (pointsIn r) vs) ≡ columns = length-map vs (pointsIn r) ∙ f .many in
-      let e : take (length (listOf vs)) (sets buf 0 (listOf vs)) ≡ listOf vs = part-stored buf 0 (listOf vs) (omega (arith, f .room)) in
+      let e : take (length (listOf k vs)) (sets buf 0 (listOf k vs)) ≡ listOf k vs = part-stored buf 0 (listOf k vs) (omega (arith, f .room)) in
       let g : take (length (map (pointsIn r) vs)) (sets points 0 (map (pointsIn r) vs)) ≡ map (pointsIn r) vs =
       part-stored points 0 (map (pointsIn r) vs) (omega (arith, n, f .numbers)) in
       rw (f .done, f .written, f .counted, e, ← n, g)
@@ -52,8 +52,8 @@ few-columns a = omega (arith, columns-all a, a .bounded .few)
 -- the marks of the wanted columns in a list of 256
 pub wanted-out : {s : List ℕ} {l : RowLayout} → Accepted s l → (p : Bool) (r out counts marks w : List ℕ)
     → marks ≡ marked (replicate 256 0) w
-    → handOut out counts r (walkedRead l p (isMarked marks) r noColumns (typesIn s))
-    ≡ handOut out counts r (walkedRead l p (isWanted w) r noColumns (typesIn s))
+    → handOut (l .«is_long») out counts r (walkedRead l p (isMarked marks) r noColumns (typesIn s))
+    ≡ handOut (l .«is_long») out counts r (walkedRead l p (isWanted w) r noColumns (typesIn s))
 wanted-out {s} {l} a p r out counts marks w e =
-    ap (handOut out counts r)
+    ap (handOut (l .«is_long») out counts r)
     (same-flags l p r (isMarked marks) (isWanted w) 256 (λ i h. rw e (marks-tell 256 w i h)) noColumns (typesIn s) (few-columns a))

@@ -22,9 +22,9 @@ use Rattle.row_column.proofs.Reach.{columns-before}
 use Rattle.row_decode.specs.Read.{wantedValue, onColumn, readFrom}
 use Rattle.row_decode.specs.InnerWalk.{walkedRead}
 
-module _ (p : Bool) (ts : List DataType) (wanted : ℕ → Bool) (r : List ℕ) where
+module _ (k p : Bool) (ts : List DataType) (wanted : ℕ → Bool) (r : List ℕ) where
   abbrev l : RowLayout
-  l = layoutFor ts
+  l = layoutFor k ts
 
   walked-next : (i : ℕ) → i < length ts → walkedRead l p wanted r (layoutBefore ts i) (drop i ts)
       ≡ onColumn (wantedValue (wanted i) (walkedColumn l p (layoutBefore ts i) (typeAt ts i) r))
@@ -34,20 +34,20 @@ module _ (p : Bool) (ts : List DataType) (wanted : ℕ → Bool) (r : List ℕ) 
       let t : DataType = typeAt ts i in
       let here : Bool → ColumnRead = λ x. wantedValue x (walkedColumn l p b t r) in
       ap (walkedRead l p wanted r b) (drop-cons ts i (Varchar false 0) h)
-      ∙ ap₂ (λ (n : ℕ) (k : RowLayout). onColumn (here (wanted n)) (walkedRead l p wanted r k (drop (suc i) ts)))
+      ∙ ap₂ (λ (n : ℕ) (c : RowLayout). onColumn (here (wanted n)) (walkedRead l p wanted r c (drop (suc i) ts)))
       (columns-before ts i (omega arith)) (sym (rw (add-one i) at (before-next ts i h)))
 
   from-walked : (n i : ℕ) → i + n ≡ length ts
-      → readFrom offsetWidth p ts wanted r i n ≡ walkedRead l p wanted r (layoutBefore ts i) (drop i ts)
+      → readFrom (offsetWidth k) p ts wanted r i n ≡ walkedRead l p wanted r (layoutBefore ts i) (drop i ts)
   from-walked zero i e = rw (drop-of-length-le ts {i = i} (omega arith))
   from-walked (suc n) i e =
       let h : i < length ts = omega arith in
-      ap₂ onColumn (ap (wantedValue (wanted i)) (column-walked p ts i r h)) (from-walked n (suc i) (omega arith))
+      ap₂ onColumn (ap (wantedValue (wanted i)) (column-walked k p ts i r h)) (from-walked n (suc i) (omega arith))
       ∙ sym (walked-next i h)
 
   -- where the layout of the columns is known as m
-  pub read-walked : {m : RowLayout} → layoutFor ts ≡ m
-      → walkedRead m p wanted r noColumns ts ≡ readFrom offsetWidth p ts wanted r 0 (length ts)
+  pub read-walked : {m : RowLayout} → layoutFor k ts ≡ m
+      → walkedRead m p wanted r noColumns ts ≡ readFrom (offsetWidth k) p ts wanted r 0 (length ts)
   read-walked e =
-      ap (λ (k : RowLayout). walkedRead k p wanted r noColumns ts) (sym e)
+      ap (λ (c : RowLayout). walkedRead c p wanted r noColumns ts) (sym e)
       ∙ sym (from-walked (length ts) 0 (omega arith))

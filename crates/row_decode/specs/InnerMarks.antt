@@ -1,30 +1,23 @@
 -- For the proofs: the wanted columns marked in a list of flags, and what the inner functions hand on.
-use Prim.Native.Nat.{ℕ, _+_, _*_, _≤_, _<_}
+use Prim.Native.Nat.{ℕ, _*_, _≤_}
 use mathlib.Core.Bool.{Bool, cond, _||_}
 use mathlib.Core.List.{List, [], _∷_, map}
 use mathlib.Core.Path.{_≡_}
 use lib.Dec.{eqb, ltb}
 use lib.ListN.{length, getD, set, take}
 use lib.Seq.{sets}
-use Rattle.error.specs.declared.Refusal.{Refusal}
 use Rattle.error.specs.declared.Refusal.the-variants.{NoRoom}
 use Rattle.error.specs.declared.Answer.{Answer}
 use Rattle.error.specs.declared.Answer.the-variants as Answer
 use Rattle.error.specs.Answer.{Counted, unchangedBoth}
 use Rattle.error.specs.Result.{ok, refused}
-use Rattle.row_format.specs.Places.{rowLimit}
 use Rattle.row_layout.specs.declared.RowLayout.{RowLayout}
 use Rattle.datatype.specs.declared.Record.the-variants as Record
-use Rattle.datatype.specs.Schema.{columnRecordAt}
-use Rattle.datatype.specs.Check.{typeAt, typesIn}
-use Rattle.datatype.specs.InnerSteps.{typeIn}
 use Rattle.value.specs.declared.DataValue.{DataValue}
-use Rattle.value_list.specs.Records.{recordOf}
 use Rattle.value_list.specs.Lists.{Values, listOf}
 use Rattle.stored_form.specs.Points.{pointsIn}
-use Rattle.row_column.specs.declared.ColumnRead.{ColumnRead}
-use Rattle.row_column.specs.declared.ColumnRead.the-variants.{Value, Refused}
-use Rattle.row_column.specs.InnerWalk.{Framed, Reachable}
+use Rattle.row_column.specs.declared.ColumnRead.the-variants.{Refused}
+use Rattle.row_column.specs.InnerWalk.{Framed}
 
 abbrev pub marked : List ℕ → List ℕ → List ℕ
 marked m [] = m
@@ -33,20 +26,20 @@ marked m (w ∷ ws) = marked (set m w 1) ws
 abbrev pub isMarked : List ℕ → ℕ → Bool
 isMarked m i = eqb (getD m i 0) 1
 
--- the records of all columns of a row r written at the front of a buffer, and their counts at the front of a list;
--- after a refusal both may hold anything
-pub record FilledWith (r : List ℕ) (columns : ℕ) (vs : List DataValue) (buf points : List ℕ) (a : Answer)
+-- the records of all columns of a row r of a sort written at the front of a buffer, and their counts at the front of a
+-- list; after a refusal both may hold anything
+pub record FilledWith (k : Bool) (r : List ℕ) (columns : ℕ) (vs : List DataValue) (buf points : List ℕ) (a : Answer)
     (buf' points' : List ℕ) : Type 0 where
-  pub done : a ≡ Answer.Done (length (listOf vs))
-  pub written : buf' ≡ sets buf 0 (listOf vs)
-  pub room : length (listOf vs) ≤ length buf
+  pub done : a ≡ Answer.Done (length (listOf k vs))
+  pub written : buf' ≡ sets buf 0 (listOf k vs)
+  pub room : length (listOf k vs) ≤ length buf
   pub counted : points' ≡ sets points 0 (map (pointsIn r) vs)
   pub many : length vs ≡ columns
   pub numbers : columns ≤ length points
 
-abbrev pub Filled : List ℕ → ℕ → Values → List ℕ → List ℕ → Answer → List ℕ → List ℕ → Type 0
-Filled r columns (ok vs) buf points a buf' points' = FilledWith r columns vs buf points a buf' points'
-Filled r columns (refused e) buf points a buf' points' = a ≡ Answer.Refused e
+abbrev pub Filled : Bool → List ℕ → ℕ → Values → List ℕ → List ℕ → Answer → List ℕ → List ℕ → Type 0
+Filled k r columns (ok vs) buf points a buf' points' = FilledWith k r columns vs buf points a buf' points'
+Filled k r columns (refused e) buf points a buf' points' = a ≡ Answer.Refused e
 
 -- and copied from there
 abbrev pub Held : Answer → ℕ → List ℕ → List ℕ → Type 0

@@ -6,6 +6,7 @@ use mathlib.Core.Bool.{Bool, true, false, cond}
 use mathlib.Core.List.{List, [], _∷_, map}
 use lib.Dec.{eqb}
 use lib.ListN.{length}
+use Rattle.row_format.specs.Places.{offsetWidth}
 use Rattle.error.specs.Answer.{Counted, unchangedBoth, placedBoth}
 use Rattle.error.specs.Result.{ok, refused, onResult, before}
 use Rattle.datatype.specs.declared.DataType.{DataType}
@@ -41,15 +42,16 @@ readFrom w p ts wanted r i (suc n) =
 
 -- ---- the whole call: the answer, the bytes of `out` and the numbers of `counts` afterwards
 
-abbrev pub handOut : List ℕ → List ℕ → List ℕ → Values → Counted
-handOut out counts r (ok vs) = placedBoth out counts (listOf vs) (map (pointsIn r) vs)
-handOut out counts r (refused e) = unchangedBoth out counts e
+abbrev pub handOut : Bool → List ℕ → List ℕ → List ℕ → Values → Counted
+handOut k out counts r (ok vs) = placedBoth out counts (listOf k vs) (map (pointsIn r) vs)
+handOut k out counts r (refused e) = unchangedBoth out counts e
 
-abbrev pub readRow : ℕ → ℕ → List DataType → List ℕ → List ℕ → List ℕ → List ℕ → Counted
-readRow w limit ts r ws out counts =
-    onFrame (frameOf w limit ts r) (unchangedBoth out counts)
-    (λ p. handOut out counts r (readFrom w p ts (isWanted ws) r 0 (length ts)))
+-- a row r that is taken as of sort k
+abbrev pub readRow : Bool → List DataType → List ℕ → List ℕ → List ℕ → List ℕ → Counted
+readRow k ts r ws out counts =
+    onFrame (frameOf k ts r) (unchangedBoth out counts)
+    (λ p. handOut k out counts r (readFrom (offsetWidth k) p ts (isWanted ws) r 0 (length ts)))
 
-abbrev pub readCall : ℕ → ℕ → List ℕ → List ℕ → List ℕ → List ℕ → List ℕ → Counted
-readCall w limit schema r ws out counts =
-    onResult (schemaOf w limit schema) (unchangedBoth out counts) (λ ts. readRow w limit ts r ws out counts)
+abbrev pub readCall : Bool → List ℕ → List ℕ → List ℕ → List ℕ → List ℕ → Counted
+readCall k schema r ws out counts =
+    onResult (schemaOf k schema) (unchangedBoth out counts) (λ ts. readRow k ts r ws out counts)

@@ -8,10 +8,10 @@ use row_column::Frame;
 use row_layout::RowLayout;
 use slot_record::Recorded;
 ghost use mathlib.Core.Path.{_≡_};
+ghost use mathlib.Core.Bool.{false};
 ghost use Prim.Native.Nat.{_≤_};
 ghost use lib.ListN.{length, set};
 ghost use lib.Seq.{sets};
-ghost use Rattle.row_format.specs.Places.{offsetWidth, rowLimit};
 ghost use Rattle.row_layout.specs.InnerLayout.{noColumns};
 ghost use Rattle.row_column.specs.InnerWalk.{walkedColumn, Framed};
 ghost use Rattle.stored_form.specs.Points.{pointsIn};
@@ -96,7 +96,7 @@ fn decode_column(
 ) -> Recorded
     requires { ⌜ DecodeAt (now schema) at layout packed before (now row) (now buf) end × (length (now marks) ≡ 256) ⌝ }
     ensures { λ r. ⌜ (r, now (buf .exit))
-        ≡ stepped (now (buf .entry)) end (pointsIn (now (row .entry)))
+        ≡ stepped (layout .«is_long») (now (buf .entry)) end (pointsIn (now (row .entry)))
         (wantedValue (isMarked (now (marks .entry)) (before .«num_columns»))
         (walkedColumn layout packed before (typeAt (typesIn (now (schema .entry))) (before .«num_columns»))
         (now (row .entry)))) ⌝ }
@@ -123,7 +123,7 @@ fn decode_columns(
     points: &mut [u32],
 ) -> Answer
     requires { ⌜ Decodable (now schema) layout packed (now row) (now marks) (now buf) (now points) ⌝ }
-    ensures { λ r. ⌜ Filled (now (row .entry)) (layout .«num_columns»)
+    ensures { λ r. ⌜ Filled (layout .«is_long») (now (row .entry)) (layout .«num_columns»)
         (walkedRead layout packed (isMarked (now (marks .entry))) (now (row .entry)) noColumns
         (typesIn (now (schema .entry)))) (now (buf .entry)) (now (points .entry)) r (now (buf .exit))
         (now (points .exit)) ⌝ }
@@ -162,7 +162,7 @@ fn decode_small(
     requires { ⌜ Framed (now schema) layout packed (now row)
         × ((length (now marks) ≡ 256) × (layout .«num_columns» ≤ 14)) ⌝ }
     ensures { λ r. ⌜ (r, (now (out .exit), now (counts .exit)))
-        ≡ handOut (now (out .entry)) (now (counts .entry)) (now (row .entry))
+        ≡ handOut (layout .«is_long») (now (out .entry)) (now (counts .entry)) (now (row .entry))
         (walkedRead layout packed (isMarked (now (marks .entry))) (now (row .entry)) noColumns
         (typesIn (now (schema .entry)))) ⌝ }
 {
@@ -185,7 +185,7 @@ fn decode_short(
     requires { ⌜ Framed (now schema) layout packed (now row)
         × ((length (now marks) ≡ 256) × (layout .«num_columns» ≤ 32)) ⌝ }
     ensures { λ r. ⌜ (r, (now (out .exit), now (counts .exit)))
-        ≡ handOut (now (out .entry)) (now (counts .entry)) (now (row .entry))
+        ≡ handOut (layout .«is_long») (now (out .entry)) (now (counts .entry)) (now (row .entry))
         (walkedRead layout packed (isMarked (now (marks .entry))) (now (row .entry)) noColumns
         (typesIn (now (schema .entry)))) ⌝ }
 {
@@ -208,7 +208,7 @@ fn decode_long(
     requires { ⌜ Framed (now schema) layout packed (now row)
         × ((length (now marks) ≡ 256) × (layout .«num_columns» ≤ 256)) ⌝ }
     ensures { λ r. ⌜ (r, (now (out .exit), now (counts .exit)))
-        ≡ handOut (now (out .entry)) (now (counts .entry)) (now (row .entry))
+        ≡ handOut (layout .«is_long») (now (out .entry)) (now (counts .entry)) (now (row .entry))
         (walkedRead layout packed (isMarked (now (marks .entry))) (now (row .entry)) noColumns
         (typesIn (now (schema .entry)))) ⌝ }
 {
@@ -231,7 +231,7 @@ fn decode_values(
 ) -> Answer
     requires { ⌜ Framed (now schema) layout packed (now row) ⌝ }
     ensures { λ r. ⌜ (r, (now (out .exit), now (counts .exit)))
-        ≡ handOut (now (out .entry)) (now (counts .entry)) (now (row .entry))
+        ≡ handOut (layout .«is_long») (now (out .entry)) (now (counts .entry)) (now (row .entry))
         (walkedRead layout packed (isWanted (now (wanted .entry))) (now (row .entry)) noColumns
         (typesIn (now (schema .entry)))) ⌝ }
 {
@@ -256,7 +256,7 @@ fn decode_row(
 ) -> Answer
     requires { ⌜ Accepted (now schema) layout ⌝ }
     ensures { λ r. ⌜ (r, (now (out .exit), now (counts .exit)))
-        ≡ readRow offsetWidth rowLimit (typesIn (now (schema .entry))) (now (row .entry)) (now (wanted .entry))
+        ≡ readRow (layout .«is_long») (typesIn (now (schema .entry))) (now (row .entry)) (now (wanted .entry))
         (now (out .entry)) (now (counts .entry)) ⌝ }
 {
     match row_column::check_frame(layout, row) {
@@ -275,11 +275,13 @@ pub fn decode(
     counts: &mut [u32],
 ) -> Answer
     ensures { λ r. ⌜ (r, (now (out .exit), now (counts .exit)))
-        ≡ readCall offsetWidth rowLimit (now (schema .entry)) (now (row .entry)) (now (wanted .entry))
+        ≡ readCall false (now (schema .entry)) (now (row .entry)) (now (wanted .entry))
         (now (out .entry)) (now (counts .entry)) ⌝ }
 {
-    match datatype::check_schema(schema) {
+    match datatype::check_schema(schema, false) {
         SchemaCheck::Refused(e) => Answer::Refused(e),
-        SchemaCheck::Good(layout) => decode_row(schema, layout, row, wanted, out, counts),
+        SchemaCheck::Good(layout) => {
+            decode_row(schema, layout.of_sort(false), row, wanted, out, counts)
+        }
     }
 }

@@ -7,18 +7,17 @@ use mathlib.Core.Option.{none, some}
 use native.Mathlib.Omega.{arith}
 use lib.ListN.{length, take}
 use lib.Seq.{length-take-le}
-use Rattle.laws.specs.Bytes.{entryAt, splice}
+use Rattle.laws.specs.Bytes.{entryAt}
 use Rattle.laws.proofs.Bytes.{same-length-splice}
-use Rattle.row_format.specs.Places.{tableStart, fixedStart, offsetWidth, rowLimit}
+use Rattle.row_format.specs.Places.{tableStart, offsetWidth, rowLimit}
 use Rattle.row_format.specs.Table.{Cell, bytes, orElse, rangeEnd}
-use Rattle.row_format.specs.Edit.{offsetTable, span, rangeStart, rangeEdit, slotEdit, editedRow}
+use Rattle.row_format.specs.Edit.{span, rangeStart, editedRow}
 use Rattle.row_format.specs.InnerRising.{Between}
 use Rattle.row_format.proofs.Edit.{length-bit-edit, length-range-edit}
 use Rattle.row_layout.specs.declared.RowLayout.{RowLayout}
 use Rattle.row_layout.specs.InnerLayout.{minimumOf}
-use Rattle.datatype.specs.declared.DataType.{DataType}
 use Rattle.datatype.specs.Types.{sizeOf, isVarlen, shapeOf}
-use Rattle.datatype.specs.Check.{layoutFor, typesIn}
+use Rattle.datatype.specs.Check.{typesIn}
 use Rattle.row_column.specs.declared.Column.{Column}
 use Rattle.row_column.specs.InnerWalk.{walkedPlace, Found, Framed, Reachable}
 use Rattle.row_column.proofs.Walk.{minimum-walked, frame-walked}
@@ -46,11 +45,11 @@ module _ {s : List ℕ} {l : RowLayout} {p : Bool} {buf : List ℕ} {n i : ℕ} 
   row-size = length-take-le n buf (o .inside)
 
   pub framed-row : Framed s l p (take n buf)
-  framed-row = framed (o .accepted) (sym (frame-walked rowLimit (typesIn s) (take n buf) (o .accepted .layout)) ∙ o .row .frame)
+  framed-row = framed (o .accepted) (sym (frame-walked (typesIn s) (take n buf) (o .accepted .layout)) ∙ o .row .frame)
 
-  between : (k : ℕ) → k < l .«num_varlen_cols» → Between offsetWidth (tableStart (l .«num_columns»)) (l .«num_varlen_cols») k (minimumOf l p) (take n buf)
-  between = subst (λ (m : RowLayout). (k : ℕ) → k < m .«num_varlen_cols» → Between offsetWidth (tableStart (m .«num_columns»)) (m .«num_varlen_cols») k (minimumOf m p) (take n buf)) (o .accepted .layout)
-      (rw (minimum-walked (typesIn s) p) at (sound-ranges p (typesIn s) (take n buf) (o .row .sound)))
+  between : (k : ℕ) → k < l .«num_varlen_cols» → Between (offsetWidth (l .«is_long»)) (tableStart (l .«num_columns»)) (l .«num_varlen_cols») k (minimumOf l p) (take n buf)
+  between = subst (λ (m : RowLayout). (k : ℕ) → k < m .«num_varlen_cols» → Between (offsetWidth (m .«is_long»)) (tableStart (m .«num_columns»)) (m .«num_varlen_cols») k (minimumOf m p) (take n buf)) (o .accepted .layout)
+      (rw (minimum-walked (l .«is_long») (typesIn s) p) at (sound-ranges (offsetWidth (l .«is_long»)) p (typesIn s) (take n buf) (o .row .sound)))
 
   module _ {c : Column} (f : Found s i c) where
     pub reaches : Reachable l p (c .before) (c .ty) (take n buf)
@@ -58,7 +57,7 @@ module _ {s : List ℕ} {l : RowLayout} {p : Bool} {buf : List ℕ} {n i : ℕ} 
 
     module _ (a e : ℕ) (q : isVarlen (c .ty) ≡ true → RangeAt l (c .before) (take n buf) a e) where
       pub record InRow (v : isVarlen (c .ty) ≡ true) : Type 0 where
-        pub behind : tableStart (l .«num_columns») + l .«num_varlen_cols» * offsetWidth ≤ a
+        pub behind : tableStart (l .«num_columns») + l .«num_varlen_cols» * offsetWidth (l .«is_long») ≤ a
         pub rises : a ≤ e
         pub within : e ≤ n
 
@@ -69,10 +68,10 @@ module _ {s : List ℕ} {l : RowLayout} {p : Bool} {buf : List ℕ} {n i : ℕ} 
           let y = q v .1 in
           record { behind = omega (arith, b .past, x); rises = omega (arith, b .rises, x, y); within = omega (arith, b .within, y, row-size) }
 
-      pub edited-is : (x : Cell) → rowSet l p (c .before) (c .ty) (span a e) x (take n buf) ≡ editedRow offsetWidth p (map shapeOf (typesIn s)) i x (take n buf)
-      edited-is x = row-edited (typesIn s) p i x (take n buf) a e (sym (o .accepted .layout)) (f .layout) (f .type-is) (o .column) q
+      pub edited-is : (x : Cell) → rowSet l p (c .before) (c .ty) (span a e) x (take n buf) ≡ editedRow (offsetWidth (l .«is_long»)) p (map shapeOf (typesIn s)) i x (take n buf)
+      edited-is x = row-edited (l .«is_long») (typesIn s) p i x (take n buf) a e (sym (o .accepted .layout)) (f .layout) (f .type-is) (o .column) q
 
-      pub ready : (z : ℕ) → (isVarlen (c .ty) ≡ true → (a + z + (n - e) ≤ rowLimit) × (a + z + (n - e) ≤ length buf)) → Editable l p (c .before) (c .ty) (change n a e z) buf
+      pub ready : (z : ℕ) → (isVarlen (c .ty) ≡ true → (a + z + (n - e) ≤ rowLimit (l .«is_long»)) × (a + z + (n - e) ≤ length buf)) → Editable l p (c .before) (c .ty) (change n a e z) buf
       ready z m =
           record {
             reach = reaches;
@@ -89,7 +88,7 @@ module _ {s : List ℕ} {l : RowLayout} {p : Bool} {buf : List ℕ} {n i : ℕ} 
                       λ j x y d.
                       let b = between (c .before .«num_varlen_cols») (reaches .rank v) in
                       let u = between j y in
-                      let own = own-start offsetWidth (tableStart (l .«num_columns»)) (l .«num_varlen_cols») j (take n buf) d in
+                      let own = own-start (offsetWidth (l .«is_long»)) (tableStart (l .«num_columns»)) (l .«num_varlen_cols») j (take n buf) d in
                       (rw (q v .1) (b .higher j x y d), omega (arith, own, u .rises, u .within, row-size));
                 };
           }
@@ -100,7 +99,7 @@ module _ {s : List ℕ} {l : RowLayout} {p : Bool} {buf : List ℕ} {n i : ℕ} 
           let t = tableStart (l .«num_columns») in
           let k = c .before .«num_varlen_cols» in
           rw (length-bit-edit (c .before .«num_columns») x (columnSet l p (c .before) (c .ty) (span a e) x (take n buf)), v)
-          (length-range-edit offsetWidth t (l .«num_varlen_cols») k x a e (take n buf) (reaches .rank v) (h .behind) (h .rises) (rw row-size (h .within))
+          (length-range-edit (offsetWidth (l .«is_long»)) t (l .«num_varlen_cols») k x a e (take n buf) (reaches .rank v) (h .behind) (h .rises) (rw row-size (h .within))
           ∙ rw row-size (omega (arith, h .rises, h .within)))
 
       module _ (v : isVarlen (c .ty) ≡ false) where

@@ -34,9 +34,9 @@ module _ {s : List ℕ} {l : RowLayout} {p : Bool} {buf : List ℕ} {n i : ℕ} 
   after a e x = rowSet l p (c .before) (c .ty) (span a e) x (take n buf)
 
   abbrev changed : Cell → List ℕ
-  changed x = edited offsetWidth (typesIn s) p buf n i x
+  changed x = edited (offsetWidth (l .«is_long»)) (typesIn s) p buf n i x
 
-  row-limit : n ≤ rowLimit
+  row-limit : n ≤ rowLimit (l .«is_long»)
   row-limit = rw (row-size o) at (row-short (o .row))
 
   -- a fixed column has no range
@@ -48,11 +48,11 @@ module _ {s : List ℕ} {l : RowLayout} {p : Bool} {buf : List ℕ} {n i : ℕ} 
     fixed-ready z = ready o f 0 0 no-range z (λ v. absurd (false≢true (sym fixed ∙ v)))
 
     pub fixed-done : {v : DataValue} {area q : List ℕ} {m : ℕ} → Suited (c .ty) v area → Holds buf (after 0 0 (some (formOf (c .ty) v area))) q m
-        → (Done m, q) ≡ rowPlaced rowLimit buf (changed (some (formOf (c .ty) v area)))
+        → (Done m, q) ≡ rowPlaced (l .«is_long») buf (changed (some (formOf (c .ty) v area)))
     fixed-done {v} {area} {q} {m} t h =
         let x = some (formOf (c .ty) v area) in
         let k : length (after 0 0 x) ≡ n = length-fixed o f 0 0 no-range fixed (formOf (c .ty) v area) (length-slot t fixed) in
-        subst (λ (r : List ℕ). (Done m, q) ≡ rowPlaced rowLimit buf r) (edited-is o f 0 0 no-range x) (placing buf (after 0 0 x) rowLimit q m h (rw k row-limit) (rw k (o .inside)))
+        subst (λ (r : List ℕ). (Done m, q) ≡ rowPlaced (l .«is_long») buf r) (edited-is o f 0 0 no-range x) (placing buf (after 0 0 x) (l .«is_long») q m h (rw k row-limit) (rw k (o .inside)))
 
     pub fixed-null : {q : List ℕ} {m : ℕ} → Holds buf (after 0 0 none) q m → (Done m, q) ≡ rowStored buf (changed none)
     fixed-null {q} {m} h =
@@ -70,10 +70,10 @@ module _ {s : List ℕ} {l : RowLayout} {p : Bool} {buf : List ℕ} {n i : ℕ} 
     range-within = range-in o f a e range varlen .within
 
     -- what stays of the row
-    pub kept-limit : a + (n - e) ≤ rowLimit
+    pub kept-limit : a + (n - e) ≤ rowLimit (l .«is_long»)
     kept-limit = omega (arith, range-rises, range-within, row-limit)
 
-    pub varlen-ready : (z : ℕ) → z ≤ rowLimit - (a + (n - e)) → a + (n - e) + z ≤ length buf → Editable l p (c .before) (c .ty) (change n a e z) buf
+    pub varlen-ready : (z : ℕ) → z ≤ rowLimit (l .«is_long») - (a + (n - e)) → a + (n - e) + z ≤ length buf → Editable l p (c .before) (c .ty) (change n a e z) buf
     varlen-ready z short room = ready o f a e range z (λ v. (omega (arith, kept-limit, short), omega (arith, room)))
 
     pub null-ready : Editable l p (c .before) (c .ty) (change n a e 0) buf
@@ -91,17 +91,17 @@ module _ {s : List ℕ} {l : RowLayout} {p : Bool} {buf : List ℕ} {n i : ℕ} 
       size : length (after a e form) ≡ a + (n - e) + rangeOf v .length
       size = length-varlen o f a e range varlen form ∙ rw (length-text t varlen) (omega arith)
 
-      pub varlen-done : {q : List ℕ} {m : ℕ} → Holds buf (after a e form) q m → rangeOf v .length ≤ rowLimit - (a + (n - e)) → a + (n - e) + rangeOf v .length ≤ length buf
-          → (Done m, q) ≡ rowPlaced rowLimit buf (changed form)
+      pub varlen-done : {q : List ℕ} {m : ℕ} → Holds buf (after a e form) q m → rangeOf v .length ≤ rowLimit (l .«is_long») - (a + (n - e)) → a + (n - e) + rangeOf v .length ≤ length buf
+          → (Done m, q) ≡ rowPlaced (l .«is_long») buf (changed form)
       varlen-done {q} {m} h short room =
-          subst (λ (r : List ℕ). (Done m, q) ≡ rowPlaced rowLimit buf r) (edited-is o f a e range form)
-          (placing buf (after a e form) rowLimit q m h (rw size (omega (arith, kept-limit, short))) (rw size room))
+          subst (λ (r : List ℕ). (Done m, q) ≡ rowPlaced (l .«is_long») buf r) (edited-is o f a e range form)
+          (placing buf (after a e form) (l .«is_long») q m h (rw size (omega (arith, kept-limit, short))) (rw size room))
 
-      pub varlen-long : rowLimit - (a + (n - e)) < rangeOf v .length → (Refused RowLimit, buf) ≡ rowPlaced rowLimit buf (changed form)
+      pub varlen-long : rowLimit (l .«is_long») - (a + (n - e)) < rangeOf v .length → (Refused RowLimit, buf) ≡ rowPlaced (l .«is_long») buf (changed form)
       varlen-long h =
-          subst (λ (r : List ℕ). (Refused RowLimit, buf) ≡ rowPlaced rowLimit buf r) (edited-is o f a e range form) (too-long buf (after a e form) rowLimit (rw size (omega (arith, kept-limit, h))))
+          subst (λ (r : List ℕ). (Refused RowLimit, buf) ≡ rowPlaced (l .«is_long») buf r) (edited-is o f a e range form) (too-long buf (after a e form) (l .«is_long») (rw size (omega (arith, kept-limit, h))))
 
-      pub varlen-room : rangeOf v .length ≤ rowLimit - (a + (n - e)) → length buf < a + (n - e) + rangeOf v .length → (Refused NoRoom, buf) ≡ rowPlaced rowLimit buf (changed form)
+      pub varlen-room : rangeOf v .length ≤ rowLimit (l .«is_long») - (a + (n - e)) → length buf < a + (n - e) + rangeOf v .length → (Refused NoRoom, buf) ≡ rowPlaced (l .«is_long») buf (changed form)
       varlen-room short h =
-          subst (λ (r : List ℕ). (Refused NoRoom, buf) ≡ rowPlaced rowLimit buf r) (edited-is o f a e range form)
-          (no-room buf (after a e form) rowLimit (rw size (omega (arith, kept-limit, short))) (rw size h))
+          subst (λ (r : List ℕ). (Refused NoRoom, buf) ≡ rowPlaced (l .«is_long») buf r) (edited-is o f a e range form)
+          (no-room buf (after a e form) (l .«is_long») (rw size (omega (arith, kept-limit, short))) (rw size h))

@@ -4,7 +4,7 @@ use mathlib.Core.Bool.{Bool}
 use mathlib.Core.List.{List}
 use mathlib.Core.Path.{_≡_}
 use lib.ListN.{length, take}
-use Rattle.row_format.specs.Places.{offsetWidth, rowLimit, tableStart}
+use Rattle.row_format.specs.Places.{offsetWidth, tableStart}
 use Rattle.row_format.specs.Table.{rangeEnd}
 use Rattle.row_format.specs.Edit.{rangeStart}
 use Rattle.row_layout.specs.declared.RowLayout.{RowLayout}
@@ -16,11 +16,15 @@ use Rattle.row_sound.specs.Sound.{SoundRow}
 pub record Opened (s : List ℕ) (l : RowLayout) (p : Bool) (buf : List ℕ) (n i : ℕ) : Type 0 where
   pub accepted : Accepted s l
   pub inside : n ≤ length buf
-  pub row : SoundRow offsetWidth rowLimit (typesIn s) p (take n buf)
+  pub row : SoundRow (l .«is_long») (typesIn s) p (take n buf)
   pub column : i < length (typesIn s)
 
 -- where a Varchar's range stands
 abbrev pub RangeAt : RowLayout → RowLayout → List ℕ → ℕ → ℕ → Type 0
 RangeAt l b r a e =
-    (a ≡ rangeStart offsetWidth (tableStart (l .«num_columns»)) (l .«num_varlen_cols») (b .«num_varlen_cols») r)
-    × (e ≡ rangeEnd offsetWidth (tableStart (l .«num_columns»)) (l .«num_varlen_cols») (b .«num_varlen_cols») r)
+    (a
+    ≡ rangeStart (offsetWidth (l .«is_long»)) (tableStart (l .«num_columns»)) (l .«num_varlen_cols»)
+    (b .«num_varlen_cols») r)
+    × (e
+    ≡ rangeEnd (offsetWidth (l .«is_long»)) (tableStart (l .«num_columns»)) (l .«num_varlen_cols»)
+    (b .«num_varlen_cols») r)

@@ -16,7 +16,7 @@ ghost use mathlib.Core.Option.{none, some};
 ghost use Prim.Native.Nat.{_≤_, _<_};
 ghost use lib.ListN.{length};
 ghost use Rattle.row_layout.specs.InnerLayout.{Bounded};
-ghost use Rattle.row_format.specs.Places.{offsetWidth, rowLimit, fixedStart};
+ghost use Rattle.row_format.specs.Places.{offsetWidth, fixedStart};
 ghost use Rattle.datatype.specs.Types.{isVarlen};
 ghost use Rattle.datatype.specs.Check.{typeAt, typesIn};
 ghost use Rattle.datatype.specs.InnerCheck.{Accepted};
@@ -41,13 +41,14 @@ struct Range {
 fn range_at(layout: RowLayout, before: RowLayout, row: &[u8]) -> Range
     requires { ⌜ Bounded layout
         × ((before .«num_varlen_cols» < layout .«num_varlen_cols»)
-        × (fixedStart offsetWidth (layout .«num_columns») (layout .«num_varlen_cols») ≤ length (now row))) ⌝ }
+        × (fixedStart (offsetWidth (layout .«is_long»)) (layout .«num_columns») (layout .«num_varlen_cols»)
+        ≤ length (now row))) ⌝ }
     ensures { λ r. ⌜ RangeAt layout before (now (row .entry)) (r .start) (r .end) ⌝ }
 {
     let table = layout.varlen_table_offset();
     let rank = before.num_varlen_cols;
-    let end = row_layout::range_end(row, table, layout.num_varlen_cols, rank);
-    let start = row_layout::offset_at(row, table, rank);
+    let end = row_layout::range_end(row, layout.is_long, table, layout.num_varlen_cols, rank);
+    let start = row_layout::offset_at(row, layout.is_long, table, rank);
     if start != 0 {
         return Range { start, end };
     }
@@ -70,8 +71,8 @@ fn set_fixed(
         × (Found (now schema) column found
         × ((isVarlen (found .ty) ≡ false) × Suited (found .ty) value (now area))) ⌝ }
     ensures { λ r. ⌜ (r, now (buf .exit))
-        ≡ rowPlaced rowLimit (now (buf .entry))
-        (edited offsetWidth (typesIn (now (schema .entry))) packed (now (buf .entry)) n column
+        ≡ rowPlaced (layout .«is_long») (now (buf .entry))
+        (edited (offsetWidth (layout .«is_long»)) (typesIn (now (schema .entry))) packed (now (buf .entry)) n column
         (some (formOf (found .ty) value (now (area .entry))))) ⌝ }
 {
     let ty = found.ty;
@@ -95,8 +96,8 @@ fn set_varlen(
         × (Found (now schema) column found
         × ((isVarlen (found .ty) ≡ true) × Suited (found .ty) value (now area))) ⌝ }
     ensures { λ r. ⌜ (r, now (buf .exit))
-        ≡ rowPlaced rowLimit (now (buf .entry))
-        (edited offsetWidth (typesIn (now (schema .entry))) packed (now (buf .entry)) n column
+        ≡ rowPlaced (layout .«is_long») (now (buf .entry))
+        (edited (offsetWidth (layout .«is_long»)) (typesIn (now (schema .entry))) packed (now (buf .entry)) n column
         (some (formOf (found .ty) value (now (area .entry))))) ⌝ }
 {
     let ty = found.ty;
@@ -106,7 +107,7 @@ fn set_varlen(
     let end = range.end;
     let kept = start + (n - end);
     let text = value.range();
-    if RowLayout::ROW_LIMIT - kept < text.length {
+    if row_layout::row_limit(layout.is_long) - kept < text.length {
         return Answer::Refused(Refusal::RowLimit);
     }
     if buf.len() < kept + text.length {
@@ -141,8 +142,8 @@ fn set_suited(
     requires { ⌜ Opened (now schema) layout packed (now buf) n column
         × (Found (now schema) column found × Suited (found .ty) value (now area)) ⌝ }
     ensures { λ r. ⌜ (r, now (buf .exit))
-        ≡ rowPlaced rowLimit (now (buf .entry))
-        (edited offsetWidth (typesIn (now (schema .entry))) packed (now (buf .entry)) n column
+        ≡ rowPlaced (layout .«is_long») (now (buf .entry))
+        (edited (offsetWidth (layout .«is_long»)) (typesIn (now (schema .entry))) packed (now (buf .entry)) n column
         (some (formOf (found .ty) value (now (area .entry))))) ⌝ }
 {
     let ty = found.ty;
@@ -165,7 +166,7 @@ fn set_column(
 ) -> Answer
     requires { ⌜ Opened (now schema) layout packed (now buf) n column ⌝ }
     ensures { λ r. ⌜ (r, now (buf .exit))
-        ≡ written offsetWidth rowLimit (typesIn (now (schema .entry))) packed (now (buf .entry)) n column
+        ≡ written (layout .«is_long») (typesIn (now (schema .entry))) packed (now (buf .entry)) n column
         (storedIn column (typeAt (typesIn (now (schema .entry))) column) value (now (area .entry))) ⌝ }
 {
     let found = row_column::column_at(schema, column);
@@ -191,10 +192,10 @@ fn set_record(
     area: &[u8],
 ) -> Answer
     requires { ⌜ Opened (now schema) layout packed (now buf) n column
-        × (answer (checked rowLimit 1 (length (now area)) (now values)) ≡ Good) ⌝ }
+        × (answer (checked (layout .«is_long») 1 (length (now area)) (now values)) ≡ Good) ⌝ }
     ensures { λ r. ⌜ (r, now (buf .exit))
-        ≡ written offsetWidth rowLimit (typesIn (now (schema .entry))) packed (now (buf .entry)) n column
-        (given rowLimit (typeAt (typesIn (now (schema .entry))) column) column (now (values .entry))
+        ≡ written (layout .«is_long») (typesIn (now (schema .entry))) packed (now (buf .entry)) n column
+        (given (layout .«is_long») (typeAt (typesIn (now (schema .entry))) column) column (now (values .entry))
         (now (area .entry))) ⌝ }
 {
     match value_list::value_record_at(values, 0) {
@@ -215,11 +216,11 @@ fn set_list(
 ) -> Answer
     requires { ⌜ Opened (now schema) layout packed (now buf) n column ⌝ }
     ensures { λ r. ⌜ (r, now (buf .exit))
-        ≡ written offsetWidth rowLimit (typesIn (now (schema .entry))) packed (now (buf .entry)) n column
-        (given rowLimit (typeAt (typesIn (now (schema .entry))) column) column (now (values .entry))
+        ≡ written (layout .«is_long») (typesIn (now (schema .entry))) packed (now (buf .entry)) n column
+        (given (layout .«is_long») (typeAt (typesIn (now (schema .entry))) column) column (now (values .entry))
         (now (area .entry))) ⌝ }
 {
-    match value_list::check_values(values, 1, area.len()) {
+    match value_list::check_values(values, layout.is_long, 1, area.len()) {
         ListCheck::Refused(e) => Answer::Refused(e),
         ListCheck::Good => set_record(schema, layout, packed, buf, n, column, values, area),
     }
@@ -236,7 +237,8 @@ fn null_column(
     requires { ⌜ Opened (now schema) layout packed (now buf) n column ⌝ }
     ensures { λ r. ⌜ (r, now (buf .exit))
         ≡ rowStored (now (buf .entry))
-        (edited offsetWidth (typesIn (now (schema .entry))) packed (now (buf .entry)) n column none) ⌝ }
+        (edited (offsetWidth (layout .«is_long»)) (typesIn (now (schema .entry))) packed (now (buf .entry)) n column
+        none) ⌝ }
 {
     let found = row_column::column_at(schema, column);
     let ty = found.ty;
@@ -260,7 +262,7 @@ fn null_column(
 // What both calls ask of the row, behind the schema's check.
 fn open_row(schema: &[u8], layout: RowLayout, buf: &[u8], n: usize, column: usize) -> Frame
     requires { ⌜ Accepted (now schema) layout ⌝ }
-    ensures { λ r. ⌜ r ≡ opening offsetWidth rowLimit (typesIn (now (schema .entry))) (now (buf .entry)) n column ⌝ }
+    ensures { λ r. ⌜ r ≡ opening (layout .«is_long») (typesIn (now (schema .entry))) (now (buf .entry)) n column ⌝ }
 {
     if buf.len() < n {
         return Frame::Refused(Refusal::NoRoom);
@@ -276,7 +278,7 @@ fn open_row(schema: &[u8], layout: RowLayout, buf: &[u8], n: usize, column: usiz
     }
 }
 
-// Behind the schema's check, for a caller that keeps its layout.
+// Behind the schema's check, for a caller that keeps its layout. It is handed on built anew (`of_sort`).
 pub fn set_checked(
     schema: &[u8],
     layout: RowLayout,
@@ -288,13 +290,13 @@ pub fn set_checked(
 ) -> Answer
     requires { ⌜ Accepted (now schema) layout ⌝ }
     ensures { λ r. ⌜ (r, now (buf .exit))
-        ≡ onFrame (opening offsetWidth rowLimit (typesIn (now (schema .entry))) (now (buf .entry)) n column)
+        ≡ onFrame (opening (layout .«is_long») (typesIn (now (schema .entry))) (now (buf .entry)) n column)
         (unchanged (now (buf .entry)))
-        (λ p. written offsetWidth rowLimit (typesIn (now (schema .entry))) p (now (buf .entry)) n column
-        (given rowLimit (typeAt (typesIn (now (schema .entry))) column) column (now (values .entry))
+        (λ p. written (layout .«is_long») (typesIn (now (schema .entry))) p (now (buf .entry)) n column
+        (given (layout .«is_long») (typeAt (typesIn (now (schema .entry))) column) column (now (values .entry))
         (now (area .entry)))) ⌝ }
 {
-    match open_row(schema, layout, buf, n, column) {
+    match open_row(schema, layout.of_sort(layout.is_long), buf, n, column) {
         Frame::Refused(e) => Answer::Refused(e),
         Frame::Good(packed) => set_list(schema, layout, packed, buf, n, column, values, area),
     }
@@ -309,12 +311,13 @@ pub fn null_checked(
 ) -> Answer
     requires { ⌜ Accepted (now schema) layout ⌝ }
     ensures { λ r. ⌜ (r, now (buf .exit))
-        ≡ onFrame (opening offsetWidth rowLimit (typesIn (now (schema .entry))) (now (buf .entry)) n column)
+        ≡ onFrame (opening (layout .«is_long») (typesIn (now (schema .entry))) (now (buf .entry)) n column)
         (unchanged (now (buf .entry)))
         (λ p. rowStored (now (buf .entry))
-        (edited offsetWidth (typesIn (now (schema .entry))) p (now (buf .entry)) n column none)) ⌝ }
+        (edited (offsetWidth (layout .«is_long»)) (typesIn (now (schema .entry))) p (now (buf .entry)) n column
+        none)) ⌝ }
 {
-    match open_row(schema, layout, buf, n, column) {
+    match open_row(schema, layout.of_sort(layout.is_long), buf, n, column) {
         Frame::Refused(e) => Answer::Refused(e),
         Frame::Good(packed) => null_column(schema, layout, packed, buf, n, column),
     }
@@ -331,10 +334,10 @@ pub fn set_value(
     text: &[u8],
 ) -> Answer
     ensures { λ r. ⌜ (r, now (buf .exit))
-        ≡ setCall offsetWidth rowLimit (now (schema .entry)) (now (buf .entry)) «row_length» column
+        ≡ setCall false (now (schema .entry)) (now (buf .entry)) «row_length» column
         (now (values .entry)) (now (text .entry)) ⌝ }
 {
-    match datatype::check_schema(schema) {
+    match datatype::check_schema(schema, false) {
         SchemaCheck::Refused(e) => Answer::Refused(e),
         SchemaCheck::Good(layout) => {
             set_checked(schema, layout, buf, row_length, column, values, text)
@@ -345,9 +348,9 @@ pub fn set_value(
 // The column set to null. The slot of a fixed column stays as it is.
 pub fn set_null(schema: &[u8], buf: &mut [u8], row_length: usize, column: usize) -> Answer
     ensures { λ r. ⌜ (r, now (buf .exit))
-        ≡ setNullCall offsetWidth rowLimit (now (schema .entry)) (now (buf .entry)) «row_length» column ⌝ }
+        ≡ setNullCall false (now (schema .entry)) (now (buf .entry)) «row_length» column ⌝ }
 {
-    match datatype::check_schema(schema) {
+    match datatype::check_schema(schema, false) {
         SchemaCheck::Refused(e) => Answer::Refused(e),
         SchemaCheck::Good(layout) => null_checked(schema, layout, buf, row_length, column),
     }

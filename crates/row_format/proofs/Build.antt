@@ -18,7 +18,7 @@ use Rattle.row_format.specs.declared.Shape.{Shape}
 use Rattle.row_format.specs.declared.Shape.the-variants.{Fixed, Varlen}
 use Rattle.row_format.specs.Places.{varlens, rankOf, slotStart, bitmapStart, bitmapSize, tableStart, fixedStart}
 use Rattle.row_format.specs.Table.{Cell, bytes, payloads, offset, offsets, lay}
-use Rattle.row_format.specs.Row.{bitmap, varlenCells, rowWith, packedFlag, header, builtRow, slotsOf, slotSize}
+use Rattle.row_format.specs.Row.{bitmap, varlenCells, rowWith, header, builtRow, slotsOf, slotSize}
 use Rattle.row_format.specs.Edit.{bitEdit}
 use Rattle.row_format.proofs.Bitmap.{length-bitmap}
 use Rattle.row_format.proofs.Row.{length-header, length-row, slots-fit, length-front, forall-at, of-rank}
@@ -163,18 +163,18 @@ payloads-le (suc i) (cons {a = Fixed z a} r e) = payloads-le i e
 payloads-le (suc i) (cons {a = Varlen} r e) = simp length-append (omega (arith, payloads-le i e))
 
 -- the row of the columns before i, at the start of `out`, and what is stored for column i
-module _ (w : ℕ) {ss : List Shape} {cs : List Cell} (cells : Forall₂ FitsCell ss cs) where
+module _ (w marks : ℕ) {ss : List Shape} {cs : List Cell} (cells : Forall₂ FitsCell ss cs) where
   abbrev pub built : ℕ → List ℕ
-  built j = builtRow w ss (upTo j cs)
+  built j = builtRow w marks ss (upTo j cs)
 
   -- it is no longer than the row at last
-  pub built-le : (j : ℕ) → length (built j) ≤ length (builtRow w ss cs)
+  pub built-le : (j : ℕ) → length (built j) ≤ length (builtRow w marks ss cs)
   built-le j =
       let f = up-to-fit j cells in
-      rw (length-row w (header packedFlag ss) (length-header packedFlag ss) f (slots-fit f), length-row w (header packedFlag ss) (length-header packedFlag ss) cells (slots-fit cells)) (omega (arith, payloads-le j cells))
+      rw (length-row w (header marks ss) (length-header marks ss) f (slots-fit f), length-row w (header marks ss) (length-header marks ss) cells (slots-fit cells)) (omega (arith, payloads-le j cells))
 
   pub built-null : (i : ℕ) → getD cs i none ≡ none → built (suc i) ≡ built i
-  built-null i e = ap (builtRow w ss) (up-to-same cs i e)
+  built-null i e = ap (builtRow w marks ss) (up-to-same cs i e)
 
   module _ (i : ℕ) (h : i < length ss) (b : List ℕ) (e : getD cs i none ≡ some b) where
     next : upTo (suc i) cs ≡ set (upTo i cs) i (some b)
@@ -184,7 +184,7 @@ module _ (w : ℕ) {ss : List Shape} {cs : List Cell} (cells : Forall₂ FitsCel
     fits-next = rw e at (forall-get cells i h Varlen none)
 
     abbrev hd : List ℕ
-    hd = header packedFlag ss
+    hd = header marks ss
 
     abbrev soFar : Forall₂ FitsCell ss (upTo i cs)
     soFar = up-to-fit i cells
@@ -196,12 +196,12 @@ module _ (w : ℕ) {ss : List Shape} {cs : List Cell} (cells : Forall₂ FitsCel
       built-fixed : (z a : ℕ) → getD ss i Varlen ≡ Fixed z a
           → bitEdit i (some b) (sets (built i ++ rest) (fixedStart w (length ss) (varlens ss) + slotStart true ss i) b) ≡ built (suc i) ++ rest
       built-fixed z a s =
-          build-fixed w hd (length-header packedFlag ss) soFar (slots-fit soFar) i h b rest z a s (rw s at fits-next) ∙ ap (λ (r : List ℕ). r ++ rest) (rw s at built-next)
+          build-fixed w hd (length-header marks ss) soFar (slots-fit soFar) i h b rest z a s (rw s at fits-next) ∙ ap (λ (r : List ℕ). r ++ rest) (rw s at built-next)
 
       built-varlen : getD ss i Varlen ≡ Varlen → length b ≤ length rest
           → bitEdit i (some b) (sets (sets (built i ++ rest) (tableStart (length ss) + rankOf ss i * w) (toLe w (length (built i)))) (length (built i)) b) ≡ built (suc i) ++ drop (length b) rest
       built-varlen s room =
-          build-varlen w hd (length-header packedFlag ss) soFar (slots-fit soFar) i h b rest (varlens (drop (suc i) ss)) s (varlens-after i cells h s) room
+          build-varlen w hd (length-header marks ss) soFar (slots-fit soFar) i h b rest (varlens (drop (suc i) ss)) s (varlens-after i cells h s) room
           ∙ ap (λ (r : List ℕ). r ++ drop (length b) rest) (rw (s, set-getD) at built-next)
 
     pub length-built-fixed : (z a : ℕ) → getD ss i Varlen ≡ Fixed z a → length (built (suc i)) ≡ length (built i)
@@ -214,7 +214,7 @@ module _ (w : ℕ) {ss : List Shape} {cs : List Cell} (cells : Forall₂ FitsCel
         let stored : List ℕ = sets (sets (built i ++ b) (tableStart (length ss) + rankOf ss i * w) (toLe w (length (built i)))) (length (built i)) b in
         sym (simp (length-sets, length-append, drop-length, append-nil) at (sym (length-bit-edit i (some b) stored) ∙ ap length (built-varlen b s (le-refl (length b)))))
 
-    module _ (out : List ℕ) (room : length (builtRow w ss cs) ≤ length out) where
+    module _ (out : List ℕ) (room : length (builtRow w marks ss cs) ≤ length out) where
       held : (j : ℕ) → sets out 0 (built j) ≡ built j ++ drop (length (built j)) out
       held j = sets-start out (built j) (le-trans (built-le j) room)
 

@@ -14,7 +14,7 @@ use Rattle.row_format.specs.declared.Shape.{Shape}
 use Rattle.row_format.specs.declared.Shape.the-variants.{Fixed, Varlen}
 use Rattle.row_format.specs.Places.{varlens, rankOf, slotStart, bitmapStart, tableStart, fixedStart}
 use Rattle.row_format.specs.Table.{Cell}
-use Rattle.row_format.specs.Row.{packedFlag, header, nullBit, rowWith, slotOf, slotsOf, builtRow, slotSize}
+use Rattle.row_format.specs.Row.{header, nullBit, rowWith, slotOf, slotsOf, builtRow, slotSize}
 use Rattle.row_format.specs.Zeroed.{zeroedSlot}
 use Rattle.row_format.proofs.Row.{length-header, slots-fit, bit-row, slot-row, range-row}
 use Rattle.row_format.proofs.Zeroed.{slotsZeroed, Agree, agree-written}
@@ -65,11 +65,11 @@ module _ (w : ℕ) (head : List ℕ) (four : length head ≡ 4) {ss : List Shape
   pub cell-row : cellAt w ss i (rowWith w head ss cs bs) ≡ getD cs i none
   cell-row = rw (bit-row w head four cells slots i h, getD-any cs i (some []) none (rw (forall-length cells) h)) (cell-at (getD cs i none) refl)
 
-module _ (w : ℕ) {ss : List Shape} where
-  pub cell-built : {cs : List Cell} → Forall₂ FitsCell ss cs → (i : ℕ) → i < length ss → length (builtRow w ss cs) < 256 ^ w → cellAt w ss i (builtRow w ss cs) ≡ getD cs i none
-  cell-built cells i h fits = cell-row w (header packedFlag ss) (length-header packedFlag ss) cells (slots-fit cells) (agree-written cells) i h fits
+module _ (w marks : ℕ) {ss : List Shape} where
+  pub cell-built : {cs : List Cell} → Forall₂ FitsCell ss cs → (i : ℕ) → i < length ss → length (builtRow w marks ss cs) < 256 ^ w → cellAt w ss i (builtRow w marks ss cs) ≡ getD cs i none
+  cell-built cells i h fits = cell-row w (header marks ss) (length-header marks ss) cells (slots-fit cells) (agree-written cells) i h fits
 
-  pub built-inj : {cs ds : List Cell} → Forall₂ FitsCell ss cs → Forall₂ FitsCell ss ds → length (builtRow w ss cs) < 256 ^ w → builtRow w ss cs ≡ builtRow w ss ds → cs ≡ ds
+  pub built-inj : {cs ds : List Cell} → Forall₂ FitsCell ss cs → Forall₂ FitsCell ss ds → length (builtRow w marks ss cs) < 256 ^ w → builtRow w marks ss cs ≡ builtRow w marks ss ds → cs ≡ ds
   built-inj {cs} {ds} e f fits q =
       let l : length cs ≡ length ss = forall-length e in
       let m : length ds ≡ length ss = forall-length f in

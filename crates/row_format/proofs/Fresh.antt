@@ -16,7 +16,7 @@ use Rattle.row_format.specs.declared.Shape.{Shape}
 use Rattle.row_format.specs.declared.Shape.the-variants.{Fixed, Varlen}
 use Rattle.row_format.specs.Places.{varlens, fixedSize, bitmapSize, minimum}
 use Rattle.row_format.specs.Table.{Cell, payloads, offsets, lay}
-use Rattle.row_format.specs.Row.{packedFlag, header, bitsValue, bitmap, varlenCells, rowWith, slotsOf, builtRow}
+use Rattle.row_format.specs.Row.{header, bitsValue, bitmap, varlenCells, rowWith, slotsOf, builtRow}
 use Rattle.row_format.proofs.Places.{varlens-cons, packed-cons}
 use Rattle.row_format.proofs.Row.{length-header, length-row, slots-fit}
 use Rattle.row_format.specs.InnerRow.{FitsCell}
@@ -99,10 +99,10 @@ bitmap-nulls n =
 
 -- ---- the row
 
-pub fresh-row : (w : ℕ) (ss : List Shape) → builtRow w ss (nulls ss) ≡ header packedFlag ss ++ (setBits (length ss) ++ replicate (varlens ss * w + fixedSize true ss) 0)
+pub fresh-row : (w marks : ℕ) (ss : List Shape) → builtRow w marks ss (nulls ss) ≡ header marks ss ++ (setBits (length ss) ++ replicate (varlens ss * w + fixedSize true ss) 0)
 unfolding rowWith lay
-fresh-row w ss =
+fresh-row w marks ss =
     rw (bitmap-nulls, varlens-nulls, offsets-nulls, payloads-nulls, table-zero, slots-zero, append-nil, replicate-append-replicate) (simp append-assoc)
 
-pub length-fresh : (w : ℕ) (ss : List Shape) → length (builtRow w ss (nulls ss)) ≡ minimum w true ss
-length-fresh w ss = length-row w (header packedFlag ss) (length-header packedFlag ss) (nulls-fit ss) (slots-fit (nulls-fit ss)) ∙ rw (varlens-nulls, payloads-nulls) (omega arith)
+pub length-fresh : (w marks : ℕ) (ss : List Shape) → length (builtRow w marks ss (nulls ss)) ≡ minimum w true ss
+length-fresh w marks ss = length-row w (header marks ss) (length-header marks ss) (nulls-fit ss) (slots-fit (nulls-fit ss)) ∙ rw (varlens-nulls, payloads-nulls) (omega arith)

@@ -11,3 +11,4 @@ pub mod ZeroedPlaces
 pub mod Cells
 pub mod Rising
 pub mod Sizes
+pub mod Sorts

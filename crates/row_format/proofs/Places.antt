@@ -56,6 +56,15 @@ varlens-cons s ss = let e : rankAfter s 0 ≡ rankAfter s 0 + 0 = sym (add-zero 
 pub packed-cons : (s : Shape) (ss : List Shape) → fixedSize true (s ∷ ss) ≡ slotSize s + fixedSize true ss
 packed-cons s ss = ap (λ (x : ℕ). through (endAfter true) x ss) (packed-first s) ∙ through-add (endAfter true) packed-adds ss (slotSize s) 0
 
+-- a schema has no more Varchars than columns
+ranks-le : (ss : List Shape) (k : ℕ) → through rankAfter k ss ≤ k + length ss
+ranks-le [] k = omega arith
+ranks-le (Varlen ∷ ss) k = omega (arith, ranks-le ss (k + 1))
+ranks-le (Fixed z a ∷ ss) k = omega (arith, ranks-le ss k)
+
+pub varlens-le : (ss : List Shape) → varlens ss ≤ length ss
+varlens-le ss = omega (arith, ranks-le ss 0)
+
 -- a Varchar's rank is below their number
 pub rank-inside : (ss : List Shape) (i : ℕ) → i < length ss → getD ss i Varlen ≡ Varlen → rankOf ss i < varlens ss
 rank-inside [] i h v = absurd (omega arith)

@@ -16,7 +16,7 @@ use Rattle.row_format.specs.declared.Shape.{Shape}
 use Rattle.row_format.specs.declared.Shape.the-variants.{Fixed, Varlen}
 use Rattle.row_format.specs.Places.{varlens, bitmapStart, bitmapSize, fixedStart, minimum}
 use Rattle.row_format.specs.Table.{Cell, payloads, offsets, lay}
-use Rattle.row_format.specs.Row.{packedFlag, header, nullBit, bitmap, varlenCells, rowWith, slotOf, slotsOf, builtRow, slotSize}
+use Rattle.row_format.specs.Row.{header, nullBit, bitmap, varlenCells, rowWith, slotOf, slotsOf, builtRow, slotSize}
 use Rattle.row_format.specs.Zeroed.{zeroedSlot, zeroedFrom, zeroedRow}
 use Rattle.row_format.proofs.Table.{length-offsets}
 use Rattle.row_format.proofs.Row.{length-header, length-slots, length-varlens, length-front, bit-row, forall-at}
@@ -77,8 +77,8 @@ module _ (w : ℕ) (head : List ℕ) (four : length head ≡ 4) {ss : List Shape
 abbrev pub Agree : List Shape → List Cell → List (List ℕ) → Type 0
 Agree ss cs bs = slotsZeroed ss cs bs ≡ slotsOf ss cs
 
-pub zeroed-built : (w : ℕ) {ss : List Shape} {cs : List Cell} {bs : List (List ℕ)} → Forall₂ FitsCell ss cs → Forall₂ FitsSlot ss bs → Agree ss cs bs → zeroedRow w ss (rowWith w (header packedFlag ss) ss cs bs) ≡ builtRow w ss cs
-zeroed-built w {ss} {cs} {bs} cells slots e = zeroed-row w (header packedFlag ss) (length-header packedFlag ss) cells slots ∙ rw e
+pub zeroed-built : (w marks : ℕ) {ss : List Shape} {cs : List Cell} {bs : List (List ℕ)} → Forall₂ FitsCell ss cs → Forall₂ FitsSlot ss bs → Agree ss cs bs → zeroedRow w ss (rowWith w (header marks ss) ss cs bs) ≡ builtRow w marks ss cs
+zeroed-built w marks {ss} {cs} {bs} cells slots e = zeroed-row w (header marks ss) (length-header marks ss) cells slots ∙ rw e
 
 -- the slots that are written for cells agree with them, and those after an edit with the changed cells
 slot-written : (s : Shape) (c : Cell) → zeroedSlot (nullBit c) (slotSize s) (slotOf s c) ≡ slotOf s c

@@ -49,12 +49,15 @@ slotAfter p Varlen at = at
 abbrev pub slotStart : Bool → List Shape → ℕ → ℕ
 slotStart p ss i = slotAfter p (getD ss i Varlen) (fixedSize p (take i ss))
 
--- the bytes of an offset, and the most bytes that a row has
-abbrev pub offsetWidth : ℕ
-offsetWidth = 2
+-- 02, request 5: "A long row [..] has four bytes for each offset", "rows of up to 1,048,576 bytes": the bytes of an
+-- offset, and the most bytes that a row has. The sort of a row decides both, false for short and true for long.
+abbrev pub offsetWidth : Bool → ℕ
+offsetWidth false = 2
+offsetWidth true = 4
 
-abbrev pub rowLimit : ℕ
-rowLimit = 65535
+abbrev pub rowLimit : Bool → ℕ
+rowLimit false = 65535
+rowLimit true = 1048576
 
 -- "Column count (2 bytes); Varchar count [..] (2); null bitmap, one bit a column [..]; offset table [..]; fixed
 -- columns; payloads": where the bitmap, the table and the fixed columns start, for n columns of which v are Varchars,

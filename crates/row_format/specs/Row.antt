@@ -1,5 +1,6 @@
 -- 01, "Layout": a packed row of given cells. FORMAT 3.1, 3.8.
 use Prim.Native.Nat.{ℕ, zero, suc, _+_, _*_}
+use mathlib.Core.Bool.{Bool, true, false}
 use mathlib.Core.List.{List, [], _∷_, _++_}
 use mathlib.Core.Option.{none, some}
 use lib.ListN.{length, take, drop, replicate}
@@ -9,9 +10,22 @@ use Rattle.row_format.specs.declared.Shape.the-variants.{Fixed, Varlen}
 use Rattle.row_format.specs.Places.{varlens, bitmapSize}
 use Rattle.row_format.specs.Table.{Cell, lay}
 
--- "Column count (2 bytes); Varchar count with 0x8000 for packed (2)": marks is what is added to the second
+-- "Column count (2 bytes); Varchar count with 0x8000 for packed (2)": marks is what is added to the second. 02, request
+-- 5: "A long row sets 0x4000 in the second header word"
 abbrev pub packedFlag : ℕ
 packedFlag = 0x8000
+
+abbrev pub longFlag : ℕ
+longFlag = 0x4000
+
+-- the marks of a packed row, by its sort, and the least mark that a row of a sort may have: the count stands below it
+abbrev pub packedMarks : Bool → ℕ
+packedMarks false = packedFlag
+packedMarks true = packedFlag + longFlag
+
+abbrev pub leastMark : Bool → ℕ
+leastMark false = packedFlag
+leastMark true = longFlag
 
 unfoldable pub header : ℕ → List Shape → List ℕ
 header marks ss = toLe 2 (length ss) ++ toLe 2 (varlens ss + marks)
@@ -51,9 +65,9 @@ slotsOf [] cs = []
 slotsOf (s ∷ ss) [] = []
 slotsOf (s ∷ ss) (c ∷ cs) = slotOf s c ∷ slotsOf ss cs
 
--- the row that is built of cells, packed
-abbrev pub builtRow : ℕ → List Shape → List Cell → List ℕ
-builtRow w ss cs = rowWith w (header packedFlag ss) ss cs (slotsOf ss cs)
+-- the packed row that is built of cells
+abbrev pub builtRow : ℕ → ℕ → List Shape → List Cell → List ℕ
+builtRow w marks ss cs = rowWith w (header marks ss) ss cs (slotsOf ss cs)
 
 -- what suits a shape: a slot has its length, and so has the stored form of a fixed column
 abbrev pub slotSize : Shape → ℕ

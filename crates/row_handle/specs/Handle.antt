@@ -25,9 +25,9 @@ geometry l p =
       packed = bitValue p;
     }
 
--- the layout that a schema and the flag of the row give; the row is the buffer's first bytes
-abbrev pub storedLayout : List ℕ → List ℕ → HandleLayout
-storedLayout schema buf = geometry (layoutFor (typesIn schema)) (isPacked buf)
+-- the layout that a schema, a sort and the flag of the row give; the row is the buffer's first bytes
+abbrev pub storedLayout : Bool → List ℕ → List ℕ → HandleLayout
+storedLayout k schema buf = geometry (layoutFor k (typesIn schema)) (isPacked buf)
 
 -- after an accepted call the new length and that layout, whatever came in; after a refusal the handle as it was
 abbrev pub handleAfter : HandleLayout → RowHandle → Answer → RowHandle
@@ -38,12 +38,12 @@ handleAfter l h (Refused e) = h
 abbrev pub Handled : Type 0
 Handled = Answer × (List ℕ × RowHandle)
 
-abbrev pub handled : List ℕ → RowHandle → Outcome → Handled
-handled schema h o = (o .0, (o .1, handleAfter (storedLayout schema (o .1)) h (o .0)))
+abbrev pub handled : Bool → List ℕ → RowHandle → Outcome → Handled
+handled k schema h o = (o .0, (o .1, handleAfter (storedLayout k schema (o .1)) h (o .0)))
 
 -- each answers, and leaves the buffer, as the plain call on the buffer and the handle's length
-abbrev pub handleSet : ℕ → ℕ → List ℕ → List ℕ → RowHandle → ℕ → List ℕ → List ℕ → Handled
-handleSet w limit schema buf h i list area = handled schema h (setCall w limit schema buf (h .length) i list area)
+abbrev pub handleSet : Bool → List ℕ → List ℕ → RowHandle → ℕ → List ℕ → List ℕ → Handled
+handleSet k schema buf h i list area = handled k schema h (setCall k schema buf (h .length) i list area)
 
-abbrev pub handleSetNull : ℕ → ℕ → List ℕ → List ℕ → RowHandle → ℕ → Handled
-handleSetNull w limit schema buf h i = handled schema h (setNullCall w limit schema buf (h .length) i)
+abbrev pub handleSetNull : Bool → List ℕ → List ℕ → RowHandle → ℕ → Handled
+handleSetNull k schema buf h i = handled k schema h (setNullCall k schema buf (h .length) i)

@@ -5,7 +5,7 @@ use datatype::SchemaCheck;
 use error::Answer;
 use row_layout::RowLayout;
 ghost use mathlib.Core.Path.{_≡_};
-ghost use Rattle.row_format.specs.Places.{offsetWidth, rowLimit};
+ghost use mathlib.Core.Bool.{false};
 ghost use Rattle.row_layout.specs.Layout.{sizeIn};
 ghost use Rattle.row_column.specs.Frame.{isPacked};
 ghost use Rattle.row_handle.specs.Handle.{geometry, handleAfter, handleSet, handleSetNull};
@@ -87,10 +87,10 @@ pub fn with_value(
     text: &[u8],
 ) -> Edited
     ensures { λ r. ⌜ (r .answer, (now (buf .exit), r .handle))
-        ≡ handleSet offsetWidth rowLimit (now (schema .entry)) (now (buf .entry)) handle column
+        ≡ handleSet false (now (schema .entry)) (now (buf .entry)) handle column
         (now (values .entry)) (now (text .entry)) ⌝ }
 {
-    match datatype::check_schema(schema) {
+    match datatype::check_schema(schema, false) {
         SchemaCheck::Refused(e) => Edited {
             answer: Answer::Refused(e),
             handle,
@@ -107,9 +107,9 @@ pub fn with_value(
 // The column set to null.
 pub fn with_null(schema: &[u8], buf: &mut [u8], handle: RowHandle, column: usize) -> Edited
     ensures { λ r. ⌜ (r .answer, (now (buf .exit), r .handle))
-        ≡ handleSetNull offsetWidth rowLimit (now (schema .entry)) (now (buf .entry)) handle column ⌝ }
+        ≡ handleSetNull false (now (schema .entry)) (now (buf .entry)) handle column ⌝ }
 {
-    match datatype::check_schema(schema) {
+    match datatype::check_schema(schema, false) {
         SchemaCheck::Refused(e) => Edited {
             answer: Answer::Refused(e),
             handle,

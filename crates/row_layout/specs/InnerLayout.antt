@@ -1,4 +1,5 @@
--- For the proofs: a layout taken past a column, its minimum, and what keeps the sums from wrapping.
+-- For the proofs: a layout taken past a column, its minimum, and what keeps the sums from wrapping. A walk over the
+-- columns goes by the geometry alone: what is before a column has the short sort, which nothing asks.
 use Prim.Native.Nat.{ℕ, _+_, _*_, _≤_, _<_}
 use mathlib.Core.Bool.{Bool, true, false}
 use mathlib.Core.List.{[]}
@@ -9,7 +10,18 @@ use Rattle.row_layout.specs.declared.RowLayout.{RowLayout}
 use Rattle.row_layout.specs.Layout.{layoutOf, sizeIn}
 
 abbrev pub noColumns : RowLayout
-noColumns = layoutOf []
+noColumns = layoutOf false []
+
+-- the same geometry for a sort
+abbrev pub ofSort : Bool → RowLayout → RowLayout
+ofSort k l =
+    record {
+      «num_columns» = l .«num_columns»;
+      «num_varlen_cols» = l .«num_varlen_cols»;
+      «packed_size» = l .«packed_size»;
+      «padded_size» = l .«padded_size»;
+      «is_long» = k;
+    }
 
 abbrev pub withColumn : RowLayout → Shape → RowLayout
 withColumn l s =
@@ -18,11 +30,12 @@ withColumn l s =
       «num_varlen_cols» = rankAfter s (l .«num_varlen_cols»);
       «packed_size» = endAfter true s (l .«packed_size»);
       «padded_size» = endAfter false s (l .«padded_size»);
+      «is_long» = l .«is_long»;
     }
 
 -- `min_row_size`
 abbrev pub minimumOf : RowLayout → Bool → ℕ
-minimumOf l p = fixedStart offsetWidth (l .«num_columns») (l .«num_varlen_cols») + sizeIn l p
+minimumOf l p = fixedStart (offsetWidth (l .«is_long»)) (l .«num_columns») (l .«num_varlen_cols») + sizeIn l p
 
 -- ---- what keeps the sums from wrapping
 

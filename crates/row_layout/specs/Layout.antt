@@ -7,15 +7,16 @@ use Rattle.row_format.specs.declared.Shape.{Shape}
 use Rattle.row_format.specs.Places.{varlens, fixedSize}
 use Rattle.row_layout.specs.declared.RowLayout.{RowLayout}
 
--- the layout of a schema with columns of these shapes
-abbrev pub layoutOf : List Shape → RowLayout
-layoutOf ss =
+-- the layout of the rows of one sort of a schema with columns of these shapes
+abbrev pub layoutOf : Bool → List Shape → RowLayout
+layoutOf k ss =
     record {
       «num_columns» = length ss;
       «num_varlen_cols» = varlens ss;
       «packed_size» = fixedSize true ss;
-      «padded_size» =
-          fixedSize false ss;
+      «padded_size» = fixedSize false ss;
+      «is_long» =
+          k;
     }
 
 -- the bytes of the fixed columns, packed or padded

@@ -1,14 +1,16 @@
 // row_layout.rs: where the parts of a row stand, the entries of its offset table, and the range of a Varchar.
 use row_format::Shape;
 ghost use mathlib.Core.Path.{_≡_};
-ghost use Prim.Native.Nat.{_+_, _*_, _≤_, _<_};
+ghost use Prim.Native.Nat.{_+_, _*_, _%_, _^_, _≤_, _<_};
 ghost use lib.ListN.{length};
-ghost use Rattle.row_format.specs.Places.{roundUp, startAt, bitmapStart, tableStart, fixedStart, offsetWidth};
+ghost use lib.Seq.{sets};
+ghost use Rattle.row_format.specs.Places.{roundUp, startAt, bitmapStart, tableStart, fixedStart, offsetWidth, rowLimit};
+ghost use Rattle.row_format.specs.Row.{packedMarks, leastMark};
 ghost use Rattle.row_format.specs.Table.{rangeEnd};
-ghost use Rattle.laws.specs.Bytes.{entryAt};
+ghost use Rattle.laws.specs.Bytes.{toLe, entryAt};
 ghost use Rattle.row_layout.specs.Layout.{sizeIn};
 ghost use Rattle.row_layout.specs.Range.{varlenRange};
-ghost use Rattle.row_layout.specs.InnerLayout.{Bounded, Small, minimumOf, noColumns, withColumn};
+ghost use Rattle.row_layout.specs.InnerLayout.{Bounded, Small, minimumOf, noColumns, ofSort, withColumn};
 ghost use Rattle.row_layout.specs.InnerRange.{Inside};
 
 // at, rounded up to a multiple of a.
@@ -25,21 +27,52 @@ pub fn round_up(at: usize, a: usize) -> usize
     }
 }
 
-// The geometry of the rows of a schema: how many columns, how many Varchars, and how many bytes the fixed columns
-// take, packed and padded.
+// The geometry of the rows of a schema: how many columns, how many Varchars, how many bytes the fixed columns take,
+// packed and padded, and the sort of the rows, which decides the width of an offset and the most bytes of a row.
 pub struct RowLayout {
     pub num_columns: usize,
     pub num_varlen_cols: usize,
     pub packed_size: usize,
     pub padded_size: usize,
+    pub is_long: bool,
+}
+
+// The bytes of an offset.
+pub fn offset_width(is_long: bool) -> usize
+    ensures { λ r. ⌜ (r ≡ offsetWidth «is_long») × (r ≤ 4) ⌝ }
+{
+    if is_long { 4 } else { 2 }
+}
+
+// The most bytes of a row, and of the text area beside a value list.
+pub fn row_limit(is_long: bool) -> usize
+    ensures { λ r. ⌜ (r ≡ rowLimit «is_long») × (r ≤ 1048576) ⌝ }
+{
+    if is_long { 1048576 } else { 65535 }
+}
+
+// The Varchars that the header's second word counts, its marks masked off.
+pub fn varlen_count(field: u16, is_long: bool) -> usize
+    ensures { λ r. ⌜ r ≡ field % leastMark «is_long» ⌝ }
+{
+    if is_long {
+        return (field % RowLayout::LONG_LAYOUT_FLAG) as usize;
+    }
+    (field % RowLayout::PACKED_LAYOUT_FLAG) as usize
+}
+
+// The marks of a packed row, which the header adds to that count.
+pub fn packed_marks(is_long: bool) -> u16
+    ensures { λ r. ⌜ (r ≡ packedMarks «is_long») × (r ≤ 0xC000) ⌝ }
+{
+    if is_long { 0xC000 } else { 0x8000 }
 }
 
 impl RowLayout {
-    // In the header's Varchar count of a packed row.
+    // In the header's Varchar count of a packed row, and of a long one.
     pub const PACKED_LAYOUT_FLAG: u16 = 0x8000;
 
-    // The most bytes of a row, and of the text area beside a value list.
-    pub const ROW_LIMIT: usize = 65535;
+    pub const LONG_LAYOUT_FLAG: u16 = 0x4000;
 
     // The most columns of a schema.
     pub const COLUMN_LIMIT: usize = 256;
@@ -50,7 +83,7 @@ impl RowLayout {
         4
     }
 
-    // The layout of no columns.
+    // The layout of no columns, which a walk over the columns starts with.
     pub fn new() -> Self
         ensures { λ r. ⌜ r ≡ noColumns ⌝ }
     {
@@ -59,6 +92,21 @@ impl RowLayout {
             num_varlen_cols: 0,
             packed_size: 0,
             padded_size: 0,
+            is_long: false,
+        }
+    }
+
+    // The same geometry for the rows of a sort. A layout that is built anew at a call is stored by its fields; one that
+    // is handed on as it came is stored with the bytes behind its last field, for which the called function waits.
+    pub fn of_sort(self, is_long: bool) -> Self
+        ensures { λ r. ⌜ r ≡ ofSort «is_long» self ⌝ }
+    {
+        RowLayout {
+            num_columns: self.num_columns,
+            num_varlen_cols: self.num_varlen_cols,
+            packed_size: self.packed_size,
+            padded_size: self.padded_size,
+            is_long,
         }
     }
 
@@ -73,12 +121,14 @@ impl RowLayout {
                 num_varlen_cols: self.num_varlen_cols + 1,
                 packed_size: self.packed_size,
                 padded_size: self.padded_size,
+                is_long: self.is_long,
             },
             Shape::Fixed(size, a) => RowLayout {
                 num_columns: self.num_columns + 1,
                 num_varlen_cols: self.num_varlen_cols,
                 packed_size: self.packed_size + size,
                 padded_size: round_up(self.padded_size, a) + size,
+                is_long: self.is_long,
             },
         }
     }
@@ -104,9 +154,11 @@ impl RowLayout {
 
     pub fn fixed_data_start(self) -> usize
         requires { ⌜ Bounded self ⌝ }
-        ensures { λ r. ⌜ r ≡ fixedStart offsetWidth (self .«num_columns») (self .«num_varlen_cols») ⌝ }
+        ensures { λ r. ⌜ (r
+            ≡ fixedStart (offsetWidth (self .«is_long»)) (self .«num_columns») (self .«num_varlen_cols»))
+            × (r ≤ 1060) ⌝ }
     {
-        self.varlen_table_offset() + self.num_varlen_cols * 2
+        self.varlen_table_offset() + self.num_varlen_cols * offset_width(self.is_long)
     }
 
     // The bytes before the payloads.
@@ -123,24 +175,40 @@ impl RowLayout {
 }
 
 // The offset of a rank, in the table that starts at `table`.
-pub fn offset_at(row: &[u8], table: usize, rank: usize) -> usize
-    requires { ⌜ table + (rank + 1) * offsetWidth ≤ length (now row) ⌝ }
-    ensures { λ r. ⌜ (r ≡ entryAt offsetWidth table rank (now (row .entry))) × (r < 65536) ⌝ }
+pub fn offset_at(row: &[u8], is_long: bool, table: usize, rank: usize) -> usize
+    requires { ⌜ table + (rank + 1) * offsetWidth «is_long» ≤ length (now row) ⌝ }
+    ensures { λ r. ⌜ (r ≡ entryAt (offsetWidth «is_long») table rank (now (row .entry)))
+        × (r < 256 ^ offsetWidth «is_long») ⌝ }
 {
+    if is_long {
+        return endian::read_u32(row, table + rank * 4) as usize;
+    }
     endian::read_u16(row, table + rank * 2) as usize
 }
 
+// An offset stored where its entry stands.
+pub fn write_offset(row: &mut [u8], is_long: bool, at: usize, offset: usize)
+    requires { ⌜ (at + offsetWidth «is_long» ≤ length (now row)) × (offset < 256 ^ offsetWidth «is_long») ⌝ }
+    ensures { λ _. ⌜ now (row .exit) ≡ sets (now (row .entry)) at (toLe (offsetWidth «is_long») offset) ⌝ }
+{
+    if is_long {
+        endian::write_u32(row, at, offset as u32);
+    } else {
+        endian::write_u16(row, at, offset as u16);
+    }
+}
+
 // Where the range of a rank ends: at the first offset of a higher rank that is not 0, else at the row's end.
-pub fn range_end(row: &[u8], table: usize, varlens: usize, rank: usize) -> usize
-    requires { ⌜ (rank < varlens) × (table + varlens * offsetWidth ≤ length (now row)) ⌝ }
-    ensures { λ r. ⌜ r ≡ rangeEnd offsetWidth table varlens rank (now (row .entry)) ⌝ }
+pub fn range_end(row: &[u8], is_long: bool, table: usize, varlens: usize, rank: usize) -> usize
+    requires { ⌜ (rank < varlens) × (table + varlens * offsetWidth «is_long» ≤ length (now row)) ⌝ }
+    ensures { λ r. ⌜ r ≡ rangeEnd (offsetWidth «is_long») table varlens rank (now (row .entry)) ⌝ }
 {
     let mut k = rank + 1;
     let end = loop {
         if varlens <= k {
             break row.len();
         }
-        let o = offset_at(row, table, k);
+        let o = offset_at(row, is_long, table, k);
         if o != 0 {
             break o;
         }
@@ -157,16 +225,22 @@ pub enum VarlenRange {
     Outside,
 }
 
-pub fn varlen_range(row: &[u8], table: usize, varlens: usize, rank: usize) -> VarlenRange
-    requires { ⌜ (rank < varlens) × (table + varlens * offsetWidth ≤ length (now row)) ⌝ }
-    ensures { λ r. ⌜ (r ≡ varlenRange offsetWidth table varlens rank (now (row .entry)))
+pub fn varlen_range(
+    row: &[u8],
+    is_long: bool,
+    table: usize,
+    varlens: usize,
+    rank: usize,
+) -> VarlenRange
+    requires { ⌜ (rank < varlens) × (table + varlens * offsetWidth «is_long» ≤ length (now row)) ⌝ }
+    ensures { λ r. ⌜ (r ≡ varlenRange (offsetWidth «is_long») table varlens rank (now (row .entry)))
         × Inside (now (row .entry)) r ⌝ }
 {
-    let start = offset_at(row, table, rank);
+    let start = offset_at(row, is_long, table, rank);
     if start == 0 {
         return VarlenRange::Null;
     }
-    let end = range_end(row, table, varlens, rank);
+    let end = range_end(row, is_long, table, varlens, rank);
     if end < start {
         return VarlenRange::Outside;
     }

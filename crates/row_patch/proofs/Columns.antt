@@ -98,11 +98,11 @@ module _ {l : RowLayout} {p : Bool} {b : RowLayout} {t : DataType} {n a e z : �
   -- its row has the bitmap, and fits the buffer
   inside : (tableStart (l .«num_columns») ≤ length edited) × (length edited ≤ length buf)
   inside =
-      by-cond (λ r. (tableStart (l .«num_columns») ≤ length r) × (length r ≤ length buf)) (isVarlen t) (rangeEdit (offsetTable offsetWidth (tableStart (l .«num_columns»)) (l .«num_varlen_cols»)) (b .«num_varlen_cols») c (span a e) row) (slotEdit (walkedPlace l p b t) (sizeOf t) c row)
+      by-cond (λ r. (tableStart (l .«num_columns») ≤ length r) × (length r ≤ length buf)) (isVarlen t) (rangeEdit (offsetTable (offsetWidth (l .«is_long»)) (tableStart (l .«num_columns»)) (l .«num_varlen_cols»)) (b .«num_varlen_cols») c (span a e) row) (slotEdit (walkedPlace l p b t) (sizeOf t) c row)
       (λ v.
       let r = g .range v in
       let k = r .replaceable in
-      let x = length-range-edit offsetWidth (tableStart (l .«num_columns»)) (l .«num_varlen_cols») (b .«num_varlen_cols») c a e row (r .ranked) (r .behind) (k .range) (rw row-length (k .within)) in
+      let x = length-range-edit (offsetWidth (l .«is_long»)) (tableStart (l .«num_columns»)) (l .«num_varlen_cols») (b .«num_varlen_cols») c a e row (r .ranked) (r .behind) (k .range) (rw row-length (k .within)) in
       (omega (arith, x, row-length, s .text v, r .behind, k .range, k .within), omega (arith, x, row-length, s .text v, k .room, k .range, k .within)))
       (λ f.
       let x = slot-edited (walkedPlace l p b t) (sizeOf t) c row (s .slot f) (g .reach .slot f) in

@@ -52,7 +52,7 @@ module _ {w t v k e f : ℕ} {r : List ℕ} (m : HigherMove w t v k e f r) where
     same-entry : entryAt w t j q ≡ entryAt w t j r
     same-entry = ap (λ (l : List ℕ). fromLe (take w l)) (s .ahead)
 
-    pub moving-may : j < v → CanMove e f (entryAt w t j q)
+    pub moving-may : j < v → CanMove w e f (entryAt w t j q)
     moving-may h = rw same-entry (m .higher j (s .past) h)
 
     pub moving-more : j < v → (p : List ℕ) → p ≡ sets q (t + j * w) (toLe w (movedBy e f (entryAt w t j q))) → Moving w t v k e f r p (j + 1)

@@ -1,7 +1,7 @@
 -- The range of a Varchar replaced and its table written anew.
 use Prim.Native.Nat.{ℕ, _+_, _-_, _<_}
 use mathlib.Core.Path.{_≡_, sym, ap, _∙_}
-use mathlib.Core.Bool.{true}
+use mathlib.Core.Bool.{Bool, true}
 use mathlib.Core.List.{List, _++_}
 use native.Mathlib.Omega.{arith}
 use lib.ListN.{length, getD, take, drop, length-drop}
@@ -13,6 +13,7 @@ use Rattle.row_format.specs.Places.{offsetWidth}
 use Rattle.row_format.specs.Table.{Cell, bytes, offset}
 use Rattle.row_format.specs.Edit.{offsetTable, span, rangeEdit}
 use Rattle.row_format.proofs.Edit.{length-range-edit}
+use Rattle.row_format.proofs.Sorts.{limit-fits}
 use Rattle.datatype.specs.declared.DataType.{DataType}
 use Rattle.datatype.specs.Types.{isVarlen}
 use Rattle.value.specs.declared.DataValue.{DataValue}
@@ -32,7 +33,10 @@ length-text {t} {v} {area} s e =
 
 -- ---- the table of a row whose range was replaced: q is the buffer, m the row's length
 
-module _ {t v k n a e z : ℕ} {b : List ℕ} (g : RangeReady t v k (change n a e z) b) (c : Cell) (size : length (bytes c) ≡ z) (m f : ℕ) (em : m ≡ a + z + (n - e)) (ef : f ≡ a + z) (q : List ℕ) (d : q ≡ held b (splice a e (bytes c) (take n b))) where
+module _ {k : Bool} {t v rank n a e z : ℕ} {b : List ℕ} (g : RangeReady k t v rank (change n a e z) b) (c : Cell) (size : length (bytes c) ≡ z) (m f : ℕ) (em : m ≡ a + z + (n - e)) (ef : f ≡ a + z) (q : List ℕ) (d : q ≡ held b (splice a e (bytes c) (take n b))) where
+  abbrev w : ℕ
+  w = offsetWidth k
+
   abbrev row : List ℕ
   row = take n b
 
@@ -48,19 +52,19 @@ module _ {t v k n a e z : ℕ} {b : List ℕ} (g : RangeReady t v k (change n a 
   lent : take m q ≡ spliced
   lent = row-of b spliced q m d spliced-length
 
-  same-table : fromTable offsetWidth v (drop t spliced) ≡ fromTable offsetWidth v (drop t row)
-  same-table = table-before offsetWidth t v a e (bytes c) row (g .behind) (rw row-length (omega (arith, g .replaceable .range, g .replaceable .within)))
+  same-table : fromTable w v (drop t spliced) ≡ fromTable w v (drop t row)
+  same-table = table-before w t v a e (bytes c) row (g .behind) (rw row-length (omega (arith, g .replaceable .range, g .replaceable .within)))
 
-  same-entry : (j : ℕ) → j < v → entryAt offsetWidth t j spliced ≡ entryAt offsetWidth t j row
-  same-entry j h = sym (table-entry offsetWidth v t j spliced h) ∙ ap (λ (os : List ℕ). getD os j 0) same-table ∙ table-entry offsetWidth v t j row h
+  same-entry : (j : ℕ) → j < v → entryAt w t j spliced ≡ entryAt w t j row
+  same-entry j h = sym (table-entry w v t j spliced h) ∙ ap (λ (os : List ℕ). getD os j 0) same-table ∙ table-entry w v t j row h
 
-  can-move : (j : ℕ) → k < j → j < v → CanMove e f (entryAt offsetWidth t j row)
-  can-move j h l n = let y = g .higher j h l n in (y .0, omega (arith, y, ef, g .short, g .replaceable .within))
+  can-move : (j : ℕ) → rank < j → j < v → CanMove w e f (entryAt w t j row)
+  can-move j h l n = let y = g .higher j h l n in (y .0, omega (arith, y, ef, g .short, g .replaceable .within, limit-fits k))
 
   pub lent-length : m ≡ length (take m q)
   lent-length = sym (ap length lent ∙ spliced-length)
 
-  pub table-ready : HigherMove offsetWidth t v k e f (take m q)
+  pub table-ready : HigherMove w t v rank e f (take m q)
   table-ready =
       rw lent
       (record {
@@ -69,11 +73,11 @@ module _ {t v k n a e z : ℕ} {b : List ℕ} (g : RangeReady t v k (change n a 
         higher = λ j h l. rw (same-entry j l) (can-move j h l);
       })
 
-  pub table-done : (x : List ℕ) → x ≡ tableEdit (offsetTable offsetWidth t v) k (offset c a) e f (take m q) → Holds b (rangeEdit (offsetTable offsetWidth t v) k c (span a e) row) (x ++ drop m q) m
+  pub table-done : (x : List ℕ) → x ≡ tableEdit (offsetTable w t v) rank (offset c a) e f (take m q) → Holds b (rangeEdit (offsetTable w t v) rank c (span a e) row) (x ++ drop m q) m
   table-done x y =
       let ends : f ≡ a + length (bytes c) = ef ∙ rw size in
-      let edited : x ≡ rangeEdit (offsetTable offsetWidth t v) k c (span a e) row = y ∙ rw (lent, same-table, ends) in
-      let n : length (rangeEdit (offsetTable offsetWidth t v) k c (span a e) row) ≡ m
-      = length-range-edit offsetWidth t v k c a e row (g .ranked) (g .behind) (g .replaceable .range) (rw row-length (g .replaceable .within))
+      let edited : x ≡ rangeEdit (offsetTable w t v) rank c (span a e) row = y ∙ rw (lent, same-table, ends) in
+      let n : length (rangeEdit (offsetTable w t v) rank c (span a e) row) ≡ m
+      = length-range-edit w t v rank c a e row (g .ranked) (g .behind) (g .replaceable .range) (rw row-length (g .replaceable .within))
       ∙ rw (row-length, size) (omega (arith, em, g .replaceable .range, g .replaceable .within)) in
       (held-again b spliced q m d spliced-length x (ap length edited ∙ n) ∙ rw edited, sym n)

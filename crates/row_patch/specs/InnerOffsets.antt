@@ -1,5 +1,5 @@
 -- The offsets of a table after the range of rank k, which ended at e, ends at f.
-use Prim.Native.Nat.{ℕ, suc, _+_, _*_, _-_, _≤_, _<_}
+use Prim.Native.Nat.{ℕ, suc, _+_, _*_, _-_, _^_, _≤_, _<_}
 use mathlib.Core.Path.{_≡_}
 use mathlib.Core.List.{List, _∷_, _++_, map}
 use lib.ListN.{length, take, drop}
@@ -18,12 +18,12 @@ tableEdit t k x e f r =
     splice (t .start) (t .start + t .entries * t .width)
     (toTable (t .width) (take k os ++ (x ∷ map (movedBy e f) (drop (suc k) os)))) r
 
--- ---- what the code needs: an offset that moves does not fall below 0 and stays below 65,536
+-- ---- what the code needs: an offset of w bytes that moves does not fall below 0 and stays one
 
-abbrev pub CanMove : ℕ → ℕ → ℕ → Type 0
-CanMove e f o = (o ≡ 0 → ⊥) → (e ≤ o) × (o + f < 65536 + e)
+abbrev pub CanMove : ℕ → ℕ → ℕ → ℕ → Type 0
+CanMove w e f o = (o ≡ 0 → ⊥) → (e ≤ o) × (o + f < 256 ^ w + e)
 
 pub record HigherMove (w t v k e f : ℕ) (r : List ℕ) : Type 0 where
   pub ranked : k < v
   pub inside : t + v * w ≤ length r
-  pub higher : (j : ℕ) → k < j → j < v → CanMove e f (entryAt w t j r)
+  pub higher : (j : ℕ) → k < j → j < v → CanMove w e f (entryAt w t j r)

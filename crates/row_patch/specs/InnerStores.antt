@@ -30,8 +30,8 @@ bitPut v i r = take bitmapStart r ++ putBitAt v i (drop bitmapStart r)
 abbrev pub columnSet : RowLayout → Bool → RowLayout → DataType → Span → Cell → List ℕ → List ℕ
 columnSet l p b t s c r =
     cond (isVarlen t)
-    (rangeEdit (offsetTable offsetWidth (tableStart (l .«num_columns»)) (l .«num_varlen_cols»)) (b .«num_varlen_cols»)
-    c s r)
+    (rangeEdit (offsetTable (offsetWidth (l .«is_long»)) (tableStart (l .«num_columns»)) (l .«num_varlen_cols»))
+    (b .«num_varlen_cols») c s r)
     (slotEdit (walkedPlace l p b t) (sizeOf t) c r)
 
 -- and its bit
@@ -66,19 +66,19 @@ pub record Replaceable (x : Change) (buf : List ℕ) : Type 0 where
   pub inside : x .row-length ≤ length buf
   pub room : lengthAfter x ≤ length buf
 
--- which are the range of rank k, behind the table; the higher offsets are not before its end
-pub record RangeReady (t v k : ℕ) (x : Change) (buf : List ℕ) : Type 0 where
+-- which are the range of a rank, behind the table, in a row of sort k; the higher offsets are not before its end
+pub record RangeReady (k : Bool) (t v rank : ℕ) (x : Change) (buf : List ℕ) : Type 0 where
   pub replaceable : Replaceable x buf
-  pub ranked : k < v
-  pub behind : t + v * offsetWidth ≤ x .range .from
-  pub short : lengthAfter x ≤ rowLimit
-  pub higher : (j : ℕ) → k < j → j < v → (entryAt offsetWidth t j (take (x .row-length) buf) ≡ 0 → ⊥)
-      → (x .range .upTo ≤ entryAt offsetWidth t j (take (x .row-length) buf))
-      × (entryAt offsetWidth t j (take (x .row-length) buf) ≤ x .row-length)
+  pub ranked : rank < v
+  pub behind : t + v * offsetWidth k ≤ x .range .from
+  pub short : lengthAfter x ≤ rowLimit k
+  pub higher : (j : ℕ) → rank < j → j < v → (entryAt (offsetWidth k) t j (take (x .row-length) buf) ≡ 0 → ⊥)
+      → (x .range .upTo ≤ entryAt (offsetWidth k) t j (take (x .row-length) buf))
+      × (entryAt (offsetWidth k) t j (take (x .row-length) buf) ≤ x .row-length)
 
 -- a column of a row in the buffer, to be set to `size` bytes
 pub record Editable (l : RowLayout) (p : Bool) (b : RowLayout) (t : DataType) (x : Change) (buf : List ℕ) : Type 0 where
   pub reach : Reachable l p b t (take (x .row-length) buf)
   pub inside : x .row-length ≤ length buf
   pub range : isVarlen t ≡ true
-      → RangeReady (tableStart (l .«num_columns»)) (l .«num_varlen_cols») (b .«num_varlen_cols») x buf
+      → RangeReady (l .«is_long») (tableStart (l .«num_columns»)) (l .«num_varlen_cols») (b .«num_varlen_cols») x buf

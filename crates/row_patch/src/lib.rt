@@ -6,7 +6,7 @@ ghost use mathlib.Core.Path.{_≡_};
 ghost use mathlib.Core.Bool.{true, false};
 ghost use mathlib.Core.List.{[]};
 ghost use mathlib.Core.Option.{none, some};
-ghost use Prim.Native.Nat.{_+_, _*_, _-_, _≤_, _<_};
+ghost use Prim.Native.Nat.{_+_, _*_, _-_, _^_, _≤_, _<_};
 ghost use lib.ListN.{length, take, drop};
 ghost use lib.Seq.{sets};
 ghost use Rattle.laws.specs.Bytes.{toLe, entryAt, splice};
@@ -21,44 +21,51 @@ ghost use Rattle.row_patch.specs.InnerStores.{formOf, bitPut, columnSet,
 
 // ---- the offset table
 
-fn put_offset(row: &mut [u8], table: usize, rank: usize, offset: usize)
-    requires { ⌜ (table + (rank + 1) * offsetWidth ≤ length (now row)) × (offset < 65536) ⌝ }
+fn put_offset(row: &mut [u8], is_long: bool, table: usize, rank: usize, offset: usize)
+    requires { ⌜ (table + (rank + 1) * offsetWidth «is_long» ≤ length (now row))
+        × (offset < 256 ^ offsetWidth «is_long») ⌝ }
     ensures { λ _. ⌜ now (row .exit)
-        ≡ sets (now (row .entry)) (table + rank * offsetWidth) (toLe offsetWidth offset) ⌝ }
+        ≡ sets (now (row .entry)) (table + rank * offsetWidth «is_long») (toLe (offsetWidth «is_long») offset) ⌝ }
 {
-    endian::write_u16(row, table + rank * 2, offset as u16);
+    if is_long {
+        row_layout::write_offset(row, true, table + rank * 4, offset);
+    } else {
+        row_layout::write_offset(row, false, table + rank * 2, offset);
+    }
 }
 
 // An offset of 0 says null and stays.
-fn move_offset(row: &mut [u8], table: usize, rank: usize, end: usize, new_end: usize)
-    requires { ⌜ (table + (rank + 1) * offsetWidth ≤ length (now row))
-        × CanMove end «new_end» (entryAt offsetWidth table rank (now row)) ⌝ }
+fn move_offset(row: &mut [u8], is_long: bool, table: usize, rank: usize, end: usize, new_end: usize)
+    requires { ⌜ (table + (rank + 1) * offsetWidth «is_long» ≤ length (now row))
+        × CanMove (offsetWidth «is_long») end «new_end» (entryAt (offsetWidth «is_long») table rank (now row)) ⌝ }
     ensures { λ _. ⌜ now (row .exit)
-        ≡ sets (now (row .entry)) (table + rank * offsetWidth)
-        (toLe offsetWidth (movedBy end «new_end» (entryAt offsetWidth table rank (now (row .entry))))) ⌝ }
+        ≡ sets (now (row .entry)) (table + rank * offsetWidth «is_long»)
+        (toLe (offsetWidth «is_long»)
+        (movedBy end «new_end» (entryAt (offsetWidth «is_long») table rank (now (row .entry))))) ⌝ }
 {
-    let o = row_layout::offset_at(row, table, rank);
+    let o = row_layout::offset_at(row, is_long, table, rank);
     if o != 0 {
-        put_offset(row, table, rank, o + new_end - end);
+        put_offset(row, is_long, table, rank, o + new_end - end);
     }
 }
 
 // The offsets of higher rank.
 fn move_offsets(
     row: &mut [u8],
+    is_long: bool,
     table: usize,
     varlens: usize,
     rank: usize,
     end: usize,
     new_end: usize,
 )
-    requires { ⌜ HigherMove offsetWidth table varlens rank end «new_end» (now row) ⌝ }
+    requires { ⌜ HigherMove (offsetWidth «is_long») table varlens rank end «new_end» (now row) ⌝ }
     ensures { λ _. ⌜ now (row .exit)
-        ≡ movedFrom offsetWidth table varlens (rank + 1) end «new_end» (now (row .entry)) ⌝ }
+        ≡ movedFrom (offsetWidth «is_long») table varlens (rank + 1) end «new_end» (now (row .entry)) ⌝ }
 {
     let mut k = rank + 1;
     while k < varlens {
-        move_offset(row, table, k, end, new_end);
+        move_offset(row, is_long, table, k, end, new_end);
         k += 1;
     }
 }
@@ -66,6 +73,7 @@ fn move_offsets(
 // The table, where the range of a rank ended at `end` and ends at `new_end` now, and has the offset `own`.
 fn edit_table(
     row: &mut [u8],
+    is_long: bool,
     table: usize,
     varlens: usize,
     rank: usize,
@@ -73,12 +81,14 @@ fn edit_table(
     end: usize,
     new_end: usize,
 )
-    requires { ⌜ HigherMove offsetWidth table varlens rank end «new_end» (now row) × (own < 65536) ⌝ }
+    requires { ⌜ HigherMove (offsetWidth «is_long») table varlens rank end «new_end» (now row)
+        × (own < 256 ^ offsetWidth «is_long») ⌝ }
     ensures { λ _. ⌜ now (row .exit)
-        ≡ tableEdit (offsetTable offsetWidth table varlens) rank own end «new_end» (now (row .entry)) ⌝ }
+        ≡ tableEdit (offsetTable (offsetWidth «is_long») table varlens) rank own end «new_end»
+        (now (row .entry)) ⌝ }
 {
-    move_offsets(row, table, varlens, rank, end, new_end);
-    put_offset(row, table, rank, own);
+    move_offsets(row, is_long, table, varlens, rank, end, new_end);
+    put_offset(row, is_long, table, rank, own);
 }
 
 // ---- bytes of the row replaced
@@ -125,6 +135,7 @@ fn remove(buf: &mut [u8], n: usize, start: usize, end: usize)
 // The range of a Varchar, from `start` to `end`, gets the value's text. The answer is the row's new length.
 fn store_varlen(
     buf: &mut [u8],
+    is_long: bool,
     n: usize,
     table: usize,
     varlens: usize,
@@ -135,11 +146,12 @@ fn store_varlen(
     value: DataValue,
     area: &[u8],
 ) -> usize
-    requires { ⌜ RangeReady table varlens rank (change n start end (rangeOf value .length)) (now buf)
+    requires { ⌜ RangeReady «is_long» table varlens rank (change n start end (rangeOf value .length)) (now buf)
         × (Suited ty value (now area) × (isVarlen ty ≡ true)) ⌝ }
     ensures { λ r. ⌜ Holds (now (buf .entry))
-        (rangeEdit (offsetTable offsetWidth table varlens) rank (some (formOf ty value (now (area .entry))))
-        (span start end) (take n (now (buf .entry)))) (now (buf .exit)) r ⌝ }
+        (rangeEdit (offsetTable (offsetWidth «is_long») table varlens) rank
+        (some (formOf ty value (now (area .entry)))) (span start end) (take n (now (buf .entry))))
+        (now (buf .exit)) r ⌝ }
 {
     let range = value.range();
     let size = range.length;
@@ -147,6 +159,7 @@ fn store_varlen(
     let m = start + size + (n - end);
     edit_table(
         &mut buf[..m],
+        is_long,
         table,
         varlens,
         rank,
@@ -160,6 +173,7 @@ fn store_varlen(
 // The range is removed, and the offset of a null is 0.
 fn null_varlen(
     buf: &mut [u8],
+    is_long: bool,
     n: usize,
     table: usize,
     varlens: usize,
@@ -167,14 +181,14 @@ fn null_varlen(
     start: usize,
     end: usize,
 ) -> usize
-    requires { ⌜ RangeReady table varlens rank (change n start end 0) (now buf) ⌝ }
+    requires { ⌜ RangeReady «is_long» table varlens rank (change n start end 0) (now buf) ⌝ }
     ensures { λ r. ⌜ Holds (now (buf .entry))
-        (rangeEdit (offsetTable offsetWidth table varlens) rank none (span start end) (take n (now (buf .entry))))
-        (now (buf .exit)) r ⌝ }
+        (rangeEdit (offsetTable (offsetWidth «is_long») table varlens) rank none (span start end)
+        (take n (now (buf .entry)))) (now (buf .exit)) r ⌝ }
 {
     remove(buf, n, start, end);
     let m = start + (n - end);
-    edit_table(&mut buf[..m], table, varlens, rank, 0, end, start);
+    edit_table(&mut buf[..m], is_long, table, varlens, rank, 0, end, start);
     m
 }
 
@@ -226,9 +240,19 @@ fn store_column(
 {
     if ty.is_variable_length() {
         let table = layout.varlen_table_offset();
-        let varlens = layout.num_varlen_cols;
-        let rank = before.num_varlen_cols;
-        return store_varlen(buf, n, table, varlens, rank, start, end, ty, value, area);
+        return store_varlen(
+            buf,
+            layout.is_long,
+            n,
+            table,
+            layout.num_varlen_cols,
+            before.num_varlen_cols,
+            start,
+            end,
+            ty,
+            value,
+            area,
+        );
     }
     let at = layout.fixed_data_start() + before.slot_start(packed, ty.alignment());
     store_fixed(buf, n, at, ty, value, area);
@@ -255,7 +279,7 @@ fn store_null(
         let table = layout.varlen_table_offset();
         let varlens = layout.num_varlen_cols;
         let rank = before.num_varlen_cols;
-        return null_varlen(buf, n, table, varlens, rank, start, end);
+        return null_varlen(buf, layout.is_long, n, table, varlens, rank, start, end);
     }
     n
 }

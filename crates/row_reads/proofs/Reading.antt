@@ -1,20 +1,18 @@
 -- Whether a column reads, and the walk over the columns that asks it of each.
 use Prim.Native.Nat.{ℕ, _+_, _-_, _≤_, _<_}
-use mathlib.Core.Path.{_≡_, refl, sym, ap, _∙_, subst}
+use mathlib.Core.Path.{_≡_, refl, sym, ap, _∙_}
 use mathlib.Core.Bool.{Bool, true, false, cond, false≢true}
 use mathlib.Core.List.{List, []}
 use native.Mathlib.Omega.{arith}
 use borrow.Author.Tests.{ltb-false}
 use lib.Dec.{eqb, ltb}
 use lib.ListN.{length, take, drop, drop-of-length-le}
-use Rattle.error.specs.declared.Refusal.{Refusal}
 use Rattle.error.specs.declared.Flag.{Flag}
 use Rattle.error.specs.declared.Flag.the-variants.{Is}
 use Rattle.error.specs.Result.{ok, refused}
 use Rattle.laws.specs.Bytes.{entryAt}
 use Rattle.laws.proofs.Truths.{by-cond}
 use Rattle.text_limit.specs.Limit.{fitsText}
-use Rattle.row_format.specs.Places.{tableStart, offsetWidth}
 use Rattle.row_format.specs.Table.{rangeEnd}
 use Rattle.row_layout.specs.declared.RowLayout.{RowLayout}
 use Rattle.row_layout.specs.declared.VarlenRange.{VarlenRange}
@@ -57,10 +55,10 @@ unfolding walkedSound
 sound-reads l p b t r v = fixed-cases (reads (walkedColumn l p b t r)) (isVarlen t) _ v
 
 -- the range of a Varchar is a part of the row
-pub range-inside : (table v k : ℕ) (r : List ℕ) → Inside r (varlenRange offsetWidth table v k r)
-range-inside table v k r =
-    let a : ℕ = entryAt offsetWidth table k r in
-    let e : ℕ = rangeEnd offsetWidth table v k r in
+pub range-inside : (w table v k : ℕ) (r : List ℕ) → Inside r (varlenRange w table v k r)
+range-inside w table v k r =
+    let a : ℕ = entryAt w table k r in
+    let e : ℕ = rangeEnd w table v k r in
     by-cond (Inside r) (eqb a 0) Range.Null _ (λ z. tt)
     (λ z. by-cond (Inside r) (ltb e a) Range.Outside _ (λ x. tt)
     (λ x. by-cond (Inside r) (ltb (length r) e) Range.Outside (Range.Bytes a e) (λ y. tt)

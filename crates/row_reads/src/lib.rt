@@ -25,15 +25,16 @@ fn range_reads(
     by_points: bool,
     n: usize,
     row: &[u8],
+    is_long: bool,
     table: usize,
     varlens: usize,
     rank: usize,
 ) -> bool
-    requires { ⌜ (rank < varlens) × (table + varlens * offsetWidth ≤ length (now row)) ⌝ }
+    requires { ⌜ (rank < varlens) × (table + varlens * offsetWidth «is_long» ≤ length (now row)) ⌝ }
     ensures { λ r. ⌜ r ≡ rangeReads «by_points» n (now (row .entry))
-        (varlenRange offsetWidth table varlens rank (now (row .entry))) ⌝ }
+        (varlenRange (offsetWidth «is_long») table varlens rank (now (row .entry))) ⌝ }
 {
-    match row_layout::varlen_range(row, table, varlens, rank) {
+    match row_layout::varlen_range(row, is_long, table, varlens, rank) {
         VarlenRange::Null => true,
         VarlenRange::Outside => false,
         VarlenRange::Bytes(start, end) => text_limit::is_within(&row[start..end], by_points, n),
@@ -64,6 +65,7 @@ fn body_reads(
             kind == schema_kinds::VARCHAR_CHARS,
             n as usize,
             row,
+            layout.is_long,
             layout.varlen_table_offset(),
             layout.num_varlen_cols,
             before.num_varlen_cols,

@@ -1,5 +1,5 @@
 -- Two columns that are null or of the same bytes have the same content, whatever their type.
-use Prim.Native.Nat.{ℕ, _+_, _-_, _≤_, _<_}
+use Prim.Native.Nat.{ℕ, _+_, _-_, _≤_}
 use mathlib.Core.Path.{_≡_, refl, sym, ap, _∙_}
 use mathlib.Core.Bool.{Bool, true, false, cond, false≢true}
 use mathlib.Core.List.{List, [], _∷_}
@@ -8,13 +8,10 @@ use borrow.Author.Tests.{lt-ltb, le-ltb}
 use lib.Dec.{ltb}
 use lib.ListN.{length, take, drop, length-drop}
 use lib.Seq.{length-take-le, drop-drop}
-use Rattle.laws.specs.Bytes.{sameBytes}
 use Rattle.laws.proofs.Same.{same-eq}
 use Rattle.laws.proofs.Lent.{drop-take}
 use Rattle.error.specs.declared.Flag.the-variants.{Is}
-use Rattle.row_format.specs.declared.Shape.the-variants.{Fixed}
-use Rattle.row_format.specs.Places.{tableStart, fixedStart, startAt, endAfter, offsetWidth}
-use Rattle.row_format.specs.InnerAligned.{Aligned}
+use Rattle.row_format.specs.Places.{tableStart, fixedStart, startAt, offsetWidth}
 use Rattle.row_format.proofs.Places.{all-at, start-ge}
 use Rattle.row_layout.specs.declared.RowLayout.{RowLayout}
 use Rattle.row_layout.specs.declared.VarlenRange.{VarlenRange}
@@ -111,7 +108,7 @@ module _ (base sx st z : ℕ) (r : List ℕ) (h : sx ≤ st) (k : base + st + z 
 -- the column of type t after those of layout x, in rows with layout l
 module _ (l x : RowLayout) (t : DataType) where
   abbrev base : ℕ
-  base = fixedStart offsetWidth (l .«num_columns») (l .«num_varlen_cols»)
+  base = fixedStart (offsetWidth (l .«is_long»)) (l .«num_columns») (l .«num_varlen_cols»)
 
   abbrev start : Bool → ℕ
   start p = startAt p (alignmentOf t) (sizeIn x p)
@@ -178,8 +175,8 @@ module _ (l x : RowLayout) (t : DataType) where
         let table : ℕ = tableStart (l .«num_columns») in
         let rank : ℕ = x .«num_varlen_cols» in
         let n : ltb rank (y .«num_varlen_cols») ≡ true = lt-ltb rank (y .«num_varlen_cols») (rw v (omega arith)) in
-        ranges-alike t i a b (rangeIn l x a) (rangeIn l x b) (range-inside table (l .«num_varlen_cols») rank a)
-        (range-inside table (l .«num_varlen_cols») rank b) (rw n at e)
+        ranges-alike t i a b (rangeIn l x a) (rangeIn l x b) (range-inside (offsetWidth (l .«is_long»)) table (l .«num_varlen_cols») rank a)
+        (range-inside (offsetWidth (l .«is_long»)) table (l .«num_varlen_cols») rank b) (rw n at e)
     present-alike false v e =
         let z : ℕ = sizeOf t in
         let s : ℕ = walkedPlace l p x t in

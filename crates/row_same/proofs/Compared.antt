@@ -1,7 +1,7 @@
 -- The walk over both rows gives what reading both and comparing their values gives.
 use Prim.Native.Nat.{ℕ}
 use mathlib.Core.Path.{_≡_, refl, sym, ap, ap₂, _∙_, subst}
-use mathlib.Core.Bool.{Bool, true, false, cond}
+use mathlib.Core.Bool.{Bool, true, false}
 use mathlib.Core.List.{List, _∷_}
 use native.Mathlib.Omega.{arith}
 use lib.ListN.{length}
@@ -35,27 +35,27 @@ use Rattle.row_same.specs.InnerWalk.{compared, walkedAll, bothRead, AllR
 
 -- ---- the headers, where the layout of the columns ts is known as l
 
-module _ (limit : ℕ) (ts : List DataType) {l : RowLayout} (e : layoutFor ts ≡ l) where
+module _ (ts : List DataType) {l : RowLayout} (e : layoutFor (l .«is_long») ts ≡ l) where
   abbrev behind : List ℕ → Frame → Values
   behind r g = onFrame g refused (walkedAll ts l r)
 
-  all-walked : (r : List ℕ) → behind r (walkedFrame limit l r) ≡ allColumns offsetWidth limit ts r
+  all-walked : (r : List ℕ) → behind r (walkedFrame l r) ≡ allColumns (l .«is_long») ts r
   all-walked r =
-      same-good (walkedFrame limit l r) refused (λ p g. read-walked p ts (λ i. true) r e)
-      ∙ ap (λ (f : Frame). onFrame f refused (λ p. readFrom offsetWidth p ts (λ i. true) r 0 (length ts)))
-      (sym (frame-walked limit ts r e))
+      same-good (walkedFrame l r) refused (λ p g. read-walked (l .«is_long») p ts (λ i. true) r e)
+      ∙ ap (λ (f : Frame). onFrame f refused (λ p. readFrom (offsetWidth (l .«is_long»)) p ts (λ i. true) r 0 (length ts)))
+      (sym (frame-walked ts r e))
 
   module _ (a b : List ℕ) where
-    known : {g : Frame} → walkedFrame limit l a ≡ g
-        → bothRead ts a (behind a g) b (behind b (walkedFrame limit l b)) ≡ sameRows offsetWidth limit ts a b
+    known : {g : Frame} → walkedFrame l a ≡ g
+        → bothRead ts a (behind a g) b (behind b (walkedFrame l b)) ≡ sameRows (l .«is_long») ts a b
     known f = ap₂ (λ (x y : Values). bothRead ts a x b y) (ap (behind a) (sym f) ∙ all-walked a) (all-walked b)
 
-    pub rows-good : {p : Bool} → walkedFrame limit l a ≡ Frame.Good p
-        → bothRead ts a (walkedAll ts l a p) b (behind b (walkedFrame limit l b)) ≡ sameRows offsetWidth limit ts a b
+    pub rows-good : {p : Bool} → walkedFrame l a ≡ Frame.Good p
+        → bothRead ts a (walkedAll ts l a p) b (behind b (walkedFrame l b)) ≡ sameRows (l .«is_long») ts a b
     rows-good f = known f
 
-    pub rows-refused : {r : Refusal} → walkedFrame limit l a ≡ Frame.Refused r
-        → Refused r ≡ sameRows offsetWidth limit ts a b
+    pub rows-refused : {r : Refusal} → walkedFrame l a ≡ Frame.Refused r
+        → Refused r ≡ sameRows (l .«is_long») ts a b
     rows-refused f = known f
 
 -- ---- a row that is refused as a whole

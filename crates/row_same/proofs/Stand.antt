@@ -1,11 +1,11 @@
 -- A value that was read from a column has its text in the row, as the comparison of values requires.
 use Prim.Native.Nat.{ℕ, _+_, _-_, _≤_}
 use mathlib.Core.Path.{_≡_, refl, sym, _∙_}
-use mathlib.Core.Bool.{Bool, true, false, cond, false≢true}
+use mathlib.Core.Bool.{Bool, true, false, false≢true}
 use mathlib.Core.List.{List}
 use native.Mathlib.Omega.{arith}
 use borrow.Author.Tests.{le-leb}
-use lib.Dec.{eqb, leb}
+use lib.Dec.{eqb}
 use lib.ListN.{length, take, drop, length-drop}
 use lib.Seq.{length-take-le}
 use Rattle.laws.proofs.Truths.{by-cond}
@@ -56,10 +56,11 @@ pub column-stands : {l : RowLayout} {p : Bool} {b : RowLayout} {t : DataType} {r
 column-stands {l} {p} {b} {t} {r} h =
     let i : ℕ = b .«num_columns» in
     let table : ℕ = tableStart (l .«num_columns») in
+    let w : ℕ = offsetWidth (l .«is_long») in
     let v : ℕ = l .«num_varlen_cols» in
     let k : ℕ = b .«num_varlen_cols» in
     let at : ℕ = walkedPlace l p b t in
     by-cond (Stands t r) (eqb (bitAt i (drop bitmapStart r)) 1) (Value Null) _ (λ z. null-stands t r)
     (λ z. by-cond (Stands t r) (isVarlen t) _ _
-    (λ f. range-stands t r f i (varlenRange offsetWidth table v k r) (range-inside table v k r))
+    (λ f. range-stands t r f i (varlenRange w table v k r) (range-inside w table v k r))
     (λ f. bytes-stand t r i at (at + sizeOf t) (omega arith) (h .slot f) (λ g. omega arith)))

@@ -25,11 +25,13 @@ alikeRanges a (Bytes s e) b (Bytes f t) = sameBytes (take (e - s) (drop s a)) (t
 -- the column after those of layout x, in a row r with layout l, packed or padded; y is the layout with it
 abbrev pub fixedPart : RowLayout → RowLayout → RowLayout → Bool → List ℕ → List ℕ
 fixedPart l x y p r =
-    let base : ℕ = fixedStart offsetWidth (l .«num_columns») (l .«num_varlen_cols») in
+    let base : ℕ = fixedStart (offsetWidth (l .«is_long»)) (l .«num_columns») (l .«num_varlen_cols») in
     take (base + sizeIn y p - (base + sizeIn x p)) (drop (base + sizeIn x p) r)
 
 abbrev pub rangeIn : RowLayout → RowLayout → List ℕ → VarlenRange
-rangeIn l x r = varlenRange offsetWidth (tableStart (l .«num_columns»)) (l .«num_varlen_cols») (x .«num_varlen_cols») r
+rangeIn l x r =
+    varlenRange (offsetWidth (l .«is_long»)) (tableStart (l .«num_columns»)) (l .«num_varlen_cols»)
+    (x .«num_varlen_cols») r
 
 abbrev pub isMarked : RowLayout → List ℕ → Bool
 isMarked x r = eqb (bitAt (x .«num_columns») (drop bitmapStart r)) 1
@@ -47,8 +49,8 @@ storedAlike l x y p a q b =
 pub record Beside (l x y : RowLayout) (p : Bool) (r : List ℕ) : Type 0 where
   pub whole : Bounded l
   pub column : x .«num_columns» < l .«num_columns»
-  pub table : fixedStart offsetWidth (l .«num_columns») (l .«num_varlen_cols») ≤ length r
+  pub table : fixedStart (offsetWidth (l .«is_long»)) (l .«num_columns») (l .«num_varlen_cols») ≤ length r
   pub rank : x .«num_varlen_cols» < y .«num_varlen_cols» → x .«num_varlen_cols» < l .«num_varlen_cols»
   pub rises : (x .«num_varlen_cols» < y .«num_varlen_cols» → ⊥) → sizeIn x p ≤ sizeIn y p
   pub slot : (x .«num_varlen_cols» < y .«num_varlen_cols» → ⊥)
-      → fixedStart offsetWidth (l .«num_columns») (l .«num_varlen_cols») + sizeIn y p ≤ length r
+      → fixedStart (offsetWidth (l .«is_long»)) (l .«num_columns») (l .«num_varlen_cols») + sizeIn y p ≤ length r

@@ -3,6 +3,7 @@ use Prim.Native.Nat.{ℕ}
 use mathlib.Core.Bool.{Bool, true, false, cond}
 use mathlib.Core.List.{List, [], _∷_}
 use lib.ListN.{length}
+use Rattle.row_format.specs.Places.{offsetWidth}
 use Rattle.error.specs.declared.Flag.{Flag}
 use Rattle.error.specs.declared.Flag.the-variants.{Is, Refused}
 use Rattle.error.specs.Result.{ok, refused, onResult}
@@ -16,9 +17,10 @@ use Rattle.value_same.specs.Same.{sameContent}
 use Rattle.row_column.specs.Frame.{frameOf, onFrame}
 use Rattle.row_decode.specs.Read.{readFrom}
 
--- "a read of all columns"
-abbrev pub allColumns : ℕ → ℕ → List DataType → List ℕ → Values
-allColumns w limit ts r = onFrame (frameOf w limit ts r) refused (λ p. readFrom w p ts (λ i. true) r 0 (length ts))
+-- "a read of all columns", of a row r that is taken as of sort k
+abbrev pub allColumns : Bool → List DataType → List ℕ → Values
+allColumns k ts r =
+    onFrame (frameOf k ts r) refused (λ p. readFrom (offsetWidth k) p ts (λ i. true) r 0 (length ts))
 
 -- the values vs of row a and us of row b, column by column; a row with no value for a column has not the same content
 abbrev pub sameValues : List DataType → List ℕ → List DataValue → List ℕ → List DataValue → Bool
@@ -30,12 +32,12 @@ sameValues (t ∷ ts) a (v ∷ vs) b (u ∷ us) =
 
 -- "It refuses as a read of all columns of the first row, then of the second."
 abbrev pub onValues : Values → (List DataValue → Flag) → Flag
-onValues (ok vs) k = k vs
-onValues (refused e) k = Refused e
+onValues (ok vs) f = f vs
+onValues (refused e) f = Refused e
 
-abbrev pub sameRows : ℕ → ℕ → List DataType → List ℕ → List ℕ → Flag
-sameRows w limit ts a b =
-    onValues (allColumns w limit ts a) (λ vs. onValues (allColumns w limit ts b) (λ us. Is (sameValues ts a vs b us)))
+abbrev pub sameRows : Bool → List DataType → List ℕ → List ℕ → Flag
+sameRows k ts a b =
+    onValues (allColumns k ts a) (λ vs. onValues (allColumns k ts b) (λ us. Is (sameValues ts a vs b us)))
 
-abbrev pub sameCall : ℕ → ℕ → List ℕ → List ℕ → List ℕ → Flag
-sameCall w limit schema a b = onResult (schemaOf w limit schema) Refused (λ ts. sameRows w limit ts a b)
+abbrev pub sameCall : Bool → List ℕ → List ℕ → List ℕ → Flag
+sameCall k schema a b = onResult (schemaOf k schema) Refused (λ ts. sameRows k ts a b)

@@ -12,12 +12,12 @@ use row_layout::RowLayout;
 use row_layout::VarlenRange;
 use value::DataValue;
 ghost use mathlib.Core.Path.{_≡_};
-ghost use mathlib.Core.Bool.{true};
+ghost use mathlib.Core.Bool.{true, false};
 ghost use Prim.Native.Nat.{_+_, _*_, _≤_, _<_};
 ghost use lib.ListN.{length};
 ghost use Rattle.laws.specs.Bytes.{sameBytes};
 ghost use Rattle.error.specs.Result.{refused};
-ghost use Rattle.row_format.specs.Places.{offsetWidth, rowLimit};
+ghost use Rattle.row_format.specs.Places.{offsetWidth};
 ghost use Rattle.row_layout.specs.Layout.{sizeIn};
 ghost use Rattle.row_layout.specs.Range.{varlenRange};
 ghost use Rattle.datatype.specs.Types.{lengthOf};
@@ -34,17 +34,19 @@ ghost use Rattle.row_same.specs.InnerWalk.{comparedWith, comparedAt, wal
 ghost use Rattle.row_same.specs.InnerStored.{alikeRanges, fixedPart, storedAlike, Beside};
 
 // Whether the Varchars of a rank stand in ranges of the same bytes.
-fn same_ranges(a: &[u8], b: &[u8], table: usize, varlens: usize, rank: usize) -> bool
+fn same_ranges(a: &[u8], b: &[u8], is_long: bool, table: usize, varlens: usize, rank: usize) -> bool
     requires { ⌜ (rank < varlens)
-        × ((table + varlens * offsetWidth ≤ length (now a)) × (table + varlens * offsetWidth ≤ length (now b))) ⌝ }
-    ensures { λ r. ⌜ r ≡ alikeRanges (now (a .entry)) (varlenRange offsetWidth table varlens rank (now (a .entry)))
-        (now (b .entry)) (varlenRange offsetWidth table varlens rank (now (b .entry))) ⌝ }
+        × ((table + varlens * offsetWidth «is_long» ≤ length (now a))
+        × (table + varlens * offsetWidth «is_long» ≤ length (now b))) ⌝ }
+    ensures { λ r. ⌜ r
+        ≡ alikeRanges (now (a .entry)) (varlenRange (offsetWidth «is_long») table varlens rank (now (a .entry)))
+        (now (b .entry)) (varlenRange (offsetWidth «is_long») table varlens rank (now (b .entry))) ⌝ }
 {
-    match row_layout::varlen_range(a, table, varlens, rank) {
+    match row_layout::varlen_range(a, is_long, table, varlens, rank) {
         VarlenRange::Null => false,
         VarlenRange::Outside => false,
         VarlenRange::Bytes(start, end) => {
-            match row_layout::varlen_range(b, table, varlens, rank) {
+            match row_layout::varlen_range(b, is_long, table, varlens, rank) {
                 VarlenRange::Null => false,
                 VarlenRange::Outside => false,
                 VarlenRange::Bytes(from, to) => { endian::same_bytes(&a[start..end], &b[from..to]) }
@@ -111,7 +113,7 @@ fn same_stored(
     let rank = before.num_varlen_cols;
     if rank < after.num_varlen_cols {
         let table = layout.varlen_table_offset();
-        return same_ranges(a, b, table, layout.num_varlen_cols, rank);
+        return same_ranges(a, b, layout.is_long, table, layout.num_varlen_cols, rank);
     }
     same_slots(layout, before, after, p, a, q, b)
 }
@@ -209,7 +211,7 @@ fn compare_framed(schema: &[u8], layout: RowLayout, p: bool, a: &[u8], b: &[u8])
     requires { ⌜ Framed (now schema) layout p (now a) × AllRead (walkedAll (typesIn (now schema)) layout (now a) p) ⌝ }
     ensures { λ r. ⌜ r ≡ bothRead (typesIn (now (schema .entry)))
         (now (a .entry)) (walkedAll (typesIn (now (schema .entry))) layout (now (a .entry)) p)
-        (now (b .entry)) (onFrame (walkedFrame rowLimit layout (now (b .entry))) refused
+        (now (b .entry)) (onFrame (walkedFrame layout (now (b .entry))) refused
         (walkedAll (typesIn (now (schema .entry))) layout (now (b .entry)))) ⌝ }
 {
     match row_column::check_frame(layout, b) {
@@ -223,7 +225,7 @@ fn compare_read(schema: &[u8], layout: RowLayout, p: bool, a: &[u8], b: &[u8]) -
     requires { ⌜ Framed (now schema) layout p (now a) ⌝ }
     ensures { λ r. ⌜ r ≡ bothRead (typesIn (now (schema .entry)))
         (now (a .entry)) (walkedAll (typesIn (now (schema .entry))) layout (now (a .entry)) p)
-        (now (b .entry)) (onFrame (walkedFrame rowLimit layout (now (b .entry))) refused
+        (now (b .entry)) (onFrame (walkedFrame layout (now (b .entry))) refused
         (walkedAll (typesIn (now (schema .entry))) layout (now (b .entry)))) ⌝ }
 {
     match row_reads::check_columns(schema, layout, p, a, RowLayout::new(), 0, true) {
@@ -235,7 +237,7 @@ fn compare_read(schema: &[u8], layout: RowLayout, p: bool, a: &[u8], b: &[u8]) -
 fn compare_rows(schema: &[u8], layout: RowLayout, a: &[u8], b: &[u8]) -> Flag
     requires { ⌜ Accepted (now schema) layout ⌝ }
     ensures { λ r.
-        ⌜ r ≡ sameRows offsetWidth rowLimit (typesIn (now (schema .entry))) (now (a .entry)) (now (b .entry)) ⌝ }
+        ⌜ r ≡ sameRows (layout .«is_long») (typesIn (now (schema .entry))) (now (a .entry)) (now (b .entry)) ⌝ }
 {
     match row_column::check_frame(layout, a) {
         Frame::Refused(e) => Flag::Refused(e),
@@ -245,10 +247,10 @@ fn compare_rows(schema: &[u8], layout: RowLayout, a: &[u8], b: &[u8]) -> Flag
 
 // Whether two rows have the same content.
 pub fn same_content(schema: &[u8], a: &[u8], b: &[u8]) -> Flag
-    ensures { λ r. ⌜ r ≡ sameCall offsetWidth rowLimit (now (schema .entry)) (now (a .entry)) (now (b .entry)) ⌝ }
+    ensures { λ r. ⌜ r ≡ sameCall false (now (schema .entry)) (now (a .entry)) (now (b .entry)) ⌝ }
 {
-    match datatype::check_schema(schema) {
+    match datatype::check_schema(schema, false) {
         SchemaCheck::Refused(e) => Flag::Refused(e),
-        SchemaCheck::Good(layout) => compare_rows(schema, layout, a, b),
+        SchemaCheck::Good(layout) => compare_rows(schema, layout.of_sort(false), a, b),
     }
 }

@@ -5,7 +5,7 @@ use mathlib.Core.Bool.{Bool, true, false, cond}
 use mathlib.Core.List.{List, [], _++_, map, append-assoc}
 use mathlib.Core.Option.{none, some}
 use native.Mathlib.Omega.{arith}
-use borrow.Author.Tests.{le-ltb, le-leb, eq-eqb}
+use borrow.Author.Tests.{le-ltb, eq-eqb}
 use lib.Dec.{eqb}
 use lib.ListN.{length, getD, take, drop, length-map, length-drop}
 use lib.Seq.{take-append-le, drop-append-le, drop-append-seam, drop-cons}
@@ -15,14 +15,15 @@ use Rattle.laws.specs.InnerForall.{Forall₂, nil, cons}
 use Rattle.laws.proofs.Forall.{forall-get, forall-length}
 use Rattle.row_format.specs.declared.Shape.{Shape}
 use Rattle.row_format.specs.declared.Shape.the-variants.{Fixed, Varlen}
-use Rattle.row_format.specs.Places.{varlens, slotStart, bitmapSize, bitmapStart, minimum, offsetWidth}
+use Rattle.row_format.specs.Places.{varlens, slotStart, bitmapSize, bitmapStart, minimum, offsetWidth, rowLimit}
 use Rattle.row_format.specs.Table.{Cell, bytes, lay}
-use Rattle.row_format.specs.Row.{packedFlag, header, nullBit, bitmap, varlenCells, rowWith, slotSize}
-use Rattle.row_format.proofs.Places.{packed-inside}
+use Rattle.row_format.specs.Row.{packedMarks, leastMark, header, nullBit, bitmap, varlenCells, rowWith, slotSize}
+use Rattle.row_format.proofs.Places.{packed-inside, varlens-le}
 use Rattle.row_format.proofs.Bitmap.{length-bitmap, bitmap-bit}
 use Rattle.row_format.proofs.Row.{length-header, header-columns, header-varlens, length-row, length-slots, length-varlens, of-rank}
 use Rattle.row_format.proofs.Cells.{unlessNull, columnBytes, cell-row}
 use Rattle.row_format.proofs.Zeroed.{Agree}
+use Rattle.row_format.proofs.Sorts.{fits-limit, marks-small, marks-count, marks-packed}
 use Rattle.row_format.specs.InnerRow.{FitsCell, FitsSlot}
 use Rattle.datatype.specs.declared.DataType.{DataType}
 use Rattle.datatype.specs.declared.DataType.the-variants.{Varchar}
@@ -79,21 +80,21 @@ written-slot t (some b) slot e h = rw (h b refl) e
 
 -- ---- a good header
 
-pub good-frame : (w limit : ℕ) (ts : List DataType) (p : Bool) (r : List ℕ) → length r ≤ limit → columnCount r
+pub good-frame : (k : Bool) (ts : List DataType) (p : Bool) (r : List ℕ) → length r ≤ rowLimit k → columnCount r
     ≡ length ts
-    → varlenField r % packedFlag ≡ varlens (map shapeOf ts) → isPacked r ≡ p → minimum w p (map shapeOf ts) ≤ length r
-    → frameOf w limit ts r ≡ Good p
-good-frame w limit ts p r a n v f m =
+    → varlenField r % leastMark k ≡ varlens (map shapeOf ts) → isPacked r ≡ p
+    → minimum (offsetWidth k) p (map shapeOf ts) ≤ length r → frameOf k ts r ≡ Good p
+good-frame k ts p r a n v f m =
     let h : 4 ≤ length r = omega arith in
     rw (
-      le-ltb limit (length r) a,
+      le-ltb (rowLimit k) (length r) a,
       le-ltb (length r) 4 h,
       eq-eqb (columnCount r) (length ts) n,
       eq-eqb
-          (varlenField r % packedFlag) (varlens (map shapeOf ts)) v,
+          (varlenField r % leastMark k) (varlens (map shapeOf ts)) v,
       f,
       le-ltb (length r)
-          (minimum w p (map shapeOf ts)) m,
+          (minimum (offsetWidth k) p (map shapeOf ts)) m,
     )
 
 -- ---- a packed row of such cells, whatever the slots of its null columns hold
@@ -102,15 +103,15 @@ pub fits-all : {ts : List DataType} {cs : List Cell} → Forall₂ Writes ts cs 
 fits-all nil = nil
 fits-all (cons w e) = cons (writes-fits w) (fits-all e)
 
-module _ {ts : List DataType} {cs : List Cell} {slots : List (List ℕ)} (written : Forall₂ Writes ts cs) (fit : Forall₂ FitsSlot (map shapeOf ts) slots) (agree : Agree (map shapeOf ts) cs slots) (fits : length (rowWith offsetWidth (header packedFlag (map shapeOf ts)) (map shapeOf ts) cs slots) < 256 ^ offsetWidth) where
+module _ (w marks : ℕ) {ts : List DataType} {cs : List Cell} {slots : List (List ℕ)} (written : Forall₂ Writes ts cs) (fit : Forall₂ FitsSlot (map shapeOf ts) slots) (agree : Agree (map shapeOf ts) cs slots) (fits : length (rowWith w (header marks (map shapeOf ts)) (map shapeOf ts) cs slots) < 256 ^ w) where
   abbrev ss : List Shape
   ss = map shapeOf ts
 
   abbrev head : List ℕ
-  head = header packedFlag ss
+  head = header marks ss
 
   abbrev row : List ℕ
-  row = rowWith offsetWidth head ss cs slots
+  row = rowWith w head ss cs slots
 
   abbrev bits : List ℕ
   bits = bitmap (bitmapSize (length ss)) cs
@@ -118,12 +119,12 @@ module _ {ts : List DataType} {cs : List Cell} {slots : List (List ℕ)} (writte
   cells : Forall₂ FitsCell ss cs
   cells = fits-all written
 
-  row-parts : row ≡ lay offsetWidth (head ++ bits) (concat slots) (varlenCells ss cs)
+  row-parts : row ≡ lay w (head ++ bits) (concat slots) (varlenCells ss cs)
   unfolding rowWith
   row-parts = refl
 
-  parts : Parts true ts head bits (concat slots) (varlenCells ss cs)
-  parts = record { four = length-header packedFlag ss; bitmap = length-bitmap (bitmapSize (length ss)) cs; fixed = length-slots fit; cells = length-varlens cells; fits = rw row-parts at fits }
+  parts : Parts w true ts head bits (concat slots) (varlenCells ss cs)
+  parts = record { four = length-header marks ss; bitmap = length-bitmap (bitmapSize (length ss)) cs; fixed = length-slots fit; cells = length-varlens cells; fits = rw row-parts at fits }
 
   module _ (i : ℕ) (h : i < length ts) where
     abbrev cell : Cell
@@ -146,31 +147,47 @@ module _ {ts : List DataType} {cs : List Cell} {slots : List (List ℕ)} (writte
         let shape : getD ss i Varlen ≡ Fixed (sizeOf (typeAt ts i)) (alignmentOf (typeAt ts i)) = shape-at ts i ∙ rw v in
         let inside : slotStart true ss i + sizeOf (typeAt ts i) ≤ length (concat slots) = rw (parts .fixed) (rw (ap slotSize shape) at (packed-inside ss i below)) in
         let bit : bitAt i (drop bitmapStart row) ≡ 0 = rw row-parts (bit-of parts i h) ∙ bit-is ∙ rw e in
-        let read : unlessNull 0 (columnBytes offsetWidth ss i (Fixed (sizeOf (typeAt ts i)) (alignmentOf (typeAt ts i))) row) ≡ some b
-        = rw (bit, shape) at (cell-row offsetWidth head (length-header packedFlag ss) cells fit agree i below fits) ∙ e in
+        let read : unlessNull 0 (columnBytes w ss i (Fixed (sizeOf (typeAt ts i)) (alignmentOf (typeAt ts i))) row) ≡ some b
+        = rw (bit, shape) at (cell-row w head (length-header marks ss) cells fit agree i below fits) ∙ e in
         sym (slot-of parts (slotStart true ss i) (sizeOf (typeAt ts i)) inside) ∙ rw row-parts at (ap bytes read)
 
     by-kind : (x : Bool) → isVarlen (typeAt ts i) ≡ x → soundPart true ts bits (concat slots) (varlenCells ss cs) i ≡ true
     by-kind true v = rw (v, bit-is, of-rank i cells below (shape-at ts i ∙ rw v) .cell) (written-cell (typeAt ts i) cell holds)
     by-kind false v = rw (v, bit-is) (written-slot (typeAt ts i) cell _ holds (λ b e. slot-is b e v))
 
-  pub cells-sound-in : isSoundIn offsetWidth true ts row ≡ true
+  pub cells-sound-in : isSoundIn w true ts row ≡ true
   cells-sound-in = rw row-parts (laid-sound parts (λ i h. by-kind i h (isVarlen (typeAt ts i)) refl))
 
-  cells-long : minimum offsetWidth true ss ≤ length row
-  cells-long = rw (length-row offsetWidth head (length-header packedFlag ss) cells fit) (omega arith)
+  cells-long : minimum w true ss ≤ length row
+  cells-long = rw (length-row w head (length-header marks ss) cells fit) (omega arith)
 
-  -- its header is read back
-  pub cells-frame : (limit : ℕ) → length ts ≤ 256 → length row ≤ limit → frameOf offsetWidth limit ts row ≡ Good true
+  -- its header, up to whatever comes behind it
+  cells-head : row ≡ head ++ (bits ++ drop (length (head ++ bits)) row)
   unfolding lay
-  cells-frame limit few short =
-      let n : length ss ≡ length ts = length-map ts shapeOf in
-      let v : varlens ss < 32768 = omega (arith, cells-long, fits) in
-      let four = length-header packedFlag ss in
+  cells-head = row-parts ∙ rw row-parts (rw (drop-append-seam, append-assoc))
+
+  cells-count : length ss < 65536 → columnCount row ≡ length ss
+  cells-count few =
+      let four = length-header marks ss in
       let rest : List ℕ = bits ++ drop (length (head ++ bits)) row in
-      let cut : row ≡ head ++ rest = row-parts ∙ rw row-parts (rw (drop-append-seam, append-assoc)) in
-      let columns : columnCount row ≡ length ss = rw cut (ap fromLe (take-append-le 2 head rest (omega (arith, four))) ∙ header-columns packedFlag ss (omega arith)) in
-      let field : varlenField row ≡ varlens ss + packedFlag =
-      rw cut (ap fromLe (ap (take 2) (drop-append-le 2 head rest (omega (arith, four))) ∙ take-append-le 2 (drop 2 head) rest (rw (length-drop, four) (omega arith))) ∙ header-varlens packedFlag ss (omega arith)) in
-      good-frame offsetWidth limit ts true row short (columns ∙ n) (rw field (omega arith))
-      (rw field (le-leb packedFlag (varlens ss + packedFlag) (omega arith))) cells-long
+      ap columnCount cells-head ∙ ap fromLe (take-append-le 2 head rest (omega (arith, four))) ∙ header-columns marks ss few
+
+  cells-field : varlens ss + marks < 65536 → varlenField row ≡ varlens ss + marks
+  cells-field small =
+      let four = length-header marks ss in
+      let rest : List ℕ = bits ++ drop (length (head ++ bits)) row in
+      ap varlenField cells-head ∙ ap fromLe (ap (take 2) (drop-append-le 2 head rest (omega (arith, four))) ∙ take-append-le 2 (drop 2 head) rest (rw (length-drop, four) (omega arith))) ∙ header-varlens marks ss small
+
+-- its header is read back, with the marks of its sort
+pub cells-frame : (k : Bool) {ts : List DataType} {cs : List Cell} {slots : List (List ℕ)} → Forall₂ Writes ts cs → Forall₂ FitsSlot (map shapeOf ts) slots → Agree (map shapeOf ts) cs slots → length ts ≤ 256
+    → length (rowWith (offsetWidth k) (header (packedMarks k) (map shapeOf ts)) (map shapeOf ts) cs slots) ≤ rowLimit k
+    → frameOf k ts (rowWith (offsetWidth k) (header (packedMarks k) (map shapeOf ts)) (map shapeOf ts) cs slots) ≡ Good true
+cells-frame k {ts} {cs} {slots} written fit agree few short =
+    let ss : List Shape = map shapeOf ts in
+    let row : List ℕ = rowWith (offsetWidth k) (header (packedMarks k) ss) ss cs slots in
+    let n : length ss ≡ length ts = length-map ts shapeOf in
+    let v : varlens ss < 16384 = omega (arith, varlens-le ss, n) in
+    let fits = fits-limit k short in
+    let field : varlenField row ≡ varlens ss + packedMarks k = cells-field (offsetWidth k) (packedMarks k) written fit agree fits (marks-small k v) in
+    good-frame k ts true row short (cells-count (offsetWidth k) (packedMarks k) written fit agree fits (omega (arith, n)) ∙ n) (rw field (marks-count k v))
+    (rw field (marks-packed k (varlens ss))) (cells-long (offsetWidth k) (packedMarks k) written fit agree fits)

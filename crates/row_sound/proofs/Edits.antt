@@ -15,7 +15,7 @@ use Rattle.laws.proofs.Parts.{part-at, part-same}
 use Rattle.laws.proofs.Truths.{cases, same-or}
 use Rattle.row_format.specs.declared.Shape.{Shape}
 use Rattle.row_format.specs.declared.Shape.the-variants.{Fixed, Varlen}
-use Rattle.row_format.specs.Places.{rankOf, slotStart, bitmapSize, minimum, offsetWidth}
+use Rattle.row_format.specs.Places.{rankOf, slotStart, bitmapSize, minimum}
 use Rattle.row_format.specs.Table.{Cell, bytes, payloads, lay}
 use Rattle.row_format.specs.Row.{nullBit, slotSize}
 use Rattle.row_format.specs.Edit.{slotEdit, editedRow}
@@ -73,8 +73,8 @@ rank-rises ss i j h l v =
 
 -- ---- a row laid out of parts, each column of which is sound, and column i set to c
 
-module _ {p : Bool} {ts : List DataType} {head bits region : List ℕ} {ps : List Cell} (q : Parts p ts head bits region ps) (sound : (j : ℕ) → j < length ts → soundPart p ts bits region ps j ≡ true)
-    (i : ℕ) (h : i < length ts) (c : Cell) (w : Writes (typeAt ts i) c) where
+module _ {w : ℕ} {p : Bool} {ts : List DataType} {head bits region : List ℕ} {ps : List Cell} (q : Parts w p ts head bits region ps) (sound : (j : ℕ) → j < length ts → soundPart p ts bits region ps j ≡ true)
+    (i : ℕ) (h : i < length ts) (c : Cell) (put : Writes (typeAt ts i) c) where
   abbrev ss : List Shape
   ss = map shapeOf ts
 
@@ -111,7 +111,7 @@ module _ {p : Bool} {ts : List DataType} {head bits region : List ℕ} {ps : Lis
     inside = rw (q .fixed) (rw (ap slotSize shape) at (slot-inside p ss i (all-aligned ts) (below i h)))
 
     fits : FitsCell (Fixed (sizeOf t) (alignmentOf t)) c
-    fits = rw v at (writes-fits w)
+    fits = rw v at (writes-fits put)
 
     sized : (b : List ℕ) → c ≡ some b → length b ≡ sizeOf t
     sized b e = rw e at fits
@@ -157,24 +157,24 @@ module _ {p : Bool} {ts : List DataType} {head bits region : List ℕ} {ps : Lis
     varchar-own = rw (v, getD-set-same ps (rankOf ss i) c none rank-within)
 
   abbrev row : List ℕ
-  row = lay offsetWidth (head ++ bits) region ps
+  row = lay w (head ++ bits) region ps
 
   -- the edited row: it is laid out of parts again, in which column i holds the cell and the others what they held
   pub record Edited (r : List ℕ) : Type 0 where
     pub new-region : List ℕ
     pub new-cells : List Cell
-    pub parts : Parts p ts head newBits new-region new-cells
-    pub row-is : r ≡ lay offsetWidth (head ++ newBits) new-region new-cells
+    pub parts : Parts w p ts head newBits new-region new-cells
+    pub row-is : r ≡ lay w (head ++ newBits) new-region new-cells
     pub own : (b : List ℕ) → c ≡ some b → heldPart p ts new-region new-cells i ≡ some b
     pub own-varchar : isVarlen t ≡ true → heldPart p ts new-region new-cells i ≡ c
     pub others : (j : ℕ) → j < length ts → (i ≡ j → ⊥) → heldPart p ts new-region new-cells j ≡ heldPart p ts region ps j
     pub long-fixed : isVarlen t ≡ false → length r ≡ length row
     pub long-varchar : isVarlen t ≡ true → length r + length (bytes (heldPart p ts region ps i)) ≡ length row + length (bytes c)
 
-  fixed-edited : isVarlen t ≡ false → length (editedRow offsetWidth p ss i c row) < 256 ^ offsetWidth → Edited (editedRow offsetWidth p ss i c row)
+  fixed-edited : isVarlen t ≡ false → length (editedRow w p ss i c row) < 256 ^ w → Edited (editedRow w p ss i c row)
   fixed-edited v short =
-      let e : editedRow offsetWidth p ss i c row ≡ lay offsetWidth (head ++ newBits) (newRegion v) ps = edit-fixed offsetWidth p ss i (below i h) head bits region ps (q .four) (q .bitmap) (q .cells) c (sizeOf t) (alignmentOf t) (shape v) (fits v) (inside v) in
-      let u : Parts p ts head newBits (newRegion v) ps = record { four = q .four; bitmap = length-bits; fixed = length-slot (start v) (sizeOf t) region (inside v) c (sized v) ∙ q .fixed; cells = q .cells; fits = rw e at short } in
+      let e : editedRow w p ss i c row ≡ lay w (head ++ newBits) (newRegion v) ps = edit-fixed w p ss i (below i h) head bits region ps (q .four) (q .bitmap) (q .cells) c (sizeOf t) (alignmentOf t) (shape v) (fits v) (inside v) in
+      let u : Parts w p ts head newBits (newRegion v) ps = record { four = q .four; bitmap = length-bits; fixed = length-slot (start v) (sizeOf t) region (inside v) c (sized v) ∙ q .fixed; cells = q .cells; fits = rw e at short } in
       record {
         new-region = newRegion v;
         new-cells = ps;
@@ -187,10 +187,10 @@ module _ {p : Bool} {ts : List DataType} {head bits region : List ℕ} {ps : Lis
         long-varchar = λ f. absurd (false≢true (sym v ∙ f));
       }
 
-  varchar-edited : isVarlen t ≡ true → length (editedRow offsetWidth p ss i c row) < 256 ^ offsetWidth → Edited (editedRow offsetWidth p ss i c row)
+  varchar-edited : isVarlen t ≡ true → length (editedRow w p ss i c row) < 256 ^ w → Edited (editedRow w p ss i c row)
   varchar-edited v short =
-      let e : editedRow offsetWidth p ss i c row ≡ lay offsetWidth (head ++ newBits) region (newCells v) = edit-varlen offsetWidth p ss i (below i h) head bits region ps (q .four) (q .bitmap) (q .cells) c (is-varlen v i v) (q .fits) in
-      let u : Parts p ts head newBits region (newCells v) = record { four = q .four; bitmap = length-bits; fixed = q .fixed; cells = length-set ps (rankOf ss i) c ∙ q .cells; fits = rw e at short } in
+      let e : editedRow w p ss i c row ≡ lay w (head ++ newBits) region (newCells v) = edit-varlen w p ss i (below i h) head bits region ps (q .four) (q .bitmap) (q .cells) c (is-varlen v i v) (q .fits) in
+      let u : Parts w p ts head newBits region (newCells v) = record { four = q .four; bitmap = length-bits; fixed = q .fixed; cells = length-set ps (rankOf ss i) c ∙ q .cells; fits = rw e at short } in
       record {
         new-region = region;
         new-cells = newCells v;
@@ -203,15 +203,15 @@ module _ {p : Bool} {ts : List DataType} {head bits region : List ℕ} {ps : Lis
         long-varchar = λ f. rw (v, ap length e, laid-length u, laid-length q) (omega (arith, payloads-set ps (rankOf ss i) c (rank-within v)));
       }
 
-  pub edited : length (editedRow offsetWidth p ss i c row) < 256 ^ offsetWidth → Edited (editedRow offsetWidth p ss i c row)
+  pub edited : length (editedRow w p ss i c row) < 256 ^ w → Edited (editedRow w p ss i c row)
   edited = by-kind (isVarlen t) refl
     where
-      by-kind : (x : Bool) → isVarlen t ≡ x → length (editedRow offsetWidth p ss i c row) < 256 ^ offsetWidth → Edited (editedRow offsetWidth p ss i c row)
+      by-kind : (x : Bool) → isVarlen t ≡ x → length (editedRow w p ss i c row) < 256 ^ w → Edited (editedRow w p ss i c row)
       by-kind true v = varchar-edited v
       by-kind false v = fixed-edited v
 
   module _ {r : List ℕ} (e : Edited r) where
-    pub edited-long : minimum offsetWidth p ss ≤ length r
+    pub edited-long : minimum w p ss ≤ length r
     edited-long = rw (e .row-is, laid-length (e .parts)) (omega arith)
 
     pub edited-head : take 4 r ≡ head
@@ -221,8 +221,8 @@ module _ {p : Bool} {ts : List DataType} {head bits region : List ℕ} {ps : Lis
     -- ---- it is sound
 
     own-sound : (x : Bool) → isVarlen t ≡ x → soundPart p ts newBits (e .new-region) (e .new-cells) i ≡ true
-    own-sound true v = rw (bit-new, e .own-varchar v, v) (written-cell t c (writes-form w))
-    own-sound false v = rw (bit-new, v) (written-slot t c _ (writes-form w) (λ b f. rw v at (ap bytes (e .own b f))))
+    own-sound true v = rw (bit-new, e .own-varchar v, v) (written-cell t c (writes-form put))
+    own-sound false v = rw (bit-new, v) (written-slot t c _ (writes-form put) (λ b f. rw v at (ap bytes (e .own b f))))
 
     other-sound : (j : ℕ) → j < length ts → (i ≡ j → ⊥) → soundPart p ts newBits (e .new-region) (e .new-cells) j ≡ soundPart p ts bits region ps j
     other-sound j l ne = rw (bit-kept j ne, e .others j l ne)
@@ -230,33 +230,33 @@ module _ {p : Bool} {ts : List DataType} {head bits region : List ℕ} {ps : Lis
     each-sound : (j : ℕ) → j < length ts → soundPart p ts newBits (e .new-region) (e .new-cells) j ≡ true
     each-sound j l = same-or i j (λ f. ap (soundPart p ts newBits (e .new-region) (e .new-cells)) (sym f) ∙ own-sound (isVarlen t) refl) (λ ne. other-sound j l ne ∙ sound j l)
 
-    pub edited-sound : isSoundIn offsetWidth p ts r ≡ true
+    pub edited-sound : isSoundIn w p ts r ≡ true
     edited-sound = rw (e .row-is) (laid-sound (e .parts) each-sound)
 
     -- ---- what is read of it
 
-    content-new : (j : ℕ) → j < length ts → columnContent offsetWidth p ts j r ≡ heldContent (typeAt ts j) j (eqb (bitAt j newBits) 1) (heldPart p ts (e .new-region) (e .new-cells) j)
+    content-new : (j : ℕ) → j < length ts → columnContent w p ts j r ≡ heldContent (typeAt ts j) j (eqb (bitAt j newBits) 1) (heldPart p ts (e .new-region) (e .new-cells) j)
     content-new j l = rw (e .row-is) (content-lay (e .parts) j l)
 
-    others-content : (j : ℕ) → j < length ts → (i ≡ j → ⊥) → columnContent offsetWidth p ts j r ≡ columnContent offsetWidth p ts j row
+    others-content : (j : ℕ) → j < length ts → (i ≡ j → ⊥) → columnContent w p ts j r ≡ columnContent w p ts j row
     others-content j l ne = content-new j l ∙ rw (bit-kept j ne, e .others j l ne) (sym (content-lay q j l))
 
-    own-content : columnContent offsetWidth p ts i r ≡ writtenContent w
-    own-content = content-new i h ∙ rw bit-new (by-cell c refl) ∙ written-content i w
+    own-content : columnContent w p ts i r ≡ writtenContent put
+    own-content = content-new i h ∙ rw bit-new (by-cell c refl) ∙ written-content i put
       where
         by-cell : (d : Cell) → c ≡ d → heldContent t i (eqb (nullBit c) 1) (heldPart p ts (e .new-region) (e .new-cells) i) ≡ heldContent t i (eqb (nullBit c) 1) c
         by-cell none f = rw f (null-held t i (heldPart p ts (e .new-region) (e .new-cells) i))
         by-cell (some b) f = ap (heldContent t i (eqb (nullBit c) 1)) (e .own b f ∙ sym f)
 
-    payload-change : (x : Bool) → isVarlen t ≡ x → length r + length (payloadOf offsetWidth p ts i row) ≡ length row + length (payloadOf offsetWidth p ts i r)
+    payload-change : (x : Bool) → isVarlen t ≡ x → length r + length (payloadOf w p ts i row) ≡ length row + length (payloadOf w p ts i r)
     payload-change true v =
-        let old : length (payloadOf offsetWidth p ts i row) ≡ length (bytes (heldPart p ts region ps i)) = ap length (payload-lay q i h v (sound i h)) in
-        let new : length (payloadOf offsetWidth p ts i r) ≡ length (bytes c) = ap (λ (x : List ℕ). length (payloadOf offsetWidth p ts i x)) (e .row-is) ∙ ap length (payload-lay (e .parts) i h v (each-sound i h) ∙ ap bytes (e .own-varchar v)) in
+        let old : length (payloadOf w p ts i row) ≡ length (bytes (heldPart p ts region ps i)) = ap length (payload-lay q i h v (sound i h)) in
+        let new : length (payloadOf w p ts i r) ≡ length (bytes c) = ap (λ (x : List ℕ). length (payloadOf w p ts i x)) (e .row-is) ∙ ap length (payload-lay (e .parts) i h v (each-sound i h) ∙ ap bytes (e .own-varchar v)) in
         ap (λ (n : ℕ). length r + n) old ∙ e .long-varchar v ∙ ap (λ (n : ℕ). length row + n) (sym new)
     payload-change false v = rw v (ap (λ (n : ℕ). n + 0) (e .long-fixed v))
 
-    long-new : length r ≡ lengthIn offsetWidth p ts r
-    long-new = subst (λ (x : List ℕ). length x ≡ lengthIn offsetWidth p ts x) (sym (e .row-is)) (payload-length (e .parts) each-sound)
+    long-new : length r ≡ lengthIn w p ts r
+    long-new = subst (λ (x : List ℕ). length x ≡ lengthIn w p ts x) (sym (e .row-is)) (payload-length (e .parts) each-sound)
 
-    pub reread : Reread offsetWidth p ts i (writtenContent w) row r
+    pub reread : Reread w p ts i (writtenContent put) row r
     reread = record { own = own-content; others = others-content; long = long-new; change = payload-change (isVarlen t) refl }

@@ -15,7 +15,7 @@ use Rattle.laws.specs.Bits.{bitAt}
 use Rattle.laws.specs.Bytes.{fromTable, entryAt}
 use Rattle.row_format.specs.declared.Shape.{Shape}
 use Rattle.row_format.specs.declared.Shape.the-variants.{Fixed, Varlen}
-use Rattle.row_format.specs.Places.{rankAfter, varlens, rankOf, slotStart, bitmapStart, tableStart, fixedStart, slotPlace, minimum, offsetWidth}
+use Rattle.row_format.specs.Places.{rankAfter, varlens, rankOf, slotStart, bitmapStart, tableStart, fixedStart, slotPlace, minimum}
 use Rattle.row_format.specs.Table.{Cell, bytes, payloads, offset, base, lay, firstOffset, rangeEnd}
 use Rattle.row_format.specs.Row.{slotSize}
 use Rattle.row_format.proofs.Places.{through-next, slot-inside, rank-inside}
@@ -39,10 +39,10 @@ use Rattle.row_sound.proofs.Contents.{reads-content, content-held, cell
 -- ---- a column of a row, by the places of its bytes
 
 -- a Varchar of rank k whose payload stands at `at` and holds the cell c
-module _ (t : DataType) (i table v k at : ℕ) (r : List ℕ) (pos : 0 < at) where
-  varchar-value : (null : Bool) (c : Cell) → entryAt offsetWidth table k r ≡ offset c at → rangeEnd offsetWidth table v k r ≡ at + length (bytes c) → at + length (bytes c) ≤ length r
+module _ (w : ℕ) (t : DataType) (i table v k at : ℕ) (r : List ℕ) (pos : 0 < at) where
+  varchar-value : (null : Bool) (c : Cell) → entryAt w table k r ≡ offset c at → rangeEnd w table v k r ≡ at + length (bytes c) → at + length (bytes c) ≤ length r
       → ((b : List ℕ) → c ≡ some b → take (length b) (drop at r) ≡ b)
-      → cond null (Value D.Null) (varlenValue t i r (varlenRange offsetWidth table v k r)) ≡ heldValue t i null at c
+      → cond null (Value D.Null) (varlenValue t i r (varlenRange w table v k r)) ≡ heldValue t i null at c
   varchar-value true none o e l h = refl
   varchar-value false none o e l h = rw o
   varchar-value true (some b) o e l h = refl
@@ -66,12 +66,12 @@ payload-inside [] k h = absurd (omega arith)
 payload-inside (c ∷ ps) zero h = rw length-append (omega arith)
 payload-inside (c ∷ ps) (suc k) h = simp length-append (omega (arith, payload-inside ps k (omega arith)))
 
-module _ {p : Bool} {ts : List DataType} {head bits region : List ℕ} {ps : List Cell} (q : Parts p ts head bits region ps) where
+module _ {w : ℕ} {p : Bool} {ts : List DataType} {head bits region : List ℕ} {ps : List Cell} (q : Parts w p ts head bits region ps) where
   abbrev ss : List Shape
   ss = map shapeOf ts
 
   abbrev row : List ℕ
-  row = lay offsetWidth (head ++ bits) region ps
+  row = lay w (head ++ bits) region ps
 
   length-front : length (head ++ bits) ≡ tableStart (length ss)
   length-front = rw (length-append, q .four, q .bitmap)
@@ -79,11 +79,11 @@ module _ {p : Bool} {ts : List DataType} {head bits region : List ℕ} {ps : Lis
   pos : 0 < length (head ++ bits)
   pos = omega (arith, length-front)
 
-  base-is : base offsetWidth (head ++ bits) region ps ≡ minimum offsetWidth p (map shapeOf ts)
+  base-is : base w (head ++ bits) region ps ≡ minimum w p (map shapeOf ts)
   base-is = rw (length-front, q .cells, q .fixed)
 
-  pub laid-length : length row ≡ minimum offsetWidth p (map shapeOf ts) + length (payloads ps)
-  laid-length = length-lay offsetWidth (head ++ bits) region ps ∙ ap (λ (n : ℕ). n + length (payloads ps)) base-is
+  pub laid-length : length row ≡ minimum w p (map shapeOf ts) + length (payloads ps)
+  laid-length = length-lay w (head ++ bits) region ps ∙ ap (λ (n : ℕ). n + length (payloads ps)) base-is
 
   pub bit-of : (i : ℕ) → i < length ts → bitAt i (drop bitmapStart row) ≡ bitAt i bits
   unfolding lay
@@ -92,9 +92,9 @@ module _ {p : Bool} {ts : List DataType} {head bits region : List ℕ} {ps : Lis
       let m : i / 8 < length bits = rw (q .bitmap, n) (omega arith) in
       rw (append-assoc head, drop-at head _ 4 (q .four), List·getD-append)
 
-  pub slot-of : (at z : ℕ) → at + z ≤ length region → take z (drop (fixedStart offsetWidth (length ss) (varlens ss) + at) row) ≡ take z (drop at region)
+  pub slot-of : (at z : ℕ) → at + z ≤ length region → take z (drop (fixedStart w (length ss) (varlens ss) + at) row) ≡ take z (drop at region)
   slot-of at z h =
-      rw (← length-front, ← q .cells, ← drop-drop at (length (head ++ bits) + length ps * offsetWidth) row, past-table, drop-append-le at region (payloads ps) (omega arith))
+      rw (← length-front, ← q .cells, ← drop-drop at (length (head ++ bits) + length ps * w) row, past-table, drop-append-le at region (payloads ps) (omega arith))
       (take-append-le z (drop at region) (payloads ps) (rw length-drop (omega arith)))
 
   module _ (i : ℕ) (h : i < length ts) where
@@ -119,20 +119,20 @@ module _ {p : Bool} {ts : List DataType} {head bits region : List ℕ} {ps : Lis
       cell = getD ps k none
 
       abbrev at : ℕ
-      at = minimum offsetWidth p (map shapeOf ts) + length (payloads (take k ps))
+      at = minimum w p (map shapeOf ts) + length (payloads (take k ps))
 
       rank : k < length ps
       rank = rw (q .cells) (rank-inside ss i below (shape-at ts i ∙ rw v))
 
-      at-is : place offsetWidth (head ++ bits) region pos ps k ≡ at
+      at-is : place w (head ++ bits) region pos ps k ≡ at
       at-is = ap (λ (n : ℕ). n + length (payloads (take k ps))) base-is
 
-      entry : entryAt offsetWidth (tableStart (length ss)) k row ≡ offset cell at
-      entry = ap (λ (n : ℕ). entryAt offsetWidth n k row) (sym length-front) ∙ entry-lay offsetWidth (head ++ bits) region pos ps k rank (q .fits) ∙ ap (offset cell) at-is
+      entry : entryAt w (tableStart (length ss)) k row ≡ offset cell at
+      entry = ap (λ (n : ℕ). entryAt w n k row) (sym length-front) ∙ entry-lay w (head ++ bits) region pos ps k rank (q .fits) ∙ ap (offset cell) at-is
 
-      end : rangeEnd offsetWidth (tableStart (length ss)) (varlens ss) k row ≡ at + length (bytes cell)
+      end : rangeEnd w (tableStart (length ss)) (varlens ss) k row ≡ at + length (bytes cell)
       end =
-          ap₂ (λ (n m : ℕ). rangeEnd offsetWidth n m k row) (sym length-front) (sym (q .cells)) ∙ end-lay offsetWidth (head ++ bits) region pos ps k rank (q .fits)
+          ap₂ (λ (n m : ℕ). rangeEnd w n m k row) (sym length-front) (sym (q .cells)) ∙ end-lay w (head ++ bits) region pos ps k rank (q .fits)
           ∙ ap (λ (n : ℕ). n + length (bytes cell)) at-is
 
       within : at + length (bytes cell) ≤ length row
@@ -142,19 +142,19 @@ module _ {p : Bool} {ts : List DataType} {head bits region : List ℕ} {ps : Lis
       unfolding rangeBytes
       payload b e =
           let size : at + length b - at ≡ length b = omega arith in
-          let is = ap₂ (λ (n m : ℕ). rangeBytes offsetWidth n m k row) (sym length-front) (sym (q .cells)) ∙ range-lay offsetWidth (head ++ bits) region pos ps k b rank e (q .fits) in
+          let is = ap₂ (λ (n m : ℕ). rangeBytes w n m k row) (sym length-front) (sym (q .cells)) ∙ range-lay w (head ++ bits) region pos ps k b rank e (q .fits) in
           rw (end, entry, e, size) at is
 
-      varchar-lay : cond (eqb (bitAt i (drop bitmapStart row)) 1) (Value D.Null) (varlenValue t i row (varlenRange offsetWidth (tableStart (length ss)) (varlens ss) k row)) ≡ heldValue t i null at cell
-      varchar-lay = rw (bit-of i h) (varchar-value t i (tableStart (length ss)) (varlens ss) k at row (omega (arith, pos)) null cell entry end within payload)
+      varchar-lay : cond (eqb (bitAt i (drop bitmapStart row)) 1) (Value D.Null) (varlenValue t i row (varlenRange w (tableStart (length ss)) (varlens ss) k row)) ≡ heldValue t i null at cell
+      varchar-lay = rw (bit-of i h) (varchar-value w t i (tableStart (length ss)) (varlens ss) k at row (omega (arith, pos)) null cell entry end within payload)
 
-      offset-lay : cond (reads (heldContent t i null cell .0)) (zeroIfNull (entryAt offsetWidth (tableStart (length ss)) k row) (eqb (bitAt i (drop bitmapStart row)) 1)) false ≡ soundCell t null cell
+      offset-lay : cond (reads (heldContent t i null cell .0)) (zeroIfNull (entryAt w (tableStart (length ss)) k row) (eqb (bitAt i (drop bitmapStart row)) 1)) false ≡ soundCell t null cell
       offset-lay = rw (bit-of i h, entry) (cell-sound t i at null cell (omega (arith, pos)))
 
     -- a fixed column
     module _ (v : isVarlen t ≡ false) where
       abbrev start : ℕ
-      start = slotPlace offsetWidth p ss i
+      start = slotPlace w p ss i
 
       abbrev slot : List ℕ
       slot = take (sizeOf t) (drop (slotStart p ss i) region)
@@ -175,39 +175,39 @@ module _ {p : Bool} {ts : List DataType} {head bits region : List ℕ} {ps : Lis
     held = heldPart p ts region ps i
 
     -- what is read of it
-    pub value-lay : columnValue offsetWidth p ts i row ≡ heldValue t i null (heldPlace p ts ps i) held
+    pub value-lay : columnValue w p ts i row ≡ heldValue t i null (heldPlace w p ts ps i) held
     value-lay = by-kind (isVarlen t) refl
       where
-        by-kind : (x : Bool) → isVarlen t ≡ x → columnValue offsetWidth p ts i row
-            ≡ heldValue t i null (heldPlace p ts ps i) held
+        by-kind : (x : Bool) → isVarlen t ≡ x → columnValue w p ts i row
+            ≡ heldValue t i null (heldPlace w p ts ps i) held
         by-kind true v = rw (v, columns) (varchar-lay v)
         by-kind false v = rw v (fixed-lay v)
 
     -- the bytes stand in their place
-    pub held-lay : (b : List ℕ) → held ≡ some b → take (length b) (drop (heldPlace p ts ps i) row) ≡ b
+    pub held-lay : (b : List ℕ) → held ≡ some b → take (length b) (drop (heldPlace w p ts ps i) row) ≡ b
     held-lay = by-kind (isVarlen t) refl
       where
-        by-kind : (x : Bool) → isVarlen t ≡ x → (b : List ℕ) → held ≡ some b → take (length b) (drop (heldPlace p ts ps i) row) ≡ b
+        by-kind : (x : Bool) → isVarlen t ≡ x → (b : List ℕ) → held ≡ some b → take (length b) (drop (heldPlace w p ts ps i) row) ≡ b
         by-kind true v b e = rw v (payload v b (rw v at e))
         by-kind false v b e =
             let is : slot v ≡ b = ap bytes (rw v at e) in
             rw v (rw (slot-size v, slot-in v) at (ap (λ (x : List ℕ). take (length x) (drop (start v) row)) (sym is)) ∙ is)
 
-    pub content-lay : columnContent offsetWidth p ts i row ≡ heldContent t i null held
-    content-lay = ap (content row) value-lay ∙ content-held t i (heldPlace p ts ps i) row null held held-lay
+    pub content-lay : columnContent w p ts i row ≡ heldContent t i null held
+    content-lay = ap (content row) value-lay ∙ content-held t i (heldPlace w p ts ps i) row null held held-lay
 
     -- a Varchar's payload
-    pub payload-lay : isVarlen t ≡ true → soundPart p ts bits region ps i ≡ true → payloadOf offsetWidth p ts i row ≡ bytes held
+    pub payload-lay : isVarlen t ≡ true → soundPart p ts bits region ps i ≡ true → payloadOf w p ts i row ≡ bytes held
     payload-lay v s =
-        ap (λ (x : Bool). cond x (columnContent offsetWidth p ts i row .1) []) v
+        ap (λ (x : Bool). cond x (columnContent w p ts i row .1) []) v
         ∙ ap (λ (x : Content). x .1) content-lay
         ∙ sound-payload t i null held v (sym (ap (λ (x : Bool). cond x (soundCell t null held) (soundSlot t null (bytes held))) v) ∙ s)
 
-    reads-lay : reads (columnValue offsetWidth p ts i row) ≡ reads (heldContent t i null held .0)
+    reads-lay : reads (columnValue w p ts i row) ≡ reads (heldContent t i null held .0)
     reads-lay =
-        sym (reads-content row (columnValue offsetWidth p ts i row)) ∙ ap (λ (c : Content). reads (c .0)) content-lay
+        sym (reads-content row (columnValue w p ts i row)) ∙ ap (λ (c : Content). reads (c .0)) content-lay
 
-    pub column-lay : soundColumn offsetWidth p ts i row ≡ soundPart p ts bits region ps i
+    pub column-lay : soundColumn w p ts i row ≡ soundPart p ts bits region ps i
     unfolding soundColumn
     column-lay =
         ap (λ (x : Bool). cond x (cond (isVarlen t) (offsetSound (length ts)) true) false) reads-lay
@@ -216,7 +216,7 @@ module _ {p : Bool} {ts : List DataType} {head bits region : List ℕ} {ps : Lis
         ∙ by-kind (isVarlen t) refl
       where
         offsetSound : ℕ → Bool
-        offsetSound n = zeroIfNull (entryAt offsetWidth (tableStart n) (rankOf ss i) row)
+        offsetSound n = zeroIfNull (entryAt w (tableStart n) (rankOf ss i) row)
             (eqb (bitAt i (drop bitmapStart row)) 1)
 
         by-kind : (x : Bool) → isVarlen t ≡ x
@@ -225,45 +225,45 @@ module _ {p : Bool} {ts : List DataType} {head bits region : List ℕ} {ps : Lis
         by-kind true v = rw v (offset-lay v)
         by-kind false v = rw v (slot-sound t i null (slot v))
 
-  pub first-lay : firstPayload offsetWidth (tableStart (length ts)) (varlens ss) row
-      ≡ minimum offsetWidth p (map shapeOf ts)
+  pub first-lay : firstPayload w (tableStart (length ts)) (varlens ss) row
+      ≡ minimum w p (map shapeOf ts)
   first-lay =
       let front : List ℕ = head ++ bits in
-      ap₂ (λ (n m : ℕ). firstOffset (fromTable offsetWidth m (drop n row)) (length row))
+      ap₂ (λ (n m : ℕ). firstOffset (fromTable w m (drop n row)) (length row))
       (ap tableStart (sym (length-map ts shapeOf)) ∙ sym length-front) (sym (q .cells))
-      ∙ rw (table-read offsetWidth front region ps (q .fits)) (first-offsets (length row) (base offsetWidth front region ps) ps (omega (arith, pos)) (sym (length-lay offsetWidth front region ps)))
+      ∙ rw (table-read w front region ps (q .fits)) (first-offsets (length row) (base w front region ps) ps (omega (arith, pos)) (sym (length-lay w front region ps)))
       ∙ base-is
 
   -- the row is sound if each of its columns is
-  pub laid-sound : ((i : ℕ) → i < length ts → soundPart p ts bits region ps i ≡ true) → isSoundIn offsetWidth p ts row
+  pub laid-sound : ((i : ℕ) → i < length ts → soundPart p ts bits region ps i ≡ true) → isSoundIn w p ts row
       ≡ true
   laid-sound all =
-      rw (columns-sound offsetWidth p ts row (λ i h. column-lay i h ∙ all i h))
-      (eq-eqb (firstPayload offsetWidth (tableStart (length ts)) (varlens ss) row)
-      (minimum offsetWidth p ss) first-lay)
+      rw (columns-sound w p ts row (λ i h. column-lay i h ∙ all i h))
+      (eq-eqb (firstPayload w (tableStart (length ts)) (varlens ss) row)
+      (minimum w p ss) first-lay)
 
   -- its length, by the payloads that are read
   module _ (all : (i : ℕ) → i < length ts → soundPart p ts bits region ps i ≡ true) where
-    payload-next : (n : ℕ) → n < length ts → (x : Bool) → isVarlen (typeAt ts n) ≡ x → length (payloads (take (rankOf ss n) ps)) + length (payloadOf offsetWidth p ts n row) ≡ length (payloads (take (rankOf ss (suc n)) ps))
+    payload-next : (n : ℕ) → n < length ts → (x : Bool) → isVarlen (typeAt ts n) ≡ x → length (payloads (take (rankOf ss n) ps)) + length (payloadOf w p ts n row) ≡ length (payloads (take (rankOf ss (suc n)) ps))
     payload-next n l true v =
         let k : ℕ = rankOf ss n in
         let next : rankOf ss (suc n) ≡ suc k = through-next rankAfter ss n 0 (below n l) ∙ rw (shape-at ts n, v) (add-one k) in
-        let own : payloadOf offsetWidth p ts n row ≡ bytes (getD ps k none) = payload-lay n l v (all n l) ∙ ap (λ (y : Bool). bytes (cond y (getD ps k none) (some (take (sizeOf (typeAt ts n)) (drop (slotStart p ss n) region))))) v in
+        let own : payloadOf w p ts n row ≡ bytes (getD ps k none) = payload-lay n l v (all n l) ∙ ap (λ (y : Bool). bytes (cond y (getD ps k none) (some (take (sizeOf (typeAt ts n)) (drop (slotStart p ss n) region))))) v in
         let cut : length (payloads (take (suc k) ps)) ≡ length (payloads (take k ps)) + length (bytes (getD ps k none)) = rw (take-suc ps k none (rank n l v), payloads-append, length-append, append-nil) in
         ap (λ (m : ℕ). length (payloads (take k ps)) + m) (ap length own) ∙ sym (ap (λ (m : ℕ). length (payloads (take m ps))) next ∙ cut)
     payload-next n l false v =
         let k : ℕ = rankOf ss n in
         let next : rankOf ss (suc n) ≡ k = through-next rankAfter ss n 0 (below n l) ∙ rw (shape-at ts n, v) in
-        let own : payloadOf offsetWidth p ts n row ≡ [] = ap (λ (y : Bool). cond y (columnContent offsetWidth p ts n row .1) []) v in
+        let own : payloadOf w p ts n row ≡ [] = ap (λ (y : Bool). cond y (columnContent w p ts n row .1) []) v in
         ap (λ (m : ℕ). length (payloads (take k ps)) + m) (ap length own) ∙ add-zero (length (payloads (take k ps))) ∙ sym (ap (λ (m : ℕ). length (payloads (take m ps))) next)
 
-    payloads-to : (n : ℕ) → n ≤ length ts → payloadBytes offsetWidth p ts row n ≡ length (payloads (take (rankOf ss n) ps))
+    payloads-to : (n : ℕ) → n ≤ length ts → payloadBytes w p ts row n ≡ length (payloads (take (rankOf ss n) ps))
     payloads-to zero l = refl
-    payloads-to (suc n) l = ap (λ (m : ℕ). m + length (payloadOf offsetWidth p ts n row)) (payloads-to n (omega arith)) ∙ payload-next n l (isVarlen (typeAt ts n)) refl
+    payloads-to (suc n) l = ap (λ (m : ℕ). m + length (payloadOf w p ts n row)) (payloads-to n (omega arith)) ∙ payload-next n l (isVarlen (typeAt ts n)) refl
 
-    pub payload-length : length row ≡ lengthIn offsetWidth p ts row
+    pub payload-length : length row ≡ lengthIn w p ts row
     payload-length =
         let n : length ts ≡ length ss = sym (length-map ts shapeOf) in
         let every : take (rankOf ss (length ts)) ps ≡ ps = rw (n, take-all (length ss) ss (omega arith), ← q .cells) (take-all (length ps) ps (omega arith)) in
-        laid-length ∙ ap (λ (m : ℕ). minimum offsetWidth p (map shapeOf ts) + m)
+        laid-length ∙ ap (λ (m : ℕ). minimum w p (map shapeOf ts) + m)
         (sym (payloads-to (length ts) (omega arith) ∙ ap (λ (cs : List Cell). length (payloads cs)) every))

@@ -84,7 +84,7 @@ module _ (l : RowLayout) (p : Bool) (b : RowLayout) (r : List ℕ) where
   slot-told t v e f h g = rw (h, ← e) at g ∙ sym (fixed-sound t v ∙ rw f)
 
   -- where it stands
-  pub place-is : (t : DataType) {z : ℕ} → alignmentOf t ≡ z → {f s : ℕ} → f ≡ fixedStart offsetWidth (l .«num_columns») (l .«num_varlen_cols») → s ≡ startAt p z (sizeIn b p) → f + s ≡ walkedPlace l p b t
+  pub place-is : (t : DataType) {z : ℕ} → alignmentOf t ≡ z → {f s : ℕ} → f ≡ fixedStart (offsetWidth (l .«is_long»)) (l .«num_columns») (l .«num_varlen_cols») → s ≡ startAt p z (sizeIn b p) → f + s ≡ walkedPlace l p b t
   place-is t e g h = rw (g, h, e)
 
   -- Character is stored as Char is
@@ -111,10 +111,10 @@ module _ (l : RowLayout) (p : Bool) (b : RowLayout) (r : List ℕ) where
   varchar-cases false z c w h = h
 
   abbrev offsetOf : ℕ
-  offsetOf = entryAt offsetWidth (tableStart (l .«num_columns»)) (b .«num_varlen_cols») r
+  offsetOf = entryAt (offsetWidth (l .«is_long»)) (tableStart (l .«num_columns»)) (b .«num_varlen_cols») r
 
   abbrev rangeIn : VarlenRange
-  rangeIn = varlenRange offsetWidth (tableStart (l .«num_columns»)) (l .«num_varlen_cols») (b .«num_varlen_cols») r
+  rangeIn = varlenRange (offsetWidth (l .«is_long»)) (tableStart (l .«num_columns»)) (l .«num_varlen_cols») (b .«num_varlen_cols») r
 
   pub varchar-told : (q : Bool) (n : ℕ) → walkedSound l p b (Varchar q n) r
       ≡ cond (markedNull b r) (eqb offsetOf 0) (rangeSound q n r rangeIn)
@@ -123,6 +123,6 @@ module _ (l : RowLayout) (p : Bool) (b : RowLayout) (r : List ℕ) where
       let i : ℕ = b .«num_columns» in
       varchar-cases (markedNull b r) (eqb offsetOf 0) (varlenValue (Varchar q n) i r rangeIn) (rangeSound q n r rangeIn)
       (range-cases q n i (eqb offsetOf 0) (partOf (length r) offsetOf
-      (rangeEnd offsetWidth (tableStart (l .«num_columns»)) (l .«num_varlen_cols») (b .«num_varlen_cols») r))
-      (part-same q n i offsetOf (rangeEnd offsetWidth (tableStart (l .«num_columns»)) (l .«num_varlen_cols»)
+      (rangeEnd (offsetWidth (l .«is_long»)) (tableStart (l .«num_columns»)) (l .«num_varlen_cols») (b .«num_varlen_cols») r))
+      (part-same q n i offsetOf (rangeEnd (offsetWidth (l .«is_long»)) (tableStart (l .«num_columns»)) (l .«num_varlen_cols»)
       (b .«num_varlen_cols») r)))

@@ -20,7 +20,7 @@ use Rattle.row_sound.specs.Sound.{soundWith, firstPayload}
 unfoldable pub walkedSound : RowLayout → Bool → RowLayout → DataType → List ℕ → Bool
 walkedSound l p b t r =
     soundWith t (walkedColumn l p b t r)
-    (entryAt offsetWidth (tableStart (l .«num_columns»)) (b .«num_varlen_cols») r)
+    (entryAt (offsetWidth (l .«is_long»)) (tableStart (l .«num_columns»)) (b .«num_varlen_cols») r)
     (eqb (bitAt (b .«num_columns») (drop bitmapStart r)) 1)
 
 -- the columns of types ts that come after those of layout b
@@ -30,7 +30,8 @@ walkedColumns l p r b (t ∷ ts) = cond (walkedSound l p b t r) (walkedColumns l
 
 -- the first payload
 abbrev pub walkedFirst : RowLayout → List ℕ → ℕ
-walkedFirst l r = firstPayload offsetWidth (tableStart (l .«num_columns»)) (l .«num_varlen_cols») r
+walkedFirst l r =
+    firstPayload (offsetWidth (l .«is_long»)) (tableStart (l .«num_columns»)) (l .«num_varlen_cols») r
 
 -- behind its header
 abbrev pub walkedSoundness : RowLayout → Bool → List DataType → List ℕ → Soundness

@@ -8,7 +8,7 @@ use mathlib.Core.Path.{_≡_}
 use lib.Dec.{eqb}
 use lib.ListN.{length, getD, take, drop}
 use Rattle.laws.specs.Bits.{bitAt}
-use Rattle.row_format.specs.Places.{varlens, fixedSize, rankOf, slotStart, bitmapSize, offsetWidth, slotPlace, minimum}
+use Rattle.row_format.specs.Places.{varlens, fixedSize, rankOf, slotStart, bitmapSize, slotPlace, minimum}
 use Rattle.row_format.specs.Table.{Cell, bytes, payloads, lay}
 use Rattle.datatype.specs.declared.DataType.{DataType}
 use Rattle.datatype.specs.Types.{sizeOf, isVarlen, shapeOf}
@@ -24,13 +24,13 @@ use Rattle.row_sound.specs.Reread.{Content, content}
 
 -- ---- the parts
 
--- of the sizes that the columns ask, in a row whose length fits an offset
-pub record Parts (p : Bool) (ts : List DataType) (head bits region : List ℕ) (ps : List Cell) : Type 0 where
+-- of the sizes that the columns ask, in a row whose length fits an offset of w bytes
+pub record Parts (w : ℕ) (p : Bool) (ts : List DataType) (head bits region : List ℕ) (ps : List Cell) : Type 0 where
   pub four : length head ≡ 4
   pub bitmap : length bits ≡ bitmapSize (length (map shapeOf ts))
   pub fixed : length region ≡ fixedSize p (map shapeOf ts)
   pub cells : length ps ≡ varlens (map shapeOf ts)
-  pub fits : length (lay offsetWidth (head ++ bits) region ps) < 256 ^ offsetWidth
+  pub fits : length (lay w (head ++ bits) region ps) < 256 ^ w
 
 -- what column i holds: a Varchar's cell, a fixed column's slot
 abbrev pub heldPart : Bool → List DataType → List ℕ → List Cell → ℕ → Cell
@@ -39,11 +39,11 @@ heldPart p ts region ps i =
     (some (take (sizeOf (typeAt ts i)) (drop (slotStart p (map shapeOf ts) i) region)))
 
 -- where that stands in the row
-abbrev pub heldPlace : Bool → List DataType → List Cell → ℕ → ℕ
-heldPlace p ts ps i =
+abbrev pub heldPlace : ℕ → Bool → List DataType → List Cell → ℕ → ℕ
+heldPlace w p ts ps i =
     cond (isVarlen (typeAt ts i))
-    (minimum offsetWidth p (map shapeOf ts) + length (payloads (take (rankOf (map shapeOf ts) i) ps)))
-    (slotPlace offsetWidth p (map shapeOf ts) i)
+    (minimum w p (map shapeOf ts) + length (payloads (take (rankOf (map shapeOf ts) i) ps)))
+    (slotPlace w p (map shapeOf ts) i)
 
 -- ---- a column that holds a cell; `marked` says whether its bit is set
 

@@ -9,7 +9,7 @@ use lib.Dec.{eqb}
 use lib.ListN.{length, drop}
 use Rattle.laws.specs.Bits.{bitAt}
 use Rattle.laws.specs.Bytes.{fromTable, entryAt}
-use Rattle.row_format.specs.Places.{varlens, rankOf, bitmapStart, tableStart, minimum}
+use Rattle.row_format.specs.Places.{varlens, rankOf, bitmapStart, tableStart, minimum, offsetWidth}
 use Rattle.row_format.specs.Table.{firstOffset}
 use Rattle.datatype.specs.declared.DataType.{DataType}
 use Rattle.datatype.specs.Types.{isVarlen, shapeOf}
@@ -64,10 +64,11 @@ isSoundIn w p ts r =
 abbrev pub soundIn : ℕ → Bool → List DataType → List ℕ → Soundness
 soundIn w p ts r = cond (isSoundIn w p ts r) (Sound p) NotSound
 
-abbrev pub soundness : ℕ → ℕ → List DataType → List ℕ → Soundness
-soundness w limit ts r = onFrame (frameOf w limit ts r) (λ e. NotSound) (λ p. soundIn w p ts r)
+-- of a sort
+abbrev pub soundness : Bool → List DataType → List ℕ → Soundness
+soundness k ts r = onFrame (frameOf k ts r) (λ e. NotSound) (λ p. soundIn (offsetWidth k) p ts r)
 
--- a sound row, packed or padded as p says
-pub record SoundRow (w limit : ℕ) (ts : List DataType) (p : Bool) (r : List ℕ) : Type 0 where
-  pub frame : frameOf w limit ts r ≡ Good p
-  pub sound : isSoundIn w p ts r ≡ true
+-- a sound row of sort k, packed or padded as p says
+pub record SoundRow (k : Bool) (ts : List DataType) (p : Bool) (r : List ℕ) : Type 0 where
+  pub frame : frameOf k ts r ≡ Good p
+  pub sound : isSoundIn (offsetWidth k) p ts r ≡ true

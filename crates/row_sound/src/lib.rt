@@ -10,14 +10,14 @@ use row_layout::VarlenRange;
 use temporal::TimeOfDay;
 ghost use mathlib.Core.Path.{_≡_};
 ghost use mathlib.Core.Bool.{false};
-ghost use Prim.Native.Nat.{_+_, _*_, _/_, _≤_, _<_};
+ghost use Prim.Native.Nat.{_+_, _*_, _≤_, _<_};
 ghost use lib.ListN.{length, getD, take, drop};
 ghost use mir.Syntax.{w64};
 ghost use mir.Val.{toZ};
 ghost use Rattle.laws.specs.Bytes.{fromLe};
 ghost use Rattle.text.specs.Rfc3629.{isText};
 ghost use Rattle.temporal.specs.Time.{timeOf};
-ghost use Rattle.row_format.specs.Places.{fixedStart, offsetWidth, rowLimit};
+ghost use Rattle.row_format.specs.Places.{fixedStart, offsetWidth};
 ghost use Rattle.row_layout.specs.Range.{varlenRange};
 ghost use Rattle.row_layout.specs.InnerLayout.{Bounded, noColumns};
 ghost use Rattle.datatype.specs.declared.DataType.the-variants.{Char, Varchar};
@@ -94,16 +94,17 @@ fn range_sound(
     by_points: bool,
     n: usize,
     row: &[u8],
+    is_long: bool,
     table: usize,
     varlens: usize,
     rank: usize,
 ) -> bool
-    requires { ⌜ (rank < varlens) × (table + varlens * offsetWidth ≤ length (now row)) ⌝ }
+    requires { ⌜ (rank < varlens) × (table + varlens * offsetWidth «is_long» ≤ length (now row)) ⌝ }
     ensures { λ r. ⌜ r
         ≡ rangeSound «by_points» n (now (row .entry))
-        (varlenRange offsetWidth table varlens rank (now (row .entry))) ⌝ }
+        (varlenRange (offsetWidth «is_long») table varlens rank (now (row .entry))) ⌝ }
 {
-    match row_layout::varlen_range(row, table, varlens, rank) {
+    match row_layout::varlen_range(row, is_long, table, varlens, rank) {
         VarlenRange::Null => false,
         VarlenRange::Outside => false,
         VarlenRange::Bytes(start, end) => text_limit::is_within(&row[start..end], by_points, n),
@@ -125,13 +126,14 @@ fn varchar_sound(
     let table = layout.varlen_table_offset();
     let rank = before.num_varlen_cols;
     if null_bitmap::column_bit_is_set(row, before.num_columns) {
-        let offset = row_layout::offset_at(row, table, rank);
+        let offset = row_layout::offset_at(row, layout.is_long, table, rank);
         return offset == 0;
     }
     range_sound(
         by_points,
         n as usize,
         row,
+        layout.is_long,
         table,
         layout.num_varlen_cols,
         rank,
@@ -263,7 +265,8 @@ fn columns_sound(schema: &[u8], layout: RowLayout, packed: bool, row: &[u8]) -> 
 // The first offset that is not 0, else the row's length.
 fn first_payload(layout: RowLayout, row: &[u8]) -> usize
     requires { ⌜ Bounded layout
-        × (fixedStart offsetWidth (layout .«num_columns») (layout .«num_varlen_cols») ≤ length (now row)) ⌝ }
+        × (fixedStart (offsetWidth (layout .«is_long»)) (layout .«num_columns») (layout .«num_varlen_cols»)
+        ≤ length (now row)) ⌝ }
     ensures { λ r. ⌜ r ≡ walkedFirst layout (now (row .entry)) ⌝ }
 {
     let varlens = layout.num_varlen_cols;
@@ -271,11 +274,11 @@ fn first_payload(layout: RowLayout, row: &[u8]) -> usize
         return row.len();
     }
     let table = layout.varlen_table_offset();
-    let first = row_layout::offset_at(row, table, 0);
+    let first = row_layout::offset_at(row, layout.is_long, table, 0);
     if first != 0 {
         return first;
     }
-    row_layout::range_end(row, table, varlens, 0)
+    row_layout::range_end(row, layout.is_long, table, varlens, 0)
 }
 
 // The row's header is good.
@@ -294,7 +297,7 @@ fn row_sound(schema: &[u8], layout: RowLayout, packed: bool, row: &[u8]) -> Soun
 // Whether a row of a schema that was checked is sound.
 pub fn check_sound(schema: &[u8], layout: RowLayout, row: &[u8]) -> Soundness
     requires { ⌜ Accepted (now schema) layout ⌝ }
-    ensures { λ r. ⌜ r ≡ soundness offsetWidth rowLimit (typesIn (now (schema .entry))) (now (row .entry)) ⌝ }
+    ensures { λ r. ⌜ r ≡ soundness (layout .«is_long») (typesIn (now (schema .entry))) (now (row .entry)) ⌝ }
 {
     match row_column::check_frame(layout, row) {
         Frame::Refused(_) => Soundness::NotSound,

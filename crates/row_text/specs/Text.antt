@@ -1,9 +1,10 @@
 -- 01, "A further call (added) answers with a column's text". FORMAT 7.3.
 use Prim.Native.Nat.{ℕ, _+_, _≤_}
-use mathlib.Core.Bool.{cond}
+use mathlib.Core.Bool.{Bool, cond}
 use mathlib.Core.List.{List, []}
 use lib.Dec.{leb}
 use lib.ListN.{length}
+use Rattle.row_format.specs.Places.{offsetWidth}
 use Rattle.error.specs.declared.Refusal.the-variants.{NoSuchColumn, WrongKind}
 use Rattle.error.specs.Result.{onResult}
 use Rattle.datatype.specs.declared.DataType.{DataType}
@@ -23,18 +24,18 @@ abbrev pub textRead : ColumnRead → ColumnText
 textRead (Column.Value v) = Part (rangeOf v)
 textRead (Column.Refused e) = Refused e
 
--- "It refuses as a read of that column"
-abbrev pub textInRow : ℕ → ℕ → List DataType → List ℕ → ℕ → ColumnText
-textInRow w limit ts r i = onFrame (frameOf w limit ts r) Refused (λ p. textRead (columnValue w p ts i r))
+-- "It refuses as a read of that column", of a row r that is taken as of sort k
+abbrev pub textInRow : Bool → List DataType → List ℕ → ℕ → ColumnText
+textInRow k ts r i = onFrame (frameOf k ts r) Refused (λ p. textRead (columnValue (offsetWidth k) p ts i r))
 
 -- "9 and 11 (not Char, Character or Varchar) come after 2"
-abbrev pub textOfColumn : ℕ → ℕ → List DataType → List ℕ → ℕ → ColumnText
-textOfColumn w limit ts r i =
+abbrev pub textOfColumn : Bool → List DataType → List ℕ → ℕ → ColumnText
+textOfColumn k ts r i =
     cond (leb (length ts) i) (Refused NoSuchColumn)
-    (cond (holdsText (typeAt ts i)) (textInRow w limit ts r i) (Refused (WrongKind i)))
+    (cond (holdsText (typeAt ts i)) (textInRow k ts r i) (Refused (WrongKind i)))
 
-abbrev pub textCall : ℕ → ℕ → List ℕ → List ℕ → ℕ → ColumnText
-textCall w limit schema r i = onResult (schemaOf w limit schema) Refused (λ ts. textOfColumn w limit ts r i)
+abbrev pub textCall : Bool → List ℕ → List ℕ → ℕ → ColumnText
+textCall k schema r i = onResult (schemaOf k schema) Refused (λ ts. textOfColumn k ts r i)
 
 -- "handed out as a part of the row"; "A null or a refusal gives the empty part"
 abbrev pub textPart : List ℕ → ColumnText → List ℕ

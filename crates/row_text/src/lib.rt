@@ -8,9 +8,9 @@ use row_layout::RowLayout;
 use value::TextRange;
 use value::value_kinds;
 ghost use mathlib.Core.Path.{_≡_};
+ghost use mathlib.Core.Bool.{false};
 ghost use Prim.Native.Nat.{_<_};
 ghost use lib.ListN.{length};
-ghost use Rattle.row_format.specs.Places.{offsetWidth, rowLimit};
 ghost use Rattle.datatype.specs.Check.{typesIn};
 ghost use Rattle.datatype.specs.InnerCheck.{Accepted};
 ghost use Rattle.row_column.specs.InnerWalk.{Found, InRow};
@@ -52,7 +52,7 @@ fn text_in_row(
 ) -> ColumnText
     requires { ⌜ Accepted (now schema) layout
         × ((column < length (typesIn (now schema))) × Found (now schema) column found) ⌝ }
-    ensures { λ r. ⌜ (r ≡ textInRow offsetWidth rowLimit (typesIn (now (schema .entry))) (now (row .entry)) column)
+    ensures { λ r. ⌜ (r ≡ textInRow (layout .«is_long») (typesIn (now (schema .entry))) (now (row .entry)) column)
         × PartIn (length (now (row .entry))) r ⌝ }
 {
     match row_column::check_frame(layout, row) {
@@ -67,7 +67,8 @@ fn text_in_row(
 
 fn text_of_column(schema: &[u8], layout: RowLayout, row: &[u8], column: usize) -> ColumnText
     requires { ⌜ Accepted (now schema) layout ⌝ }
-    ensures { λ r. ⌜ (r ≡ textOfColumn offsetWidth rowLimit (typesIn (now (schema .entry))) (now (row .entry)) column)
+    ensures { λ r. ⌜ (r
+        ≡ textOfColumn (layout .«is_long») (typesIn (now (schema .entry))) (now (row .entry)) column)
         × PartIn (length (now (row .entry))) r ⌝ }
 {
     if layout.num_columns <= column {
@@ -83,12 +84,12 @@ fn text_of_column(schema: &[u8], layout: RowLayout, row: &[u8], column: usize) -
 
 // Where the text of a column stands in the row, or why there is none.
 pub fn column_text(schema: &[u8], row: &[u8], column: usize) -> ColumnText
-    ensures { λ r. ⌜ (r ≡ textCall offsetWidth rowLimit (now (schema .entry)) (now (row .entry)) column)
+    ensures { λ r. ⌜ (r ≡ textCall false (now (schema .entry)) (now (row .entry)) column)
         × PartIn (length (now (row .entry))) r ⌝ }
 {
-    match datatype::check_schema(schema) {
+    match datatype::check_schema(schema, false) {
         SchemaCheck::Refused(e) => ColumnText::Refused(e),
-        SchemaCheck::Good(layout) => text_of_column(schema, layout, row, column),
+        SchemaCheck::Good(layout) => text_of_column(schema, layout.of_sort(false), row, column),
     }
 }
 
@@ -96,7 +97,7 @@ pub fn column_text(schema: &[u8], row: &[u8], column: usize) -> ColumnText
 pub fn text<'s, 'r>(schema: &'s [u8], row: &'r [u8], column: usize) -> &'r [u8]
     ensures { λ r. ⌜ now r
         ≡ textPart (now (row .entry))
-        (textCall offsetWidth rowLimit (now (schema .entry)) (now (row .entry)) column) ⌝ }
+        (textCall false (now (schema .entry)) (now (row .entry)) column) ⌝ }
 {
     match column_text(schema, row, column) {
         ColumnText::Refused(_) => &row[0..0],

@@ -2,7 +2,7 @@
 use Prim.Native.Nat.{ℕ, _+_, _≤_}
 use mathlib.Core.Path.{_≡_, refl, sym}
 use mathlib.Core.Bool.{Bool, true, false, cond}
-use mathlib.Core.List.{List, _∷_}
+use mathlib.Core.List.{List}
 use native.Mathlib.Omega.{arith}
 use lib.ListN.{length}
 use lib.Seq.{sets}
@@ -12,7 +12,7 @@ use Rattle.text.specs.Check.{points}
 use Rattle.text_limit.specs.Limit.{fitsText}
 use Rattle.text_limit.specs.InnerCheck.{checkWithin}
 use Rattle.text_limit.proofs.Limits.{told-true, told-points, fits-valid, size-le}
-use Rattle.value_list.specs.Records.{rangeBody}
+use Rattle.value_list.specs.Records.{rangeRecord}
 use Rattle.value.specs.declared.DataValue.the-variants as D
 use Rattle.stored_form.specs.Read.{valueIf, whole}
 use Rattle.slot_record.specs.declared.Recorded.{Recorded}
@@ -30,14 +30,16 @@ module _ (p : Bool) (n : ℕ) (bs : List ℕ) {m : ℕ} (e : checkWithin p n bs 
   check-le = let k = check-points in let l = size-le true bs (fits-valid p n bs check-fits) in omega arith
 
 -- the record of a text, where t tells whether it fits
-module _ (bs : List ℕ) (out : List ℕ) (at i start n : ℕ) where
+module _ (k : Bool) (bs : List ℕ) (out : List ℕ) (at i start n : ℕ) where
   abbrev Written : ℕ → Bool → Recorded × List ℕ
-  Written k t = cond t (Done (at + 5) n, sets out at (k ∷ rangeBody (whole start bs))) (Refused (NoValue i), out)
+  Written c t =
+      let r : List ℕ = rangeRecord k c (whole start bs) in
+      cond t (Done (at + length r) n, sets out at r) (Refused (NoValue i), out)
 
-  pub char-text : (t : Bool) → Written 8 t ≡ recorded out at i n (valueIf t (D.Char (whole start bs)))
+  pub char-text : (t : Bool) → Written 8 t ≡ recorded k out at i n (valueIf t (D.Char (whole start bs)))
   char-text true = refl
   char-text false = refl
 
-  pub varchar-text : (t : Bool) → Written 9 t ≡ recorded out at i n (valueIf t (D.Varchar (whole start bs)))
+  pub varchar-text : (t : Bool) → Written 9 t ≡ recorded k out at i n (valueIf t (D.Varchar (whole start bs)))
   varchar-text true = refl
   varchar-text false = refl

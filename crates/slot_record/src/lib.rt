@@ -7,8 +7,10 @@ use text::TextCheck;
 use value::TextRange;
 use value::value_kinds;
 ghost use mathlib.Core.Path.{_≡_};
+ghost use mathlib.Core.Bool.{Bool};
 ghost use Prim.Native.Nat.{ℕ, _+_, _-_, _≤_};
 ghost use lib.ListN.{length, take, drop};
+ghost use Rattle.row_format.specs.Places.{rowLimit};
 ghost use Rattle.datatype.specs.declared.DataType.the-variants.{Bool as BoolType, Date as DateType, Time as TimeType, Timestamp as TimestampType, Char as CharType, Varchar as VarcharType};
 ghost use Rattle.datatype.specs.Schema.{columnKind};
 ghost use Rattle.datatype.specs.InnerSteps.{plainSize, plainType};
@@ -24,8 +26,8 @@ pub enum Recorded {
 
 fn bool_record(bytes: &[u8], out: &mut [u8], at: usize) -> Recorded
     requires { ⌜ (length (now bytes) ≡ 1) × (at + 18 ≤ length (now out)) ⌝ }
-    ensures { λ r. ⌜ (r, now (out .exit))
-        ≡ recorded (now (out .entry)) at 0 0 (readSlot BoolType 0 (now (bytes .entry))) ⌝ }
+    ensures { λ r. ⌜ ((k : Bool) → (r, now (out .exit))
+        ≡ recorded k (now (out .entry)) at 0 0 (readSlot BoolType 0 (now (bytes .entry)))) ⌝ }
 {
     if bytes[0] == 0 {
         return Recorded::Done(record_encode::write_8(out, at, value_kinds::BOOL, 0), 0);
@@ -35,8 +37,8 @@ fn bool_record(bytes: &[u8], out: &mut [u8], at: usize) -> Recorded
 
 fn date_record(i: usize, bytes: &[u8], out: &mut [u8], at: usize) -> Recorded
     requires { ⌜ (length (now bytes) ≡ 4) × (at + 18 ≤ length (now out)) ⌝ }
-    ensures { λ r. ⌜ (r, now (out .exit))
-        ≡ recorded (now (out .entry)) at i 0 (readSlot DateType 0 (now (bytes .entry))) ⌝ }
+    ensures { λ r. ⌜ ((k : Bool) → (r, now (out .exit))
+        ≡ recorded k (now (out .entry)) at i 0 (readSlot DateType 0 (now (bytes .entry)))) ⌝ }
 {
     let days = endian::read_i32(bytes, 0);
     if temporal::is_date(days) {
@@ -50,8 +52,8 @@ fn date_record(i: usize, bytes: &[u8], out: &mut [u8], at: usize) -> Recorded
 
 fn time_record(i: usize, bytes: &[u8], out: &mut [u8], at: usize) -> Recorded
     requires { ⌜ (length (now bytes) ≡ 8) × (at + 18 ≤ length (now out)) ⌝ }
-    ensures { λ r. ⌜ (r, now (out .exit))
-        ≡ recorded (now (out .entry)) at i 0 (readSlot TimeType 0 (now (bytes .entry))) ⌝ }
+    ensures { λ r. ⌜ ((k : Bool) → (r, now (out .exit))
+        ≡ recorded k (now (out .entry)) at i 0 (readSlot TimeType 0 (now (bytes .entry)))) ⌝ }
 {
     match temporal::time_of(endian::read_i64(bytes, 0)) {
         TimeOfDay::Micros(micros) => Recorded::Done(
@@ -64,8 +66,8 @@ fn time_record(i: usize, bytes: &[u8], out: &mut [u8], at: usize) -> Recorded
 
 fn timestamp_record(i: usize, bytes: &[u8], out: &mut [u8], at: usize) -> Recorded
     requires { ⌜ (length (now bytes) ≡ 8) × (at + 18 ≤ length (now out)) ⌝ }
-    ensures { λ r. ⌜ (r, now (out .exit))
-        ≡ recorded (now (out .entry)) at i 0 (readSlot TimestampType 0 (now (bytes .entry))) ⌝ }
+    ensures { λ r. ⌜ ((k : Bool) → (r, now (out .exit))
+        ≡ recorded k (now (out .entry)) at i 0 (readSlot TimestampType 0 (now (bytes .entry)))) ⌝ }
 {
     let micros = endian::read_i64(bytes, 0);
     if temporal::is_timestamp(micros) {
@@ -81,8 +83,8 @@ fn timestamp_record(i: usize, bytes: &[u8], out: &mut [u8], at: usize) -> Record
 pub fn plain_record(kind: u8, i: usize, bytes: &[u8], out: &mut [u8], at: usize) -> Recorded
     requires { ⌜ (plainSize (columnKind kind) ≡ 0 → ⊥)
         × ((length (now bytes) ≡ plainSize (columnKind kind)) × (at + 18 ≤ length (now out))) ⌝ }
-    ensures { λ r. ⌜ ((start : ℕ) → (r, now (out .exit))
-        ≡ recorded (now (out .entry)) at i 0
+    ensures { λ r. ⌜ ((k : Bool) (start : ℕ) → (r, now (out .exit))
+        ≡ recorded k (now (out .entry)) at i 0
         (readSlot (plainType (columnKind kind)) start (now (bytes .entry)))) ⌝ }
 {
     match kind {
@@ -118,22 +120,23 @@ pub fn plain_record(kind: u8, i: usize, bytes: &[u8], out: &mut [u8], at: usize)
     }
 }
 
-// The text from `start` up to `end` of a row, of at most n bytes or code points, as a value of this kind.
+// The text from `start` up to `end` of a row of a sort, of at most n bytes or code points, as a value of this kind.
 fn text_record(
     kind: u8,
     by_points: bool,
     n: usize,
     i: usize,
     row: &[u8],
+    is_long: bool,
     start: usize,
     end: usize,
     out: &mut [u8],
     at: usize,
 ) -> Recorded
     requires { ⌜ (start ≤ end)
-        × ((end ≤ length (now row)) × ((length (now row) ≤ 65535) × (at + 18 ≤ length (now out)))) ⌝ }
+        × ((end ≤ length (now row)) × ((length (now row) ≤ rowLimit «is_long») × (at + 18 ≤ length (now out)))) ⌝ }
     ensures { λ r. ⌜ (r, now (out .exit))
-        ≡ textRecorded «by_points» n (now (out .entry)) at i kind start
+        ≡ textRecorded «is_long» «by_points» n (now (out .entry)) at i kind start
         (take (end - start) (drop start (now (row .entry)))) ⌝ }
 {
     match text_limit::check_within(&row[start..end], by_points, n) {
@@ -142,7 +145,7 @@ fn text_record(
             let length = end - start;
             let range = TextRange { start, length };
             Recorded::Done(
-                record_encode::write_range(out, at, kind, range),
+                record_encode::write_range(out, at, is_long, kind, range),
                 points as u32,
             )
         }
@@ -153,15 +156,16 @@ fn text_record(
 pub fn char_record(
     i: usize,
     row: &[u8],
+    is_long: bool,
     start: usize,
     end: usize,
     out: &mut [u8],
     at: usize,
 ) -> Recorded
     requires { ⌜ (start ≤ end)
-        × ((end ≤ length (now row)) × ((length (now row) ≤ 65535) × (at + 18 ≤ length (now out)))) ⌝ }
+        × ((end ≤ length (now row)) × ((length (now row) ≤ rowLimit «is_long») × (at + 18 ≤ length (now out)))) ⌝ }
     ensures { λ r. ⌜ (r, now (out .exit))
-        ≡ recorded (now (out .entry)) at i (points (take (end - start) (drop start (now (row .entry)))))
+        ≡ recorded «is_long» (now (out .entry)) at i (points (take (end - start) (drop start (now (row .entry)))))
         (readSlot (CharType 0) start (take (end - start) (drop start (now (row .entry))))) ⌝ }
 {
     text_record(
@@ -170,6 +174,7 @@ pub fn char_record(
         end - start,
         i,
         row,
+        is_long,
         start,
         end,
         out,
@@ -183,15 +188,16 @@ pub fn varchar_record(
     n: usize,
     i: usize,
     row: &[u8],
+    is_long: bool,
     start: usize,
     end: usize,
     out: &mut [u8],
     at: usize,
 ) -> Recorded
     requires { ⌜ (start ≤ end)
-        × ((end ≤ length (now row)) × ((length (now row) ≤ 65535) × (at + 18 ≤ length (now out)))) ⌝ }
+        × ((end ≤ length (now row)) × ((length (now row) ≤ rowLimit «is_long») × (at + 18 ≤ length (now out)))) ⌝ }
     ensures { λ r. ⌜ (r, now (out .exit))
-        ≡ recorded (now (out .entry)) at i (points (take (end - start) (drop start (now (row .entry)))))
+        ≡ recorded «is_long» (now (out .entry)) at i (points (take (end - start) (drop start (now (row .entry)))))
         (readSlot (VarcharType «by_points» n) start (take (end - start) (drop start (now (row .entry))))) ⌝ }
 {
     text_record(
@@ -200,6 +206,7 @@ pub fn varchar_record(
         n,
         i,
         row,
+        is_long,
         start,
         end,
         out,

@@ -57,3 +57,11 @@ holdsText t = isTextKind (valueKind t)
 
 abbrev pub isTextValue : DataValue → Bool
 isTextValue v = isTextKind (kindOf v)
+
+-- the kinds whose body is a range, and which of them a long row reads into. 02, request 5: "Value kinds 17, 18 and 19
+-- are Char, Varchar and Bit with start and length of four bytes each"
+abbrev pub isRangeKind : ℕ → Bool
+isRangeKind k = cond (isTextKind k) true (eqb k 12)
+
+abbrev pub longKind : ℕ → ℕ
+longKind k = cond (eqb k 8) 17 (cond (eqb k 9) 18 19)

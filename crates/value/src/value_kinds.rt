@@ -27,3 +27,10 @@ pub const TIME: u8 = 11;
 pub const BIT: u8 = 12;
 
 pub const TIMESTAMP: u8 = 13;
+
+// A Char, a Varchar and a Bit with four bytes for each number of the range, which long rows read into.
+pub const LONG_CHAR: u8 = 17;
+
+pub const LONG_VARCHAR: u8 = 18;
+
+pub const LONG_BIT: u8 = 19;

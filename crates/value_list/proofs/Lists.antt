@@ -7,6 +7,7 @@ use native.Mathlib.Omega.{arith}
 use borrow.Author.Tests.{lt-ltb, le-ltb, eq-eqb, eqb-true, ltb-false}
 use lib.Dec.{eqb, ltb}
 use lib.ListN.{length, length-append}
+use Rattle.row_format.specs.Places.{rowLimit}
 use Rattle.error.specs.declared.Refusal.{Refusal}
 use Rattle.error.specs.declared.Refusal.the-variants.{BadValueList}
 use Rattle.error.specs.Result.{ok, refused, before}
@@ -15,37 +16,37 @@ use Rattle.laws.proofs.Truths.{cases}
 use Rattle.value.specs.declared.DataValue.{DataValue}
 use Rattle.value_list.specs.declared.ValueRecord.{ValueRecord}
 use Rattle.value_list.specs.declared.ValueRecord.the-variants.{Value, Refused}
-use Rattle.value_list.specs.Records.{bodyOf, recordOf, recordAt}
+use Rattle.value_list.specs.Records.{recordOf, recordAt}
 use Rattle.value_list.specs.Lists.{Values, onRecord, records, valuesOf, judged, checked, listOf}
-use Rattle.value_list.proofs.Records.{record-read, value-sized}
+use Rattle.value_list.proofs.Records.{length-record, record-read, value-sized}
 use Rattle.value_list.specs.InnerLists.{AllSized}
 
 -- ---- written, then read
 
-listOf-least : (vs : List DataValue) → length vs ≤ length (listOf vs)
+listOf-least : (vs : List DataValue) → length vs ≤ length (listOf false vs)
 listOf-least [] = omega arith
-listOf-least (v ∷ vs) = let ih = listOf-least vs in rw (length-append (bodyOf v) (listOf vs)) (omega arith)
+listOf-least (v ∷ vs) = let ih = listOf-least vs in rw (length-append (recordOf false v) (listOf false vs)) (omega (arith, length-record v))
 
-records-read : (vs : List DataValue) → AllSized vs → (n : ℕ) → length vs ≤ n → (us : List ℕ) (at : ℕ) → length us ≡ at → records n (us ++ listOf vs) at ≡ ok vs
+records-read : (vs : List DataValue) → AllSized vs → (n : ℕ) → length vs ≤ n → (us : List ℕ) (at : ℕ) → length us ≡ at → records n (us ++ listOf false vs) at ≡ ok vs
 records-read [] f zero h us at e = refl
 records-read [] f (suc n) h us at e = rw (le-ltb at (length (us ++ [])) (rw length-append (omega arith)))
 records-read (v ∷ vs) f zero h us at e = absurd (omega arith)
 records-read (v ∷ vs) f (suc n) h us at e =
-    let s = us ++ (recordOf v ++ listOf vs) in
-    let next = at + length (recordOf v) in
-    let more : at < length s = rw (length-append us (recordOf v ++ listOf vs)) (omega arith) in
-    let past : length (us ++ recordOf v) ≡ next = length-append us (recordOf v) ∙ ap (λ (m : ℕ). m + length (recordOf v)) e in
+    let s = us ++ (recordOf false v ++ listOf false vs) in
+    let next = at + length (recordOf false v) in
+    let more : at < length s = rw (length-append us (recordOf false v ++ listOf false vs), length-append (recordOf false v) (listOf false vs)) (omega (arith, length-record v)) in
+    let past : length (us ++ recordOf false v) ≡ next = length-append us (recordOf false v) ∙ ap (λ (m : ℕ). m + length (recordOf false v)) e in
     let rest : records n s next ≡ ok vs =
-    ap (λ (l : List ℕ). records n l next) (sym (append-assoc us (recordOf v) (listOf vs))) ∙ records-read vs (f .1) n (omega arith) (us ++ recordOf v) next past in
-    rw (lt-ltb at (length s) more) (ap (λ r. onRecord r (records n s)) (record-read us (listOf vs) at e v (f .0)) ∙ ap (before v) rest)
+    ap (λ (l : List ℕ). records n l next) (sym (append-assoc us (recordOf false v) (listOf false vs))) ∙ records-read vs (f .1) n (omega arith) (us ++ recordOf false v) next past in
+    rw (lt-ltb at (length s) more) (ap (λ r. onRecord r (records n s)) (record-read us (listOf false vs) at e v (f .0)) ∙ ap (before v) rest)
 
-pub values-read : (vs : List DataValue) → AllSized vs → valuesOf (listOf vs) ≡ ok vs
+pub values-read : (vs : List DataValue) → AllSized vs → valuesOf (listOf false vs) ≡ ok vs
 unfolding valuesOf
-values-read vs f = records-read vs f (length (listOf vs)) (listOf-least vs) [] 0 refl
+values-read vs f = records-read vs f (length (listOf false vs)) (listOf-least vs) [] 0 refl
 
 -- so a list of n values is taken beside any text area that is not too long
-pub list-checked : (limit n area : ℕ) (vs : List DataValue) → AllSized vs → length vs ≡ n → area ≤ limit → checked limit n area (listOf vs) ≡ ok vs
-list-checked limit n area vs f e h = ap (judged limit n area (length (listOf vs))) (values-read vs f) ∙ rw (eq-eqb (length vs) n e, le-ltb limit area h)
+pub list-checked : (k : Bool) (n area : ℕ) (vs : List DataValue) → AllSized vs → length vs ≡ n → area ≤ rowLimit k → checked k n area (listOf false vs) ≡ ok vs
+list-checked k n area vs f e h = ap (judged k n area (length (listOf false vs))) (values-read vs f) ∙ rw (eq-eqb (length vs) n e, le-ltb (rowLimit k) area h)
 
 -- ---- what a list that is taken says
 
@@ -88,22 +89,22 @@ unfolding valuesOf
 values-sized s {vs} a e = records-sized (length s) s 0 vs a e
 
 -- a list that is taken has n values, and its text area is not too long
-pub record Taken (limit n area : ℕ) (s : List ℕ) (vs : List DataValue) : Type 0 where
+pub record Taken (k : Bool) (n area : ℕ) (s : List ℕ) (vs : List DataValue) : Type 0 where
   pub all : valuesOf s ≡ ok vs
   pub count : length vs ≡ n
-  pub short : area ≤ limit
+  pub short : area ≤ rowLimit k
 
-pub checked-taken : (limit n area : ℕ) (s : List ℕ) {vs : List DataValue} → checked limit n area s ≡ ok vs → Taken limit n area s vs
-checked-taken limit n area s {vs} e = of-values (valuesOf s) refl e
+pub checked-taken : (k : Bool) (n area : ℕ) (s : List ℕ) {vs : List DataValue} → checked k n area s ≡ ok vs → Taken k n area s vs
+checked-taken k n area s {vs} e = of-values (valuesOf s) refl e
   where
-    judge : (us : List DataValue) → valuesOf s ≡ ok us → (t u : Bool) → eqb (length us) n ≡ t → ltb limit area ≡ u
-        → cond t (cond u (refused (BadValueList 0)) (ok us)) (refused (BadValueList (length s))) ≡ ok vs → Taken limit n area s vs
+    judge : (us : List DataValue) → valuesOf s ≡ ok us → (t u : Bool) → eqb (length us) n ≡ t → ltb (rowLimit k) area ≡ u
+        → cond t (cond u (refused (BadValueList 0)) (ok us)) (refused (BadValueList (length s))) ≡ ok vs → Taken k n area s vs
     judge us f true false c l p =
         let same : us ≡ vs = cc in
-        record { all = f ∙ ap ok same; count = rw same at (eqb-true (length us) n c); short = ltb-false limit area l }
+        record { all = f ∙ ap ok same; count = rw same at (eqb-true (length us) n c); short = ltb-false (rowLimit k) area l }
     judge us f true true c l p = absurd (refused-none p)
     judge us f false u c l p = absurd (refused-none p)
 
-    of-values : (q : Values) → valuesOf s ≡ q → judged limit n area (length s) q ≡ ok vs → Taken limit n area s vs
-    of-values (ok us) f p = judge us f (eqb (length us) n) (ltb limit area) refl refl p
+    of-values : (q : Values) → valuesOf s ≡ q → judged k n area (length s) q ≡ ok vs → Taken k n area s vs
+    of-values (ok us) f p = judge us f (eqb (length us) n) (ltb (rowLimit k) area) refl refl p
     of-values (refused r) f p = absurd (refused-none p)

@@ -1,5 +1,5 @@
 -- A record that was written is read back, and what is read fits a record.
-use Prim.Native.Nat.{ℕ, suc, _+_, _^_, _≤_, _<_}
+use Prim.Native.Nat.{ℕ, suc, _+_, _^_, _≤_, _<_, _*_}
 use mathlib.Core.Path.{_≡_, refl, sym, ap, _∙_, subst}
 use mathlib.Core.Bool.{Bool, true, false, cond}
 use mathlib.Core.List.{List, [], _∷_, _++_, append-assoc}
@@ -12,6 +12,8 @@ use lib.Seq.{getD-at, append-snoc}
 use mir.Syntax.{Width, w16, w32, w64}
 use mir.Val.{bits, Fits, SFits, toZ, ofZ}
 use mir.ValLaws.{toZ-ofZ, toZ-fits, ofZ-fits}
+use Rattle.row_format.proofs.Sorts.{width-le, limit-fits}
+use Rattle.row_format.specs.Places.{offsetWidth, rowLimit}
 use Rattle.laws.specs.Bytes.{toLe}
 use Rattle.error.specs.declared.Refusal.{Refusal}
 use Rattle.laws.proofs.Bytes.{AllBytes, from-at, from-part}
@@ -23,7 +25,7 @@ use Rattle.value.specs.declared.TextRange.{TextRange}
 use Rattle.value.specs.Kinds.{kindOf}
 use Rattle.value.specs.Ranges.{rangeOf as textRange}
 use Rattle.value_list.specs.declared.ValueRecord.the-variants.{Value, Refused}
-use Rattle.value_list.specs.Records.{bodyLength, numberAt, numericAt, rangeAt, valueAt, recordOfKind, recordAt, numericBytes, rangeBody, bodyOf, recordOf, NarrowRange, SizedNumeric, Sized}
+use Rattle.value_list.specs.Records.{bodyLength, numberAt, numericAt, rangeAt, valueAt, recordOfKind, recordAt, numericBytes, rangeBody, rangeRecord, bodyOf, recordOf, NarrowRange, SizedNumeric, Sized}
 use Rattle.value_list.proofs.Sizes.{whole-of}
 use Rattle.value_list.specs.InnerRecords.{Narrow}
 
@@ -45,9 +47,28 @@ length-body (D.Time x) = refl
 length-body (D.Bit r) = refl
 length-body (D.Timestamp x) = refl
 
--- a record has a byte of kind and its kind's body
-pub length-record : (v : DataValue) → length (recordOf v) ≡ 1 + bodyLength (kindOf v)
-length-record v = ap suc (length-body v) ∙ omega arith
+-- a record for short rows has a byte of kind and its kind's body
+pub short-record : (v : DataValue) → recordOf false v ≡ kindOf v ∷ bodyOf v
+short-record D.Null = refl
+short-record (D.SmallInt x) = refl
+short-record (D.Int x) = refl
+short-record (D.BigInt x) = refl
+short-record (D.Real x) = refl
+short-record (D.DoublePrecision x) = refl
+short-record (D.Numeric n) = refl
+short-record (D.Bool b) = refl
+short-record (D.Char r) = refl
+short-record (D.Varchar r) = refl
+short-record (D.Date x) = refl
+short-record (D.Time x) = refl
+short-record (D.Bit r) = refl
+short-record (D.Timestamp x) = refl
+
+length-form : (v : DataValue) → length (kindOf v ∷ bodyOf v) ≡ 1 + bodyLength (kindOf v)
+length-form v = ap suc (length-body v) ∙ omega arith
+
+pub length-record : (v : DataValue) → length (recordOf false v) ≡ 1 + bodyLength (kindOf v)
+length-record v = ap length (short-record v) ∙ length-form v
 
 pub kind-known : (v : DataValue) → kindOf v ≤ 13
 kind-known D.Null = omega arith
@@ -74,10 +95,10 @@ module _ (p q : List ℕ) (at : ℕ) (e : length p ≡ at) where
   unsigned-read : (w : Width) (n : ℕ) → 2 ^ bits w ≡ 256 ^ n → (x : ℕ) → Fits w x → numberAt n (p ++ (toLe n x ++ q)) at ≡ x
   unsigned-read w n s x f = from-at n x p q at e (rw s at (f .fits))
 
-range-read : (p q : List ℕ) (at : ℕ) → length p ≡ at → (r : TextRange) → NarrowRange r → rangeAt (p ++ (rangeBody r ++ q)) at ≡ r
+range-read : (p q : List ℕ) (at : ℕ) → length p ≡ at → (r : TextRange) → NarrowRange 2 r → rangeAt (p ++ (rangeBody 2 r ++ q)) at ≡ r
 range-read p q at e r f =
-    let one : numberAt 2 (p ++ (rangeBody r ++ q)) at ≡ r .start = from-at 2 (r .start) p (toLe 2 (r .length) ++ q) at e (f .start) in
-    let two : numberAt 2 (p ++ (rangeBody r ++ q)) (at + 2) ≡ r .length =
+    let one : numberAt 2 (p ++ (rangeBody 2 r ++ q)) at ≡ r .start = from-at 2 (r .start) p (toLe 2 (r .length) ++ q) at e (f .start) in
+    let two : numberAt 2 (p ++ (rangeBody 2 r ++ q)) (at + 2) ≡ r .length =
     ap (λ (l : List ℕ). numberAt 2 l (at + 2)) (sym (append-assoc p (toLe 2 (r .start)) (toLe 2 (r .length) ++ q)))
     ∙ from-at 2 (r .length) (p ++ toLe 2 (r .start)) q (at + 2) (length-append p (toLe 2 (r .start)) ∙ ap (λ (n : ℕ). n + 2) e) (f .size) in
     rw (one, two)
@@ -113,21 +134,24 @@ body-read p q at e (D.Bit r) f = ap D.Bit (range-read p q at e r f)
 body-read p q at e (D.Timestamp x) f = ap D.Timestamp (signed-read p q at e w64 8 refl x f)
 
 -- a record at a place of any list is read back, with the place after it
-pub record-read : (us vs : List ℕ) (at : ℕ) → length us ≡ at → (v : DataValue) → Sized v → recordAt (us ++ (recordOf v ++ vs)) at ≡ Value v (at + length (recordOf v))
-record-read us vs at e v f =
-    let s = us ++ (recordOf v ++ vs) in
+form-read : (us vs : List ℕ) (at : ℕ) → length us ≡ at → (v : DataValue) → Sized v → recordAt (us ++ ((kindOf v ∷ bodyOf v) ++ vs)) at ≡ Value v (at + length (kindOf v ∷ bodyOf v))
+form-read us vs at e v f =
+    let s = us ++ ((kindOf v ∷ bodyOf v) ++ vs) in
     let k = kindOf v in
     let n = bodyLength (kindOf v) in
     let kind : getD s at 0 ≡ k = getD-at us k (bodyOf v ++ vs) 0 at e in
     let lengths : length s ≡ at + (1 + n + length vs) =
-    length-append us (recordOf v ++ vs) ∙ ap (λ (m : ℕ). length us + m) (length-append (recordOf v) vs ∙ ap (λ (m : ℕ). m + length vs) (length-record v)) ∙ ap (λ (m : ℕ). m + (1 + n + length vs)) e in
+    length-append us ((kindOf v ∷ bodyOf v) ++ vs) ∙ ap (λ (m : ℕ). length us + m) (length-append (kindOf v ∷ bodyOf v) vs ∙ ap (λ (m : ℕ). m + length vs) (length-form v)) ∙ ap (λ (m : ℕ). m + (1 + n + length vs)) e in
     let body : valueAt k s (at + 1) ≡ v =
     ap (λ (l : List ℕ). valueAt k l (at + 1)) (sym (append-snoc us k (bodyOf v ++ vs)))
     ∙ body-read (us ++ (k ∷ [])) vs (at + 1) (length-append us (k ∷ []) ∙ ap (λ (m : ℕ). m + 1) e) v f in
     ap (λ (m : ℕ). recordOfKind m s at) kind
     ∙ whole-of s at k (kind-known v) (rw lengths (omega arith))
     ∙ ap (λ (u : DataValue). Value u (at + (1 + n))) body
-    ∙ ap (λ (m : ℕ). Value v (at + m)) (sym (length-record v))
+    ∙ ap (λ (m : ℕ). Value v (at + m)) (sym (length-form v))
+
+pub record-read : (us vs : List ℕ) (at : ℕ) → length us ≡ at → (v : DataValue) → Sized v → recordAt (us ++ (recordOf false v ++ vs)) at ≡ Value v (at + length (recordOf false v))
+record-read us vs at e v f = rw (short-record v) (form-read us vs at e v f)
 
 -- ---- what is read fits a record
 
@@ -153,7 +177,7 @@ module _ (s : List ℕ) (a : AllBytes s) where
   numeric-sized : (at : ℕ) → SizedNumeric (numericAt s at)
   numeric-sized at = record { high = int-8 (at + 8); low = fits-8 at; scale = a (at + 16) }
 
-  range-sized : (at : ℕ) → NarrowRange (rangeAt s at)
+  range-sized : (at : ℕ) → NarrowRange 2 (rangeAt s at)
   range-sized at = record { start = two-bytes at; size = two-bytes (at + 2) }
 
   one-of : (t : Bool) (x y : DataValue) → Sized x → Sized y → Sized (cond t x y)
@@ -203,7 +227,7 @@ pub value-sized : (s : List ℕ) (at : ℕ) {v : DataValue} {next : ℕ} → All
 value-sized s at a e = subst Sized (sym (given s at e .value)) (body-sized s a (getD s at 0) (at + 1))
 
 -- what fits a record can be written
-pub sized-narrow : (v : DataValue) → Sized v → Narrow v
+pub sized-narrow : (v : DataValue) → Sized v → Narrow false v
 sized-narrow D.Null f = tt
 sized-narrow (D.SmallInt x) f = tt
 sized-narrow (D.Int x) f = tt
@@ -219,38 +243,45 @@ sized-narrow (D.Time x) f = tt
 sized-narrow (D.Bit r) f = f
 sized-narrow (D.Timestamp x) f = tt
 
-pub record-short : (v : DataValue) → length (recordOf v) ≤ 18
-record-short D.Null = omega arith
-record-short (D.SmallInt x) = omega arith
-record-short (D.Int x) = omega arith
-record-short (D.BigInt x) = omega arith
-record-short (D.Real x) = omega arith
-record-short (D.DoublePrecision x) = omega arith
-record-short (D.Numeric x) = omega arith
-record-short (D.Bool x) = omega arith
-record-short (D.Char x) = omega arith
-record-short (D.Varchar x) = omega arith
-record-short (D.Date x) = omega arith
-record-short (D.Time x) = omega arith
-record-short (D.Bit x) = omega arith
-record-short (D.Timestamp x) = omega arith
+pub length-range : (k : Bool) (kind : ℕ) (r : TextRange) → length (rangeRecord k kind r) ≡ 1 + 2 * offsetWidth k
+length-range false kind r = refl
+length-range true kind r = refl
 
--- a value whose range is narrow; so is one inside 65,535 bytes
-pub range-narrow : (v : DataValue) → NarrowRange (textRange v) → Narrow v
-range-narrow D.Null h = tt
-range-narrow (D.SmallInt x) h = tt
-range-narrow (D.Int x) h = tt
-range-narrow (D.BigInt x) h = tt
-range-narrow (D.Real x) h = tt
-range-narrow (D.DoublePrecision x) h = tt
-range-narrow (D.Numeric x) h = tt
-range-narrow (D.Bool x) h = tt
-range-narrow (D.Char x) h = h
-range-narrow (D.Varchar x) h = h
-range-narrow (D.Date x) h = tt
-range-narrow (D.Time x) h = tt
-range-narrow (D.Bit x) h = h
-range-narrow (D.Timestamp x) h = tt
+range-short : (k : Bool) (kind : ℕ) (r : TextRange) → length (rangeRecord k kind r) ≤ 18
+range-short k kind r = omega (arith, length-range k kind r, width-le k)
 
-pub inside-narrow : (v : DataValue) → textRange v .start + textRange v .length ≤ 65535 → Narrow v
-inside-narrow v h = range-narrow v (record { start = omega arith; size = omega arith })
+pub record-short : (k : Bool) (v : DataValue) → length (recordOf k v) ≤ 18
+record-short k D.Null = omega arith
+record-short k (D.SmallInt x) = omega arith
+record-short k (D.Int x) = omega arith
+record-short k (D.BigInt x) = omega arith
+record-short k (D.Real x) = omega arith
+record-short k (D.DoublePrecision x) = omega arith
+record-short k (D.Numeric x) = omega arith
+record-short k (D.Bool x) = omega arith
+record-short k (D.Char r) = range-short k 8 r
+record-short k (D.Varchar r) = range-short k 9 r
+record-short k (D.Date x) = omega arith
+record-short k (D.Time x) = omega arith
+record-short k (D.Bit r) = range-short k 12 r
+record-short k (D.Timestamp x) = omega arith
+
+-- a value whose range fits a record; so does one inside a row
+pub range-narrow : (k : Bool) (v : DataValue) → NarrowRange (offsetWidth k) (textRange v) → Narrow k v
+range-narrow k D.Null h = tt
+range-narrow k (D.SmallInt x) h = tt
+range-narrow k (D.Int x) h = tt
+range-narrow k (D.BigInt x) h = tt
+range-narrow k (D.Real x) h = tt
+range-narrow k (D.DoublePrecision x) h = tt
+range-narrow k (D.Numeric x) h = tt
+range-narrow k (D.Bool x) h = tt
+range-narrow k (D.Char x) h = h
+range-narrow k (D.Varchar x) h = h
+range-narrow k (D.Date x) h = tt
+range-narrow k (D.Time x) h = tt
+range-narrow k (D.Bit x) h = h
+range-narrow k (D.Timestamp x) h = tt
+
+pub inside-narrow : (k : Bool) (v : DataValue) → textRange v .start + textRange v .length ≤ rowLimit k → Narrow k v
+inside-narrow k v h = range-narrow k v (record { start = omega (arith, limit-fits k); size = omega (arith, limit-fits k) })

@@ -13,6 +13,7 @@ use Rattle.value_list.specs.Records.{recordAt}
 use Rattle.value_list.specs.Lists.{Values, records, valuesOf, checked}
 use Rattle.value_list.proofs.Lists.{records-first, checked-taken}
 use Rattle.value_list.specs.InnerLists.{answer}
+use mathlib.Core.Bool.{Bool}
 
 record First (s : List ℕ) (v : DataValue) : Type 0 where
   pub next : ℕ
@@ -33,29 +34,29 @@ good-none p = let z : _≡_ {A = ℕ} 0 1 = cc in omega arith
 value-none : {v : DataValue} {next : ℕ} {r : Refusal} → Value v next ≡ Refused r → ⊥
 value-none p = let z : _≡_ {A = ℕ} 0 1 = cc in omega arith
 
-record Sole (limit area : ℕ) (s : List ℕ) : Type 0 where
+record Sole (k : Bool) (area : ℕ) (s : List ℕ) : Type 0 where
   pub value : DataValue
-  pub all : checked limit 1 area s ≡ ok (value ∷ [])
+  pub all : checked k 1 area s ≡ ok (value ∷ [])
   pub place : First s value
 
-module _ (limit area : ℕ) (s : List ℕ) where
-  of-list : (vs : List DataValue) → length vs ≡ 1 → checked limit 1 area s ≡ ok vs → valuesOf s ≡ ok vs → Sole limit area s
+module _ (k : Bool) (area : ℕ) (s : List ℕ) where
+  of-list : (vs : List DataValue) → length vs ≡ 1 → checked k 1 area s ≡ ok vs → valuesOf s ≡ ok vs → Sole k area s
   of-list [] c e f = absurd (omega arith)
   of-list (v ∷ []) c e f = record { value = v; all = e; place = all-first s v f }
   of-list (v ∷ (w ∷ vs)) c e f = absurd (omega arith)
 
-  of-checked : (q : Values) → checked limit 1 area s ≡ q → Check.Good ≡ answer q → Sole limit area s
-  of-checked (ok vs) e g = let t = checked-taken limit 1 area s e in of-list vs (t .count) e (t .all)
+  of-checked : (q : Values) → checked k 1 area s ≡ q → Check.Good ≡ answer q → Sole k area s
+  of-checked (ok vs) e g = let t = checked-taken k 1 area s e in of-list vs (t .count) e (t .all)
   of-checked (refused r) e g = absurd (good-none g)
 
-  module _ (g : Check.Good ≡ answer (checked limit 1 area s)) where
-    sole : Sole limit area s
-    sole = of-checked (checked limit 1 area s) refl g
+  module _ (g : Check.Good ≡ answer (checked k 1 area s)) where
+    sole : Sole k area s
+    sole = of-checked (checked k 1 area s) refl g
 
     pub sole-there : 0 < length s
     sole-there = sole .place .within
 
-    pub sole-value : (v : DataValue) (next : ℕ) → recordAt s 0 ≡ Value v next → checked limit 1 area s ≡ ok (v ∷ [])
+    pub sole-value : (v : DataValue) (next : ℕ) → recordAt s 0 ≡ Value v next → checked k 1 area s ≡ ok (v ∷ [])
     sole-value v next e =
         let f : Value v next ≡ Value (sole .value) (sole .place .next) = sym e ∙ sole .place .first in
         let h : v ≡ sole .value = cc in

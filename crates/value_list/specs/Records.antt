@@ -1,7 +1,7 @@
 -- 01, "Schema and value bytes": "A record is one byte of kind, then a body whose length the kind fixes; numbers are
 -- little-endian." FORMAT 4.1.
-use Prim.Native.Nat.{ℕ, _+_, _<_}
-use mathlib.Core.Bool.{cond}
+use Prim.Native.Nat.{ℕ, _+_, _^_, _<_}
+use mathlib.Core.Bool.{Bool, true, false, cond}
 use mathlib.Core.List.{List, [], _∷_, _++_}
 use lib.Dec.{eqb, ltb}
 use lib.ListN.{length, getD, take, drop}
@@ -13,7 +13,8 @@ use Rattle.value.specs.declared.DataValue.{DataValue}
 use Rattle.value.specs.declared.DataValue.the-variants as D
 use Rattle.value.specs.declared.NumericValue.{NumericValue}
 use Rattle.value.specs.declared.TextRange.{TextRange}
-use Rattle.value.specs.Kinds.{kindOf}
+use Rattle.value.specs.Kinds.{kindOf, isRangeKind, longKind}
+use Rattle.value.specs.Ranges.{rangeOf}
 use Rattle.value_list.specs.declared.ValueRecord.{ValueRecord}
 use Rattle.value_list.specs.declared.ValueRecord.the-variants.{Value, Refused}
 
@@ -83,8 +84,9 @@ recordAt s at = recordOfKind (getD s at 0) s at
 abbrev pub numericBytes : NumericValue → List ℕ
 numericBytes n = toLe 8 (n .low) ++ (toLe 8 (ofZ w64 (n .high)) ++ (n .scale ∷ []))
 
-abbrev pub rangeBody : TextRange → List ℕ
-rangeBody r = toLe 2 (r .start) ++ toLe 2 (r .length)
+-- start and length, of w bytes each
+abbrev pub rangeBody : ℕ → TextRange → List ℕ
+rangeBody w r = toLe w (r .start) ++ toLe w (r .length)
 
 abbrev pub bodyOf : DataValue → List ℕ
 bodyOf D.Null = []
@@ -95,21 +97,26 @@ bodyOf (D.Real x) = toLe 4 x
 bodyOf (D.DoublePrecision x) = toLe 8 x
 bodyOf (D.Numeric n) = numericBytes n
 bodyOf (D.Bool b) = b ∷ []
-bodyOf (D.Char r) = rangeBody r
-bodyOf (D.Varchar r) = rangeBody r
+bodyOf (D.Char r) = rangeBody 2 r
+bodyOf (D.Varchar r) = rangeBody 2 r
 bodyOf (D.Date x) = toLe 4 (ofZ w32 x)
 bodyOf (D.Time x) = toLe 8 (ofZ w64 x)
-bodyOf (D.Bit r) = rangeBody r
+bodyOf (D.Bit r) = rangeBody 2 r
 bodyOf (D.Timestamp x) = toLe 8 (ofZ w64 x)
 
-abbrev pub recordOf : DataValue → List ℕ
-recordOf v = kindOf v ∷ bodyOf v
+-- a range of kind 8, 9 or 12, for rows of a sort: "a long row reads into" 17, 18 and 19
+abbrev pub rangeRecord : Bool → ℕ → TextRange → List ℕ
+rangeRecord false kind r = kind ∷ rangeBody 2 r
+rangeRecord true kind r = longKind kind ∷ rangeBody 4 r
+
+abbrev pub recordOf : Bool → DataValue → List ℕ
+recordOf k v = cond (isRangeKind (kindOf v)) (rangeRecord k (kindOf v) (rangeOf v)) (kindOf v ∷ bodyOf v)
 
 -- ---- values that records can hold: the machine's numbers, and ranges of two bytes each
 
-pub record NarrowRange (r : TextRange) : Type 0 where
-  pub start : r .start < 65536
-  pub size : r .length < 65536
+pub record NarrowRange (w : ℕ) (r : TextRange) : Type 0 where
+  pub start : r .start < 256 ^ w
+  pub size : r .length < 256 ^ w
 
 pub record SizedNumeric (n : NumericValue) : Type 0 where
   pub high : SFits w64 (n .high)
@@ -125,9 +132,9 @@ Sized (D.Real x) = Fits w32 x
 Sized (D.DoublePrecision x) = Fits w64 x
 Sized (D.Numeric n) = SizedNumeric n
 Sized (D.Bool b) = Fits w8 b
-Sized (D.Char r) = NarrowRange r
-Sized (D.Varchar r) = NarrowRange r
+Sized (D.Char r) = NarrowRange 2 r
+Sized (D.Varchar r) = NarrowRange 2 r
 Sized (D.Date x) = SFits w32 x
 Sized (D.Time x) = SFits w64 x
-Sized (D.Bit r) = NarrowRange r
+Sized (D.Bit r) = NarrowRange 2 r
 Sized (D.Timestamp x) = SFits w64 x

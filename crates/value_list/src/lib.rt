@@ -1,6 +1,5 @@
 // The bytes of value lists: a record read, and the check of a whole list. record_encode writes them.
 use error::Refusal;
-use row_layout::RowLayout;
 use value::DataValue;
 use value::NumericValue;
 use value::TextRange;
@@ -8,7 +7,6 @@ use value::value_kinds;
 ghost use mathlib.Core.Path.{_≡_};
 ghost use Prim.Native.Nat.{_+_, _<_, _≤_};
 ghost use lib.ListN.{length};
-ghost use Rattle.row_format.specs.Places.{rowLimit};
 ghost use Rattle.value_list.specs.Records.{bodyLength, numericAt, rangeAt, valueAt, recordAt};
 ghost use Rattle.value_list.specs.Lists.{checked};
 ghost use Rattle.value_list.specs.InnerSizes.{sizeAt};
@@ -132,9 +130,10 @@ pub fn value_record_at(list: &[u8], at: usize) -> ValueRecord
     ValueRecord::Value(value_at(list, at + 1, kind), at + size)
 }
 
-// Whether a list has one record a column, beside a text area of `area` bytes. The bodies are not looked at.
-pub fn check_values(list: &[u8], columns: usize, area: usize) -> ListCheck
-    ensures { λ r. ⌜ r ≡ answer (checked rowLimit columns area (now (list .entry))) ⌝ }
+// Whether a list has one record a column, beside a text area of `area` bytes, for rows of a sort. The bodies are not
+// looked at.
+pub fn check_values(list: &[u8], is_long: bool, columns: usize, area: usize) -> ListCheck
+    ensures { λ r. ⌜ r ≡ answer (checked «is_long» columns area (now (list .entry))) ⌝ }
 {
     let mut at = 0;
     let mut count = 0;
@@ -149,7 +148,7 @@ pub fn check_values(list: &[u8], columns: usize, area: usize) -> ListCheck
     if count != columns {
         return ListCheck::Refused(Refusal::BadValueList(list.len()));
     }
-    if RowLayout::ROW_LIMIT < area {
+    if row_layout::row_limit(is_long) < area {
         return ListCheck::Refused(Refusal::BadValueList(0));
     }
     ListCheck::Good

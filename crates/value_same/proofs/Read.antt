@@ -164,7 +164,7 @@ module _ (start : ℕ) (bs : List ℕ) (a : AllBytes bs) where
   signed : (w : Width) (n : ℕ) → 2 ^ bits w ≡ 256 ^ n → length bs ≡ n → SFits w (toZ w (fromLe bs))
   signed w n s l = toZ-fits w (fromLe bs) (unsigned w n s l)
 
-  narrow : start + length bs ≤ 65535 → NarrowRange (whole start bs)
+  narrow : start + length bs ≤ 65535 → NarrowRange 2 (whole start bs)
   narrow h = record { start = omega arith; size = omega arith }
 
   -- a part of at most eight bytes

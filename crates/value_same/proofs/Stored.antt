@@ -1,7 +1,7 @@
 -- What the same content means for stored forms: they are equal, but for two NaNs and two zeros.
 use Prim.Native.Nat.{ℕ}
 use mathlib.Core.Path.{_≡_, refl, sym, ap, _∙_, subst}
-use mathlib.Core.Bool.{true}
+use mathlib.Core.Bool.{true, false}
 use mathlib.Core.List.{List, [], _++_}
 use lib.Dec.{eqb}
 use lib.Ieee.{Format, binary32, binary64}
@@ -27,7 +27,7 @@ use Rattle.value_same.specs.Stored.{kindFor, SameStored, equal-forms, al
 use Rattle.value_same.proofs.Equivalence.{same-kinds, pattern}
 
 -- values whose records are equal: the record is read back
-record-same : (v w : DataValue) → Sized v → Sized w → recordOf v ≡ recordOf w → v ≡ w
+record-same : (v w : DataValue) → Sized v → Sized w → recordOf false v ≡ recordOf false w → v ≡ w
 record-same v w f g e =
     let p =
     sym (record-read [] [] 0 refl v f) ∙ ap (λ (s : List ℕ). recordAt (s ++ []) 0) e ∙ record-read [] [] 0 refl w g in

@@ -1,10 +1,10 @@
 -- 02, request 1, worked out: the text check with its number of code points, and the counts that building and reading
 -- put, each as what the definitions compute beside what is stated.
 use Prim.Native.Nat.{ℕ}
-use mathlib.Core.List.{List, [], _∷_, _++_, map}
-use lib.ListN.{replicate, set}
+use mathlib.Core.Bool.{false}
+use mathlib.Core.List.{List, [], _∷_, _++_}
+use lib.ListN.{replicate}
 use Rattle.error.specs.Answer.{Counted}
-use Rattle.row_format.specs.Places.{offsetWidth, rowLimit}
 use Rattle.text.specs.declared.TextCheck.{TextCheck}
 use Rattle.text.specs.declared.TextCheck.the-variants.{Valid, Invalid}
 use Rattle.text.specs.Rfc3629.{codePoints}
@@ -51,10 +51,10 @@ numbers n = replicate n 7
 -- "é", "é€", bits 110, null, and the same with the byte a first
 abbrev pub build : ℕ → ℕ → ℕ → List ℕ
 build a room count =
-    counted (buildCall offsetWidth rowLimit schema (values 2) (area a) (lent room) (numbers count))
+    counted (buildCall false schema (values 2) (area a) (lent room) (numbers count))
 
 abbrev pub read : List ℕ → ℕ → List ℕ
-read wanted count = counted (readCall offsetWidth rowLimit schema row wanted (lent 16) (numbers count))
+read wanted count = counted (readCall false schema row wanted (lent 16) (numbers count))
 
 unfoldable pub table : List Case
 table =
@@ -85,7 +85,7 @@ table =
     ∷ record { computed = read (1 ∷ []) 3; stated = 14 ∷ 0 ∷ lent 16 ++ numbers 3 }
     -- no columns need no list
     ∷ record {
-      computed = counted (buildCall offsetWidth rowLimit [] [] [] (lent 4) []);
+      computed = counted (buildCall false [] [] [] (lent 4) []);
       stated = 0 ∷ 4 ∷ 0 ∷ 0 ∷ 0 ∷ 0x80 ∷ [];
     }
     ∷ []

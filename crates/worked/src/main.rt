@@ -57,7 +57,7 @@ fn say_refusal(r: Refusal) {
 
 fn say_schema(name: &[u8], schema: &[u8]) {
     say(name);
-    match datatype::check_schema(schema) {
+    match datatype::check_schema(schema, false) {
         SchemaCheck::Good(layout) => {
             say(b": columns ");
             io::print_decimal(STDOUT_FILENO, layout.num_columns as u64);
@@ -71,7 +71,14 @@ fn say_build(name: &[u8], schema: &[u8], values: &[u8], text: &[u8]) {
     let mut out = [0u8; 65536];
     let mut counts = [0u32; 256];
     say(name);
-    match row_build::serialize_nullable_typed_row(schema, values, text, &mut out, &mut counts) {
+    match row_build::serialize_nullable_typed_row(
+        schema,
+        false,
+        values,
+        text,
+        &mut out,
+        &mut counts,
+    ) {
         Answer::Done(n) => {
             say(b": bytes ");
             io::print_decimal(STDOUT_FILENO, n as u64);

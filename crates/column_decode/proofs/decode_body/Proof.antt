@@ -134,7 +134,7 @@ returns-4 c =
     let no = no-varchar (getD (now (a .schema)) (a .at) 0) (sym (c .before .before .before .before .before .before .is-varchar .ensures) ∙ c .before .before .before .before .before .if1 .left) in
     let other = other-no-text (now (a .schema)) (a .at) (k .0 .1, (k .1, no)) (entry .pre .0 .good) in
     c .before .before .decode-value .ensures
-    ∙ column-uncounted (now (a .buf)) (a .end) (a .layout) (a .packed) (a .before) (typeAt (typesIn (now (a .schema))) (a .before .«num_columns»)) (now (a .row))
+    ∙ column-uncounted (a .layout .«is_long») (now (a .buf)) (a .end) (a .layout) (a .packed) (a .before) (typeAt (typesIn (now (a .schema))) (a .before .«num_columns»)) (now (a .row))
     (ap holdsText (sym (entry .pre .0 .typed)) ∙ other)
 
 pub decode-body-spec : {M : Type 1} → statement M

@@ -24,18 +24,18 @@ slot-start-requires c κs = search needs
 
 add-start : tie.Need-add-start
 add-start c =
-    let h = rw (← c .slot-start .ensures, ← c .before .fixed-data-start .ensures) at (c .before .before .before .before .pre .0 .slot refl) in
+    let h = rw (← c .slot-start .ensures, ← c .before .fixed-data-start .ensures .0) at (c .before .before .before .before .pre .0 .slot refl) in
     search needs
 
 add-char-record : tie.Need-add-char-record
 add-char-record c =
-    let h = rw (← c .slot-start .ensures, ← c .before .fixed-data-start .ensures) at (c .before .before .before .before .pre .0 .slot refl) in
+    let h = rw (← c .slot-start .ensures, ← c .before .fixed-data-start .ensures .0) at (c .before .before .before .before .pre .0 .slot refl) in
     search needs
 
 char-record-requires : tie.Need-char-record-requires
 char-record-requires c κs =
     let entry = c .before .before .before .before .before in
-    let h = rw (← c .before .slot-start .ensures, ← c .before .before .fixed-data-start .ensures) at (entry .pre .0 .slot refl) in
+    let h = rw (← c .before .slot-start .ensures, ← c .before .before .fixed-data-start .ensures .0) at (entry .pre .0 .slot refl) in
     (omega arith, (h, entry .pre .1))
 
 same-length : tie.Need-same-length
@@ -46,11 +46,11 @@ returns c =
     let entry = c .before .before .before .before .before .before .before .before in
     let a = entry .args in
     let start = c .before .before .before .before .before .fixed-data-start .result + c .before .before .before .before .slot-start .result in
-    let h = rw (← c .before .before .before .before .slot-start .ensures, ← c .before .before .before .before .before .fixed-data-start .ensures) at (entry .pre .0 .slot refl) in
+    let h = rw (← c .before .before .before .before .slot-start .ensures, ← c .before .before .before .before .before .fixed-data-start .ensures .0) at (entry .pre .0 .slot refl) in
     let bs = take (start + a .n - start) (drop start (now (a .row))) in
-    rw (← c .before .before .before .before .slot-start .ensures, ← c .before .before .before .before .before .fixed-data-start .ensures)
+    rw (← c .before .before .before .before .slot-start .ensures, ← c .before .before .before .before .before .fixed-data-start .ensures .0)
     (c .before .before .char-record .ensures
-    ∙ slot-stepped (now (a .buf)) (a .end) (a .before .«num_columns») (points bs) (pointsIn (now (a .row))) (readSlot (Char (a .n)) start bs)
+    ∙ slot-stepped (a .layout .«is_long») (now (a .buf)) (a .end) (a .before .«num_columns») (points bs) (pointsIn (now (a .row))) (readSlot (Char (a .n)) start bs)
     (count-char (now (a .row)) start (start + a .n) (omega arith) h (a .n)))
 
 pub decode-char-spec : {M : Type 1} → statement M

@@ -33,13 +33,13 @@ slot-start-requires c κs = search needs
 add-start : tie.Need-add-start
 add-start c =
     let entry = c .before .before .before .before .before .before .before .before in
-    let h = plain-inside (now (entry .args .schema)) (entry .args .at) (entry .args .layout) (entry .args .packed) (entry .args .before) (now (entry .args .row)) (entry .pre .0 .typed) (c .before .before .if1 .taken) (c .before .before .before .plain-size .ensures .0) (ap₂ _+_ (c .before .fixed-data-start .ensures) (c .slot-start .ensures)) (entry .pre .0 .reach) in
+    let h = plain-inside (now (entry .args .schema)) (entry .args .at) (entry .args .layout) (entry .args .packed) (entry .args .before) (now (entry .args .row)) (entry .pre .0 .typed) (c .before .before .if1 .taken) (c .before .before .before .plain-size .ensures .0) (ap₂ _+_ (c .before .fixed-data-start .ensures .0) (c .slot-start .ensures)) (entry .pre .0 .reach) in
     search needs
 
 add-stop : tie.Need-add-stop
 add-stop c =
     let entry = c .before .before .before .before .before .before .before .before in
-    let h = plain-inside (now (entry .args .schema)) (entry .args .at) (entry .args .layout) (entry .args .packed) (entry .args .before) (now (entry .args .row)) (entry .pre .0 .typed) (c .before .before .if1 .taken) (c .before .before .before .plain-size .ensures .0) (ap₂ _+_ (c .before .fixed-data-start .ensures) (c .slot-start .ensures)) (entry .pre .0 .reach) in
+    let h = plain-inside (now (entry .args .schema)) (entry .args .at) (entry .args .layout) (entry .args .packed) (entry .args .before) (now (entry .args .row)) (entry .pre .0 .typed) (c .before .before .if1 .taken) (c .before .before .before .plain-size .ensures .0) (ap₂ _+_ (c .before .fixed-data-start .ensures .0) (c .slot-start .ensures)) (entry .pre .0 .reach) in
     search needs
 
 sub-plain-record : tie.Need-sub-plain-record
@@ -51,13 +51,13 @@ part-plain-record-start c = search needs
 part-plain-record-end : tie.Need-part-plain-record-end
 part-plain-record-end c =
     let entry = c .before .before .before .before .before .before .before .before in
-    let h = plain-inside (now (entry .args .schema)) (entry .args .at) (entry .args .layout) (entry .args .packed) (entry .args .before) (now (entry .args .row)) (entry .pre .0 .typed) (c .before .before .if1 .taken) (c .before .before .before .plain-size .ensures .0) (ap₂ _+_ (c .before .fixed-data-start .ensures) (c .slot-start .ensures)) (entry .pre .0 .reach) in
+    let h = plain-inside (now (entry .args .schema)) (entry .args .at) (entry .args .layout) (entry .args .packed) (entry .args .before) (now (entry .args .row)) (entry .pre .0 .typed) (c .before .before .if1 .taken) (c .before .before .before .plain-size .ensures .0) (ap₂ _+_ (c .before .fixed-data-start .ensures .0) (c .slot-start .ensures)) (entry .pre .0 .reach) in
     search needs
 
 plain-record-requires : tie.Need-plain-record-requires
 plain-record-requires c κs =
     let entry = c .before .before .before .before .before .before .before .before .before .before in
-    (is-some (now (entry .args .schema)) (entry .args .at) (entry .args .layout) (entry .args .packed) (entry .args .before) (now (entry .args .row)) (entry .pre .0 .typed) (c .before .before .before .before .if1 .taken) (c .before .before .before .before .before .plain-size .ensures .0) (ap₂ _+_ (c .before .before .before .fixed-data-start .ensures) (c .before .before .slot-start .ensures)), (plain-length (now (entry .args .schema)) (entry .args .at) (entry .args .layout) (entry .args .packed) (entry .args .before) (now (entry .args .row)) (entry .pre .0 .typed) (c .before .before .before .before .if1 .taken) (c .before .before .before .before .before .plain-size .ensures .0) (ap₂ _+_ (c .before .before .before .fixed-data-start .ensures) (c .before .before .slot-start .ensures)) (entry .pre .0 .reach), entry .pre .0 .room))
+    (is-some (now (entry .args .schema)) (entry .args .at) (entry .args .layout) (entry .args .packed) (entry .args .before) (now (entry .args .row)) (entry .pre .0 .typed) (c .before .before .before .before .if1 .taken) (c .before .before .before .before .before .plain-size .ensures .0) (ap₂ _+_ (c .before .before .before .fixed-data-start .ensures .0) (c .before .before .slot-start .ensures)), (plain-length (now (entry .args .schema)) (entry .args .at) (entry .args .layout) (entry .args .packed) (entry .args .before) (now (entry .args .row)) (entry .pre .0 .typed) (c .before .before .before .before .if1 .taken) (c .before .before .before .before .before .plain-size .ensures .0) (ap₂ _+_ (c .before .before .before .fixed-data-start .ensures .0) (c .before .before .slot-start .ensures)) (entry .pre .0 .reach), entry .pre .0 .room))
 
 same-length : tie.Need-same-length
 same-length c = search needs
@@ -67,9 +67,9 @@ returns c =
     let entry = c .before .before .before .before .before .before .before .before .before .before .before .before .before in
     let a = entry .args in
     let start = c .before .before .before .before .before .before .fixed-data-start .result + c .before .before .before .before .before .slot-start .result in
-    c .before .before .plain-record .ensures start ∙ slot-stepped (now (a .buf)) (a .end) (a .before .«num_columns») 0 (pointsIn (now (a .row))) (readSlot (plainType (columnKind (getD (now (a .schema)) (a .at) 0))) start (take (start + c .before .before .before .before .before .before .before .before .plain-size .result - start) (drop start (now (a .row)))))
+    c .before .before .plain-record .ensures (a .layout .«is_long») start ∙ slot-stepped (a .layout .«is_long») (now (a .buf)) (a .end) (a .before .«num_columns») 0 (pointsIn (now (a .row))) (readSlot (plainType (columnKind (getD (now (a .schema)) (a .at) 0))) start (take (start + c .before .before .before .before .before .before .before .before .plain-size .result - start) (drop start (now (a .row)))))
     (count-plain (now (a .row)) (getD (now (a .schema)) (a .at) 0) start (take (start + c .before .before .before .before .before .before .before .before .plain-size .result - start) (drop start (now (a .row)))) (λ e. c .before .before .before .before .before .before .before .if1 .taken (c .before .before .before .before .before .before .before .before .plain-size .ensures .0 ∙ e)))
-    ∙ ap (stepped (now (a .buf)) (a .end) (pointsIn (now (a .row)))) (plain-column (now (entry .args .schema)) (entry .args .at) (entry .args .layout) (entry .args .packed) (entry .args .before) (now (entry .args .row)) (entry .pre .0 .typed) (c .before .before .before .before .before .before .before .if1 .taken) (c .before .before .before .before .before .before .before .before .plain-size .ensures .0) (ap₂ _+_ (c .before .before .before .before .before .before .fixed-data-start .ensures) (c .before .before .before .before .before .slot-start .ensures)) (entry .pre .1))
+    ∙ ap (stepped (a .layout .«is_long») (now (a .buf)) (a .end) (pointsIn (now (a .row)))) (plain-column (now (entry .args .schema)) (entry .args .at) (entry .args .layout) (entry .args .packed) (entry .args .before) (now (entry .args .row)) (entry .pre .0 .typed) (c .before .before .before .before .before .before .before .if1 .taken) (c .before .before .before .before .before .before .before .before .plain-size .ensures .0) (ap₂ _+_ (c .before .before .before .before .before .before .fixed-data-start .ensures .0) (c .before .before .before .before .before .slot-start .ensures)) (entry .pre .1))
 
 decode-body-requires : tie.Need-decode-body-requires
 decode-body-requires c κs = search needs

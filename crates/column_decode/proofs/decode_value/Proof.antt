@@ -1,4 +1,5 @@
 use borrow.Author.Needs.{needs}
+use Rattle.row_format.specs.Places.{rowLimit}
 use Rattle.column_decode.proofs.decode_value.Statement.{statement}
 use mathlib.Core.Path.{sym, ap, _∙_, subst}
 use denote.Ref.{now}
@@ -31,7 +32,7 @@ read-column-requires c κs =
 write-column-requires : tie.Need-write-column-requires
 write-column-requires c κs =
     let entry = c .before .before .before .before .before .before .before .before .before in
-    (entry .pre .room, wider (c .before .read-column .result) (length (now (entry .args .row))) 65535 (entry .pre .short) (c .before .read-column .ensures .1))
+    (entry .pre .room, wider (c .before .read-column .result) (length (now (entry .args .row))) (rowLimit (entry .args .layout .«is_long»)) (entry .pre .short) (c .before .read-column .ensures .1))
 
 returns : tie.Need-returns
 returns c = absurd (c .before .before .before .before .before .before .before .pre .good _ (sym (c .before .before .before .record-at .ensures) ∙ c .before .e .given .1))
@@ -43,7 +44,7 @@ returns-2 : tie.Need-returns-2
 returns-2 c =
     let entry = c .before .before .before .before .before .before .before .before .before .before .before .before in
     let a = entry .args in
-    c .before .before .write-column .ensures ∙ ap (stepped (now (a .buf)) (a .end) noPoints) (c .before .before .before .before .read-column .ensures .0 ∙ ap (λ (t : DataType). walkedColumn (a .layout) (a .packed) (a .before) t (now (a .row))) (type-read (c .before .before .before .before .before .before .before .before .record-at .ensures) (c .before .before .before .before .before .before .ty .given .1) (entry .pre .typed)))
+    c .before .before .write-column .ensures ∙ ap (stepped (a .layout .«is_long») (now (a .buf)) (a .end) noPoints) (c .before .before .before .before .read-column .ensures .0 ∙ ap (λ (t : DataType). walkedColumn (a .layout) (a .packed) (a .before) t (now (a .row))) (type-read (c .before .before .before .before .before .before .before .before .record-at .ensures) (c .before .before .before .before .before .before .ty .given .1) (entry .pre .typed)))
 
 pub decode-value-spec : {M : Type 1} → statement M
 decode-value-spec =

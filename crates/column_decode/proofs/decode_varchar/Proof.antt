@@ -52,7 +52,7 @@ returns-2 c =
     let i = rw (c .before .before .before .before .before .start .given .1) at (c .before .before .before .before .before .before .before .varlen-range .ensures .1) in
     rw (← c .before .before .before .before .before .before .before .varlen-range .ensures .0, c .before .before .before .before .before .start .given .1)
     (c .before .before .varchar-record .ensures
-    ∙ slot-stepped (now (a .buf)) (a .end) (a .i) (points bs) (pointsIn (now (a .row))) (readSlot (Varchar (a .by-points) (a .n)) (part .0) bs)
+    ∙ slot-stepped (a .is-long) (now (a .buf)) (a .end) (a .i) (points bs) (pointsIn (now (a .row))) (readSlot (Varchar (a .by-points) (a .n)) (part .0) bs)
     (count-varchar (now (a .row)) (part .0) (part .1 .0) (i .0) (i .1) (a .by-points) (a .n)))
 
 returns-3 : tie.Need-returns-3

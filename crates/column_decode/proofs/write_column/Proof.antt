@@ -10,8 +10,8 @@ enum-known-column c = search needs
 write-value-record-requires : tie.Need-write-value-record-requires
 write-value-record-requires c κs =
     let v = c .before .before .column .given in
-    let s = record-short (v .0 .0) in
-    (omega arith, inside-narrow (v .0 .0) (rw (v .1) at (c .before .before .before .before .before .pre .1)))
+    let s = record-short (c .before .before .before .before .before .args .is-long) (v .0 .0) in
+    (omega arith, inside-narrow (c .before .before .before .before .before .args .is-long) (v .0 .0) (rw (v .1) at (c .before .before .before .before .before .pre .1)))
 
 enum-known-column-2 : tie.Need-enum-known-column-2
 enum-known-column-2 c = search needs

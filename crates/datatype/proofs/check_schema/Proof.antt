@@ -12,16 +12,19 @@ use Rattle.datatype.proofs.plain_size.Reads as plain-size-reads
 use Rattle.row_layout.proofs.RowLayout.with_column.Reads as with-column-reads
 
 abbrev Inv-loop : tie.InvT-loop
-Inv-loop schema layout₀ at₀ layout at = Walking schema layout at
+Inv-loop schema is-long layout₀ at₀ layout at = Walking is-long schema layout at
 
 abbrev μ-loop : tie.MeasureT-loop
-μ-loop schema layout₀ at₀ layout at = 256 - layout .«num_columns»
+μ-loop schema is-long layout₀ at₀ layout at = 256 - layout .«num_columns»
 
 new-requires : tie.Need-new-requires Inv-loop μ-loop
 new-requires c κs = search needs
 
+of-sort-requires : tie.Need-of-sort-requires Inv-loop μ-loop
+of-sort-requires c κs = search needs
+
 loop-holds : tie.Need-loop-holds Inv-loop μ-loop
-loop-holds c = rw (c .new .ensures) (walk-start (now (c .before .before .args .schema)))
+loop-holds c = rw (c .of-sort .ensures, c .before .new .ensures) (walk-start (c .before .before .before .args .is-long) (now (c .before .before .before .args .schema)))
 
 returns : tie.Need-returns Inv-loop μ-loop
 returns c = (walk-over (c .before .before .before .loop .inv) (c .before .before .loop-test .taken) (c .if1 .taken), tt)
@@ -43,7 +46,7 @@ loop-less c = rw (c .with-column .ensures .0) (omega (arith, c .before .before .
 
 loop-again : tie.Need-loop-again Inv-loop μ-loop
 loop-again c =
-    let s = now (c .before .before .before .before .before .before .before .before .before .before .args .schema) in
+    let s = now (c .before .before .before .before .before .before .before .before .before .before .before .args .schema) in
     let l = c .before .before .before .before .before .before .before .loop in
     let added = plain-added s (l .at) (l .layout) (c .before .before .plain-size .ensures .0) (c .before .if2 .taken) (c .with-column .ensures .0) in
     rw added (walk-more (l .inv) (c .before .before .before .before .before .before .loop-test .taken) (c .before .before .before .before .if1 .left) (plain-record s (l .at) (λ e. c .before .if2 .taken (c .before .before .plain-size .ensures .0 ∙ e))) (rw added at (c .with-column .ensures .1)))
@@ -91,6 +94,7 @@ check-schema-spec =
     Inv-loop
     μ-loop
     new-requires
+    of-sort-requires
     loop-holds
     returns
     shared-slice-read-kind

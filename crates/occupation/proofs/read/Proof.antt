@@ -1,8 +1,8 @@
 -- `read` meets its contract.
 use mathlib.Core.Path.{refl, sym, _∙_}
 use denote.Ref.{now}
+use Rattle.datatype.specs.Check.{layoutFor}
 use Rattle.error.specs.Result.{refused}
-use Rattle.row_format.specs.Places.{rowLimit}
 use Rattle.row_column.proofs.Walk.{frame-walked}
 use Rattle.row_column.proofs.Framing.{frame-refused, frame-good}
 use Rattle.occupation.specs.Occupation.{columns}
@@ -22,17 +22,21 @@ enum-told : tie.Need-enum-told
 enum-told c = search needs
 
 read-columns-requires : tie.Need-read-columns-requires
-read-columns-requires c κs = let r = now (c .before .before .before .before .args .row) in long-enough r (frame-walked rowLimit columns r refl ∙ (sym (c .before .before .check-frame .ensures) ∙ c .enum-told .given .1))
+read-columns-requires c κs =
+    let a = c .before .before .before .before .args in
+    long-enough (a .is-long) (now (a .row)) (frame-walked columns (now (a .row)) {l = layoutFor (a .is-long) columns} refl ∙ (sym (c .before .before .check-frame .ensures) ∙ c .enum-told .given .1))
 
 returns : tie.Need-returns
 returns c =
+    let k = c .before .before .before .before .before .args .is-long in
     let r = now (c .before .before .before .before .before .args .row) in
-    (frame-refused rowLimit columns r refl refused (λ p. withPlatform r) (sym (c .before .before .before .check-frame .ensures) ∙ c .before .e .given .1) ∙ by-frame r, tt)
+    (frame-refused columns {l = layoutFor k columns} r refl refused (λ p. withPlatform k r) (sym (c .before .before .before .check-frame .ensures) ∙ c .before .e .given .1) ∙ by-frame k r, tt)
 
 returns-2 : tie.Need-returns-2
 returns-2 c =
+    let k = c .before .before .before .before .before .args .is-long in
     let r = now (c .before .before .before .before .before .args .row) in
-    (c .read-columns .ensures .0 ∙ (frame-good rowLimit columns r refl refused (λ p. withPlatform r) (sym (c .before .before .before .check-frame .ensures) ∙ c .before .enum-told .given .1) ∙ by-frame r), c .read-columns .ensures .1)
+    (c .read-columns .ensures .0 ∙ (frame-good columns {l = layoutFor k columns} r refl refused (λ p. withPlatform k r) (sym (c .before .before .before .check-frame .ensures) ∙ c .before .enum-told .given .1) ∙ by-frame k r), c .read-columns .ensures .1)
 
 pub read-spec : {M : Type 1} → statement M
 read-spec =

@@ -28,7 +28,7 @@ returns c =
     let a = c .before .before .before .before .before .before .args in
     let q = sym (c .before .before .start .given .1) ∙ c .before .before .before .before .text-range .ensures .0 in
     let w = rw (c .before .before .start .given .1) at (c .before .before .before .before .text-range .ensures .1) in
-    (text-long (a .n) (a .column) (now (a .row)) q w (search needs), tt)
+    (text-long (a .is-long) (a .n) (a .column) (now (a .row)) q w (search needs), tt)
 
 sub-is-valid : tie.Need-sub-is-valid
 sub-is-valid c = let w = rw (c .before .before .start .given .1) at (c .before .before .before .before .text-range .ensures .1) in search needs
@@ -47,24 +47,24 @@ returns-2 c =
     let a = c .before .before .before .before .before .before .before .before .before .args in
     let q = sym (c .before .before .before .before .before .start .given .1) ∙ c .before .before .before .before .before .before .before .text-range .ensures .0 in
     let w = rw (c .before .before .before .before .before .start .given .1) at (c .before .before .before .before .before .before .before .text-range .ensures .1) in
-    (text-good (a .n) (a .column) (now (a .row)) q w (search needs) (sym (c .before .is-valid .ensures) ∙ c .if2 .taken), text-in (a .n) (a .column) (now (a .row)) q w (search needs))
+    (text-good (a .is-long) (a .n) (a .column) (now (a .row)) q w (search needs) (sym (c .before .is-valid .ensures) ∙ c .if2 .taken), text-in (a .is-long) (a .n) (a .column) (now (a .row)) q w (search needs))
 
 returns-3 : tie.Need-returns-3
 returns-3 c =
     let a = c .before .before .before .before .args in
-    (text-null (a .n) (a .column) (now (a .row)) (sym (c .enum-told .given .1) ∙ c .before .before .text-range .ensures .0), null-in (length (now (a .row))) (a .n))
+    (text-null (a .is-long) (a .n) (a .column) (now (a .row)) (sym (c .enum-told .given .1) ∙ c .before .before .text-range .ensures .0), null-in (length (now (a .row))) (a .n))
 
 returns-4 : tie.Need-returns-4
 returns-4 c =
     let a = c .before .before .before .before .args in
-    (text-outside (a .n) (a .column) (now (a .row)) (sym (c .enum-told2 .given .1) ∙ c .before .before .text-range .ensures .0), tt)
+    (text-outside (a .is-long) (a .n) (a .column) (now (a .row)) (sym (c .enum-told2 .given .1) ∙ c .before .before .text-range .ensures .0), tt)
 
 returns-5 : tie.Need-returns-5
 returns-5 c =
     let a = c .before .before .before .before .before .before .before .before .before .args in
     let q = sym (c .before .before .before .before .before .start .given .1) ∙ c .before .before .before .before .before .before .before .text-range .ensures .0 in
     let w = rw (c .before .before .before .before .before .start .given .1) at (c .before .before .before .before .before .before .before .text-range .ensures .1) in
-    (text-bad (a .n) (a .column) (now (a .row)) q w (search needs) (sym (c .before .is-valid .ensures) ∙ c .if2 .left), tt)
+    (text-bad (a .is-long) (a .n) (a .column) (now (a .row)) q w (search needs) (sym (c .before .is-valid .ensures) ∙ c .if2 .left), tt)
 
 pub read-text-spec : {M : Type 1} → statement M
 read-text-spec =

@@ -1,56 +1,33 @@
-use Rattle.laws.proofs.Stores.{sets-then}
-use Rattle.laws.specs.Bytes.{toLe}
-use mathlib.Core.Path.{refl}
-use mathlib.Core.List.{[], _∷_}
-use denote.Ref.{now}
+use native.Mathlib.Omega.{arith}
 use borrow.Author.Needs.{needs}
 use Rattle.record_encode.proofs.write_range.Statement.{statement}
 use Rattle.record_encode.proofs.write_range.Tie as tie
 
-put-requires : tie.Need-put-requires
-put-requires c κs = search needs
-
-add-write-u16 : tie.Need-add-write-u16
-add-write-u16 c = search needs
-
-cast-write-u16 : tie.Need-cast-write-u16
-cast-write-u16 c = search needs
-
-write-u16-requires : tie.Need-write-u16-requires
-write-u16-requires c κs = search needs
-
-add-write-u16-2 : tie.Need-add-write-u16-2
-add-write-u16-2 c = search needs
-
-cast-write-u16-2 : tie.Need-cast-write-u16-2
-cast-write-u16-2 c = search needs
-
-write-u16-requires-2 : tie.Need-write-u16-requires-2
-write-u16-requires-2 c κs = search needs
-
-add-result : tie.Need-add-result
-add-result c = search needs
+write-long-range-requires : tie.Need-write-long-range-requires
+write-long-range-requires c κs = let h = rw (c .before .if1 .taken) at (c .before .before .before .pre) in (omega arith, h .1)
 
 same-length : tie.Need-same-length
 same-length c = search needs
 
 returns : tie.Need-returns
-returns c =
-    let a = c .before .before .before .before .before .before .before .before .before .before .before .before .before .before .before .args in
-    let one = sets-then (now (a .out)) (a .at) 1 (a .kind ∷ []) (toLe 2 (a .r .start)) refl (c .before .before .before .before .before .before .before .before .before .before .before .before .put .ensures) (c .before .before .before .before .before .before .before .write-u16 .ensures) in
-    (refl, sets-then (now (a .out)) (a .at) 3 (a .kind ∷ toLe 2 (a .r .start)) (toLe 2 (a .r .length)) refl one (c .before .before .write-u162 .ensures))
+returns c = rw (c .before .before .before .before .if1 .taken) (c .before .before .write-long-range .ensures)
+
+write-short-range-requires : tie.Need-write-short-range-requires
+write-short-range-requires c κs = let h = rw (c .before .if1 .left) at (c .before .before .before .pre) in (omega arith, h .1)
+
+same-length-2 : tie.Need-same-length-2
+same-length-2 c = search needs
+
+returns-2 : tie.Need-returns-2
+returns-2 c = rw (c .before .before .before .before .if1 .left) (c .before .before .write-short-range .ensures)
 
 pub write-range-spec : {M : Type 1} → statement M
 write-range-spec =
     tie.close
     (tie.spec
-    put-requires
-    add-write-u16
-    cast-write-u16
-    write-u16-requires
-    add-write-u16-2
-    cast-write-u16-2
-    write-u16-requires-2
-    add-result
+    write-long-range-requires
     same-length
-    returns)
+    returns
+    write-short-range-requires
+    same-length-2
+    returns-2)

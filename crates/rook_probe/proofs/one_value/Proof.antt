@@ -1,4 +1,4 @@
-use Rattle.row_format.specs.Places.{rowLimit}
+use mathlib.Core.Bool.{false}
 use Rattle.rook_probe.proofs.Single.{one-value, none-good}
 use Rattle.value_list.proofs.Sole.{sole-there, sole-good}
 use mathlib.Core.Path.{sym, _∙_}
@@ -16,7 +16,7 @@ enum-told c = search needs
 value-record-at-requires : tie.Need-value-record-at-requires
 value-record-at-requires c κs =
     let entry = c .before .before .before .before in
-    sole-there rowLimit (entry .args .area) (now (entry .args .list)) (sym (c .enum-told .given .1) ∙ c .before .before .check-values .ensures)
+    sole-there false (entry .args .area) (now (entry .args .list)) (sym (c .enum-told .given .1) ∙ c .before .before .check-values .ensures)
 
 enum-known-v : tie.Need-enum-known-v
 enum-known-v c = search needs
@@ -35,7 +35,7 @@ returns c =
 returns-2 : tie.Need-returns-2
 returns-2 c =
     let a = c .before .before .before .before .before .before .before .args in
-    absurd (sole-good rowLimit (a .area) (now (a .list)) (sym (c .before .before .before .enum-told .given .1) ∙ c .before .before .before .before .before .check-values .ensures) _ (sym (c .before .before .value-record-at .ensures) ∙ c .enum-told2 .given .1))
+    absurd (sole-good false (a .area) (now (a .list)) (sym (c .before .before .before .enum-told .given .1) ∙ c .before .before .before .before .before .check-values .ensures) _ (sym (c .before .before .value-record-at .ensures) ∙ c .enum-told2 .given .1))
 
 returns-3 : tie.Need-returns-3
 returns-3 c =

@@ -8,6 +8,7 @@ use denote.Ref.{now}
 use borrow.Author.Needs.{needs}
 use Rattle.rook_probe.proofs.place_read.Statement.{statement}
 use Rattle.rook_probe.proofs.place_read.Tie as tie
+use mathlib.Core.Bool.{false}
 
 refused-requires : tie.Need-refused-requires
 refused-requires c κs = search needs
@@ -28,7 +29,7 @@ write-value-record-requires c κs =
     let entry = c .before .before .before .before .before .before .before .before in
     let a = entry .args in
     let p = entry .pre .1 .1 in
-    let m = record-short (c .before .before .v .given .0 .0) in
+    let m = record-short false (c .before .before .v .given .0 .0) in
     (omega (arith, c .before .before .before .before .before .if1 .left), read-narrow (a .start) (now (a .bytes)) (p .0) (p .1) (a .ty) (sym (c .before .before .before .before .from-bytes .ensures) ∙ c .before .before .v .given .1))
 
 enum-told : tie.Need-enum-told

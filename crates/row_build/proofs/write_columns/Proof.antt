@@ -4,6 +4,7 @@ use Rattle.row_build.proofs.Columns.{storable-suited}
 use Rattle.row_build.proofs.Counting.{Counting, count-start, count-size, count-more, count-end}
 use Rattle.row_build.proofs.Measuring.{left}
 use Rattle.row_build.proofs.Walk.{readable}
+use Rattle.row_format.specs.Places.{offsetWidth}
 use Rattle.record_slot.proofs.Held.{has-type, read-at}
 use Rattle.record_slot.proofs.Forms.{entry-bytes}
 use Prim.Native.Nat.{_-_}
@@ -38,7 +39,7 @@ min-row-size-requires : tie.Need-min-row-size-requires Inv-loop μ-loop
 min-row-size-requires c κs = c .before .before .before .before .before .before .before .pre .0 .given .accepted .bounded
 
 loop-holds : tie.Need-loop-holds Inv-loop μ-loop
-loop-holds c = rw (c .before .before .fixed-data-start .ensures, c .before .varlen-table-offset .ensures, c .min-row-size .ensures) (write-start (c .before .before .before .before .before .before .before .before .pre .0), count-start)
+loop-holds c = rw (c .before .before .fixed-data-start .ensures .0, c .before .varlen-table-offset .ensures, c .min-row-size .ensures) (write-start (c .before .before .before .before .before .before .before .before .pre .0), count-start)
 
 write-column-requires : tie.Need-write-column-requires Inv-loop μ-loop
 write-column-requires c κs =
@@ -131,7 +132,7 @@ loop-again c =
     let p = c .before .before .before .before .before .before .before .before .before .before .before .before .before .before .before .before .before .before .before .before .before .before .before .pre .0 in
     let h = left (p .given) (c .before .before .before .before .before .before .before .before .before .before .before .before .if1 .taken) in
     let r = readable (p .given) (c .before .before .before .before .before .before .before .before .before .before .before .before .before .before .loop .inv .0 .walk) h in
-    (rw (c .before .before .after-column .ensures, c .body-length .ensures .0, c .before .before .before .before .before .before .slot-size .ensures, entry-bytes r (c .before .before .before .before .held-kind .ensures) (c .before .before .before .entry-size .ensures .0)) (write-more p (c .before .before .before .before .before .before .before .before .before .before .before .before .before .before .loop .inv .0) h (read-at r) (c .before .before .before .before .before .before .before .before .before .before .write-column .result) _ (c .before .before .before .before .before .before .before .before .before .before .write-column .ensures)), count-more (c .before .before .before .before .before .before .before .before .before .before .before .before .before .before .loop .inv .1) p (c .before .before .before .before .before .before .before .before .before .before .before .before .before .before .loop .inv .0) h (read-at r) (c .before .before .before .before .before .before .before .points-at .result) (c .before .before .before .before .before .before .before .points-at .ensures))
+    (rw (c .before .before .after-column .ensures, c .body-length .ensures .0, c .before .before .before .before .before .before .slot-size .ensures, entry-bytes r (offsetWidth (c .before .before .before .before .before .before .before .before .before .before .before .before .before .before .before .before .before .before .before .before .before .before .before .args .layout .«is_long»)) (c .before .before .before .before .held-kind .ensures) (c .before .before .before .entry-size .ensures .0)) (write-more p (c .before .before .before .before .before .before .before .before .before .before .before .before .before .before .loop .inv .0) h (read-at r) (c .before .before .before .before .before .before .before .before .before .before .write-column .result) _ (c .before .before .before .before .before .before .before .before .before .before .write-column .ensures)), count-more (c .before .before .before .before .before .before .before .before .before .before .before .before .before .before .loop .inv .1) p (c .before .before .before .before .before .before .before .before .before .before .before .before .before .before .loop .inv .0) h (read-at r) (c .before .before .before .before .before .before .before .points-at .result) (c .before .before .before .before .before .before .before .points-at .ensures))
 
 same-length : tie.Need-same-length Inv-loop μ-loop
 same-length c = write-size (c .before .before .before .before .before .before .before .before .before .before .before .pre .0) (c .before .before .loop .inv .0)

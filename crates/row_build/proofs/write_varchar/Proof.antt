@@ -3,9 +3,9 @@ use Rattle.row_build.proofs.write_varchar.Statement.{statement}
 use native.Mathlib.Omega.{arith}
 use mathlib.Core.Path.{_≡_, ap}
 use Prim.Native.Nat.{ℕ, _+_, _-_}
+use Rattle.row_format.proofs.Sorts.{fits-limit}
 use Rattle.row_build.proofs.write_varchar.Tie as tie
 use Rattle.endian.proofs.read_u16.Reads as read-u16-reads
-use Rattle.endian.proofs.write_u16.Reads as write-u16-reads
 use Rattle.row_build.proofs.clear_bit.Reads as clear-bit-reads
 
 read-u16-requires : tie.Need-read-u16-requires
@@ -23,11 +23,11 @@ read-u16-requires-2 c κs = search needs
 cast-length : tie.Need-cast-length
 cast-length c = search needs
 
-cast-write-u16 : tie.Need-cast-write-u16
-cast-write-u16 c = search needs
-
-write-u16-requires : tie.Need-write-u16-requires
-write-u16-requires c κs = search needs
+write-offset-requires : tie.Need-write-offset-requires
+write-offset-requires c κs =
+    let entry = c .before .before .before .before .before .before in
+    let p = entry .pre .1 .0 in
+    (p .entry-in, fits-limit (entry .args .is-long) (omega (arith, p .small)))
 
 add-copy : tie.Need-add-copy
 add-copy c = search needs
@@ -58,7 +58,7 @@ returns c =
     let s = c .before .before .before .before .before .before .before .before .before .before .before .before .before .before .read-u16 .result in
     let l = c .before .before .before .before .before .before .before .before .before .before .before .before .before .read-u162 .result in
     let e : s + l - s ≡ l = omega arith in
-    (ap (λ (n : ℕ). c .before .before .before .before .before .before .before .before .before .before .before .before .before .before .before .before .before .before .args .end + n) (c .before .before .before .before .before .before .before .before .before .before .before .before .before .read-u162 .ensures), rw (c .before .before .clear-bit .ensures, c .before .before .before .before .before .before .copy .ensures, c .before .before .before .before .before .before .before .before .before .before .before .write-u16 .ensures, e, c .before .before .before .before .before .before .before .before .before .before .before .before .before .before .read-u16 .ensures, c .before .before .before .before .before .before .before .before .before .before .before .before .before .read-u162 .ensures))
+    (ap (λ (n : ℕ). c .before .before .before .before .before .before .before .before .before .before .before .before .before .before .before .before .before .before .args .end + n) (c .before .before .before .before .before .before .before .before .before .before .before .before .before .read-u162 .ensures), rw (c .before .before .clear-bit .ensures, c .before .before .before .before .before .before .copy .ensures, c .before .before .before .before .before .before .before .before .before .before .before .write-offset .ensures, e, c .before .before .before .before .before .before .before .before .before .before .before .before .before .before .read-u16 .ensures, c .before .before .before .before .before .before .before .before .before .before .before .before .before .read-u162 .ensures))
 
 pub write-varchar-spec : {M : Type 1} → statement M
 write-varchar-spec =
@@ -69,8 +69,7 @@ write-varchar-spec =
     add-read-u16
     read-u16-requires-2
     cast-length
-    cast-write-u16
-    write-u16-requires
+    write-offset-requires
     add-copy
     sub-copy
     part-copy-start

@@ -37,7 +37,7 @@ slot-start-requires c κs = search needs
 
 add-start : tie.Need-add-start
 add-start c =
-    let h = rw (← c .before .alignment .ensures .0, ← c .slot-start .ensures, ← c .before .before .fixed-data-start .ensures) at (c .before .before .before .before .before .before .before .before .pre .slot (sym (c .before .before .before .before .is-variable-length .ensures) ∙ c .before .before .before .if2 .left)) in
+    let h = rw (← c .before .alignment .ensures .0, ← c .slot-start .ensures, ← c .before .before .fixed-data-start .ensures .0) at (c .before .before .before .before .before .before .before .before .pre .slot (sym (c .before .before .before .before .is-variable-length .ensures) ∙ c .before .before .before .if2 .left)) in
     search needs
 
 fixed-size-requires : tie.Need-fixed-size-requires
@@ -45,18 +45,18 @@ fixed-size-requires c κs = search needs
 
 add-read-bytes : tie.Need-add-read-bytes
 add-read-bytes c =
-    let h = rw (← c .before .before .alignment .ensures .0, ← c .before .slot-start .ensures, ← c .before .before .before .fixed-data-start .ensures, ← c .fixed-size .ensures .0) at (c .before .before .before .before .before .before .before .before .before .pre .slot (sym (c .before .before .before .before .before .is-variable-length .ensures) ∙ c .before .before .before .before .if2 .left)) in
+    let h = rw (← c .before .before .alignment .ensures .0, ← c .before .slot-start .ensures, ← c .before .before .before .fixed-data-start .ensures .0, ← c .fixed-size .ensures .0) at (c .before .before .before .before .before .before .before .before .before .pre .slot (sym (c .before .before .before .before .before .is-variable-length .ensures) ∙ c .before .before .before .before .if2 .left)) in
     search needs
 
 read-bytes-requires : tie.Need-read-bytes-requires
 read-bytes-requires c κs =
     let entry = c .before .before .before .before .before .before .before .before .before in
-    let h = rw (← c .before .before .alignment .ensures .0, ← c .before .slot-start .ensures, ← c .before .before .before .fixed-data-start .ensures, ← c .fixed-size .ensures .0) at (entry .pre .slot (sym (c .before .before .before .before .before .is-variable-length .ensures) ∙ c .before .before .before .before .if2 .left)) in
+    let h = rw (← c .before .before .alignment .ensures .0, ← c .before .slot-start .ensures, ← c .before .before .before .fixed-data-start .ensures .0, ← c .fixed-size .ensures .0) at (entry .pre .slot (sym (c .before .before .before .before .before .is-variable-length .ensures) ∙ c .before .before .before .before .if2 .left)) in
     (entry .pre .digits, (omega arith, (h, λ f. rw (← c .fixed-size .ensures .0) (omega arith))))
 
 returns-3 : tie.Need-returns-3
 returns-3 c =
-    (rw (← c .before .before .before .before .before .before .before .before .column-bit-is-set .ensures, c .before .before .before .before .before .before .before .if1 .left, ← c .before .before .before .before .before .before .is-variable-length .ensures, c .before .before .before .before .before .if2 .left, ← c .before .before .before .alignment .ensures .0, ← c .before .before .slot-start .ensures, ← c .before .before .before .before .fixed-data-start .ensures, ← c .before .fixed-size .ensures .0) (c .read-bytes .ensures .0), c .read-bytes .ensures .1)
+    (rw (← c .before .before .before .before .before .before .before .before .column-bit-is-set .ensures, c .before .before .before .before .before .before .before .if1 .left, ← c .before .before .before .before .before .before .is-variable-length .ensures, c .before .before .before .before .before .if2 .left, ← c .before .before .before .alignment .ensures .0, ← c .before .before .slot-start .ensures, ← c .before .before .before .before .fixed-data-start .ensures .0, ← c .before .fixed-size .ensures .0) (c .read-bytes .ensures .0), c .read-bytes .ensures .1)
 
 pub read-column-spec : {M : Type 1} → statement M
 read-column-spec =

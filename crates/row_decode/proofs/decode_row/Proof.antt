@@ -1,7 +1,7 @@
 use mathlib.Core.Path.{sym, ap, _∙_}
 use denote.Ref.{now}
 use Rattle.row_column.proofs.Framing.{framed, frame-refused, frame-good}
-use Rattle.row_format.specs.Places.{offsetWidth, rowLimit}
+use Rattle.row_format.specs.Places.{offsetWidth}
 use Rattle.row_decode.specs.Read.{isWanted, readFrom, handOut}
 use lib.ListN.{length}
 use Rattle.row_decode.proofs.Walk.{read-walked}
@@ -29,7 +29,7 @@ returns : tie.Need-returns
 returns c =
     let entry = c .before .before .before .before .before .before .before .before .before in
     let a = entry .args in
-    frame-refused rowLimit (typesIn (now (a .schema))) (now (a .row))
+    frame-refused (typesIn (now (a .schema))) (now (a .row))
     (entry .pre .layout) (unchangedBoth (now (a .out)) (now (a .counts))) _
     (sym (c .before .before .before .check-frame .ensures) ∙ c .before .e .given .1)
 
@@ -46,9 +46,9 @@ returns-2 c =
     let ts = typesIn (now (a .schema)) in
     let known = entry .pre .layout in
     c .before .before .before .before .decode-values .ensures
-    ∙ ap (handOut (now (a .out)) (now (a .counts)) (now (a .row))) (read-walked _ ts (isWanted (now (a .wanted))) (now (a .row)) known)
-    ∙ frame-good rowLimit ts (now (a .row)) known (unchangedBoth (now (a .out)) (now (a .counts)))
-    (λ p. handOut (now (a .out)) (now (a .counts)) (now (a .row)) (readFrom offsetWidth p ts (isWanted (now (a .wanted))) (now (a .row)) 0
+    ∙ ap (handOut (a .layout .«is_long») (now (a .out)) (now (a .counts)) (now (a .row))) (read-walked (a .layout .«is_long») _ ts (isWanted (now (a .wanted))) (now (a .row)) known)
+    ∙ frame-good ts (now (a .row)) known (unchangedBoth (now (a .out)) (now (a .counts)))
+    (λ p. handOut (a .layout .«is_long») (now (a .out)) (now (a .counts)) (now (a .row)) (readFrom (offsetWidth (a .layout .«is_long»)) p ts (isWanted (now (a .wanted))) (now (a .row)) 0
     (length ts))) (sym (c .before .before .before .before .before .before .before .before .before .before .check-frame .ensures) ∙ c .before .before .before .before .before .before .before .before .packed .given .1)
 
 pub decode-row-spec : {M : Type 1} → statement M

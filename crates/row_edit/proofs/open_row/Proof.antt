@@ -5,7 +5,6 @@ use denote.Ref.{now}
 use mathlib.Core.Path.{sym, _∙_}
 use native.Mathlib.Omega.{arith}
 use lib.Seq.{length-take-le}
-use Rattle.row_format.specs.Places.{offsetWidth, rowLimit}
 use Rattle.datatype.specs.Check.{typesIn}
 use Rattle.datatype.proofs.Again.{columns-all}
 use Rattle.row_edit.proofs.Opening.{open-short, open-unsound, open-none, open-good}
@@ -13,7 +12,7 @@ use Rattle.row_edit.proofs.Opening.{open-short, open-unsound, open-none
 returns : tie.Need-returns
 returns c =
     let a = c .before .before .before .args in
-    open-short offsetWidth rowLimit (typesIn (now (a .schema))) (now (a .buf)) (a .n) (a .column) (c .if1 .taken)
+    open-short (a .layout .«is_long») (typesIn (now (a .schema))) (now (a .buf)) (a .n) (a .column) (c .if1 .taken)
 
 slice-aggregate-check-sound : tie.Need-slice-aggregate-check-sound
 slice-aggregate-check-sound c = sym (length-take-le _ _ (c .before .if1 .left))
@@ -31,18 +30,18 @@ returns-2 : tie.Need-returns-2
 returns-2 c =
     let entry = c .before .before .before .before .before .before .before .before .before .before in
     let a = entry .args in
-    open-none offsetWidth rowLimit (typesIn (now (a .schema))) (now (a .buf)) (a .n) (a .column) (c .before .before .before .before .before .before .before .if1 .left) (sym (c .before .before .before .before .before .check-sound .ensures) ∙ c .before .before .before .packed .given .1) (omega (arith, columns-all (entry .pre), c .if2 .taken))
+    open-none (a .layout .«is_long») (typesIn (now (a .schema))) (now (a .buf)) (a .n) (a .column) (c .before .before .before .before .before .before .before .if1 .left) (sym (c .before .before .before .before .before .check-sound .ensures) ∙ c .before .before .before .packed .given .1) (omega (arith, columns-all (entry .pre), c .if2 .taken))
 
 returns-3 : tie.Need-returns-3
 returns-3 c =
     let a = c .before .before .before .before .before .before .before .args in
-    open-unsound offsetWidth rowLimit (typesIn (now (a .schema))) (now (a .buf)) (a .n) (a .column) (c .before .before .before .before .if1 .left) (sym (c .before .before .check-sound .ensures) ∙ c .enum-told .given .1)
+    open-unsound (a .layout .«is_long») (typesIn (now (a .schema))) (now (a .buf)) (a .n) (a .column) (c .before .before .before .before .if1 .left) (sym (c .before .before .check-sound .ensures) ∙ c .enum-told .given .1)
 
 returns-4 : tie.Need-returns-4
 returns-4 c =
     let entry = c .before .before .before .before .before .before .before .before .before .before in
     let a = entry .args in
-    open-good offsetWidth rowLimit (typesIn (now (a .schema))) (now (a .buf)) (a .n) (a .column) (c .before .before .before .before .before .before .before .if1 .left) (sym (c .before .before .before .before .before .check-sound .ensures) ∙ c .before .before .before .packed .given .1) (omega (arith, columns-all (entry .pre), c .if2 .left))
+    open-good (a .layout .«is_long») (typesIn (now (a .schema))) (now (a .buf)) (a .n) (a .column) (c .before .before .before .before .before .before .before .if1 .left) (sym (c .before .before .before .before .before .check-sound .ensures) ∙ c .before .before .before .packed .given .1) (omega (arith, columns-all (entry .pre), c .if2 .left))
 
 pub open-row-spec : {M : Type 1} → statement M
 open-row-spec =

@@ -2,8 +2,11 @@ use borrow.Author.Needs.{needs}
 use Rattle.row_edit.proofs.range_at.Statement.{statement}
 use Rattle.row_edit.proofs.range_at.Tie as tie
 use Rattle.row_edit.proofs.Ready.{own-start, end-start}
-use native.Mathlib.Omega.{arith}
+use denote.Ref.{now}
 use mathlib.Core.Path.{sym, _∙_}
+use lib.ListN.{length}
+use Rattle.row_format.specs.Places.{tableStart}
+use Rattle.row_format.proofs.Sorts.{entry-in}
 
 varlen-table-offset-requires : tie.Need-varlen-table-offset-requires
 varlen-table-offset-requires c κs = search needs
@@ -12,7 +15,10 @@ range-end-requires : tie.Need-range-end-requires
 range-end-requires c κs = search needs
 
 offset-at-requires : tie.Need-offset-at-requires
-offset-at-requires c κs = search needs
+offset-at-requires c κs =
+    let entry = c .before .before .before in
+    let a = entry .args in
+    rw (c .before .varlen-table-offset .ensures) (entry-in (a .layout .«is_long») (tableStart (a .layout .«num_columns»)) (a .layout .«num_varlen_cols») (a .before .«num_varlen_cols») (length (now (a .row))) (entry .pre .1 .0) (entry .pre .1 .1))
 
 returns : tie.Need-returns
 returns c =

@@ -3,7 +3,6 @@ use Rattle.row_edit.proofs.set_column.Statement.{statement}
 use Rattle.row_edit.proofs.set_column.Tie as tie
 use denote.Ref.{now}
 use mathlib.Core.Path.{sym, ap, _∙_}
-use Rattle.row_format.specs.Places.{offsetWidth, rowLimit}
 use Rattle.datatype.specs.declared.DataType.{DataType}
 use Rattle.datatype.specs.Check.{typesIn}
 use Rattle.record_slot.specs.Stored.{storedIn}
@@ -32,21 +31,21 @@ returns c =
     let a = c .before .before .before .before .before .before .before .before .before .before .before .before .args in
     let is = ap (λ (t : DataType). storedIn (a .column) t (a .value) (now (a .area))) (c .before .before .before .before .before .before .before .before .column-at .ensures .type-is) in
     let g = suit-good (a .column) (c .before .before .before .before .before .before .before .before .column-at .result .ty) (a .value) (now (a .area)) (sym (c .before .before .before .before .before .before .before .data-value-matches-type .ensures) ∙ c .before .before .before .before .before .before .if1 .taken) (sym (c .before .before .before .before .before .suits .ensures) ∙ c .before .before .before .before .if2 .taken) in
-    c .before .before .set-suited .ensures ∙ ap (written offsetWidth rowLimit (typesIn (now (a .schema))) (a .packed) (now (a .buf)) (a .n) (a .column)) (sym g ∙ is)
+    c .before .before .set-suited .ensures ∙ ap (written (a .layout .«is_long») (typesIn (now (a .schema))) (a .packed) (now (a .buf)) (a .n) (a .column)) (sym g ∙ is)
 
 returns-2 : tie.Need-returns-2
 returns-2 c =
     let a = c .before .before .before .before .before .before .before .before .args in
     let is = ap (λ (t : DataType). storedIn (a .column) t (a .value) (now (a .area))) (c .before .before .before .before .column-at .ensures .type-is) in
     let g = suit-bad (a .column) (c .before .before .before .before .column-at .result .ty) (a .value) (now (a .area)) (sym (c .before .before .before .data-value-matches-type .ensures) ∙ c .before .before .if1 .taken) (sym (c .before .suits .ensures) ∙ c .if2 .left) in
-    ap (written offsetWidth rowLimit (typesIn (now (a .schema))) (a .packed) (now (a .buf)) (a .n) (a .column)) (sym g ∙ is)
+    ap (written (a .layout .«is_long») (typesIn (now (a .schema))) (a .packed) (now (a .buf)) (a .n) (a .column)) (sym g ∙ is)
 
 returns-3 : tie.Need-returns-3
 returns-3 c =
     let a = c .before .before .before .before .before .before .args in
     let is = ap (λ (t : DataType). storedIn (a .column) t (a .value) (now (a .area))) (c .before .before .column-at .ensures .type-is) in
     let g = kind-bad (a .column) (c .before .before .column-at .result .ty) (a .value) (now (a .area)) (sym (c .before .data-value-matches-type .ensures) ∙ c .if1 .left) in
-    ap (written offsetWidth rowLimit (typesIn (now (a .schema))) (a .packed) (now (a .buf)) (a .n) (a .column)) (sym g ∙ is)
+    ap (written (a .layout .«is_long») (typesIn (now (a .schema))) (a .packed) (now (a .buf)) (a .n) (a .column)) (sym g ∙ is)
 
 pub set-column-spec : {M : Type 1} → statement M
 set-column-spec =

@@ -4,7 +4,6 @@ use Rattle.row_edit.proofs.set_list.Tie as tie
 use denote.Ref.{now}
 use lib.ListN.{length}
 use mathlib.Core.Path.{sym, ap, _∙_}
-use Rattle.row_format.specs.Places.{offsetWidth, rowLimit}
 use Rattle.datatype.specs.Check.{typeAt, typesIn}
 use Rattle.value_list.specs.Lists.{checked}
 use Rattle.value_list.proofs.Sole.{refused-list}
@@ -28,7 +27,7 @@ returns c =
     let a = c .before .before .before .before .before .before .before .before .args in
     let ts = typesIn (now (a .schema)) in
     let n = length (now (a .area)) in
-    ap (written offsetWidth rowLimit ts (a .packed) (now (a .buf)) (a .n) (a .column)) (sym (given-none rowLimit (typeAt ts (a .column)) (a .column) (now (a .values)) (now (a .area)) (refused-list rowLimit n (now (a .values)) (checked rowLimit 1 n (now (a .values))) _ (sym (c .before .before .before .check-values .ensures) ∙ c .before .e .given .1))))
+    ap (written (a .layout .«is_long») ts (a .packed) (now (a .buf)) (a .n) (a .column)) (sym (given-none (a .layout .«is_long») (typeAt ts (a .column)) (a .column) (now (a .values)) (now (a .area)) (refused-list (a .layout .«is_long») n (now (a .values)) (checked (a .layout .«is_long») 1 n (now (a .values))) _ (sym (c .before .before .before .check-values .ensures) ∙ c .before .e .given .1))))
 
 same-length : tie.Need-same-length
 same-length c = search needs

@@ -1,10 +1,15 @@
 use borrow.Author.Needs.{needs}
+use lib.ListN.{length}
+use denote.Ref.{now}
 use Rattle.laws.proofs.Tests.{by-tests}
+use Rattle.row_format.proofs.Sorts.{entry-in}
 use Rattle.row_layout.proofs.varlen_range.Statement.{statement}
 use Rattle.row_layout.proofs.varlen_range.Tie as tie
 
 offset-at-requires : tie.Need-offset-at-requires
-offset-at-requires c κs = search needs
+offset-at-requires c κs =
+    let a = c .before .args in
+    entry-in (a .is-long) (a .table) (a .varlens) (a .rank) (length (now (a .row))) (c .before .pre .0) (c .before .pre .1)
 
 returns : tie.Need-returns
 returns c = (rw (← c .before .offset-at .ensures .0) (search by-tests), tt)

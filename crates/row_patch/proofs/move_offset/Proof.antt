@@ -1,4 +1,6 @@
 use borrow.Author.Needs.{needs}
+use Rattle.row_format.proofs.Sorts.{offset-le}
+use Rattle.row_format.specs.Places.{offsetWidth}
 use Rattle.row_patch.proofs.move_offset.Statement.{statement}
 use Rattle.row_patch.proofs.move_offset.Tie as tie
 use native.Mathlib.Omega.{arith}
@@ -12,7 +14,7 @@ offset-at-requires c κs = search needs
 add-put-offset : tie.Need-add-put-offset
 add-put-offset c =
     let o = c .before .before .offset-at in
-    omega (arith, o .ensures .0, o .ensures .1, c .before .before .before .before .before .pre .1 (λ z. c .before .if1 .taken (o .ensures .0 ∙ z)))
+    omega (arith, o .ensures .0, o .ensures .1, offset-le (c .before .before .before .before .before .args .is-long), c .before .before .before .before .before .pre .1 (λ z. c .before .if1 .taken (o .ensures .0 ∙ z)))
 
 sub-put-offset : tie.Need-sub-put-offset
 sub-put-offset c =
@@ -31,7 +33,7 @@ returns : tie.Need-returns
 returns c =
     let a = c .before .before .before .before .before .before .before .before .args in
     let o = c .before .before .before .before .before .offset-at in
-    offset-moved 2 (a .table) (a .rank) (a .end) (a .new-end) (o .result) (now (a .row)) (o .ensures .0) _ (c .before .before .before .before .if1 .taken) (c .before .before .put-offset .ensures)
+    offset-moved (offsetWidth (a .is-long)) (a .table) (a .rank) (a .end) (a .new-end) (o .result) (now (a .row)) (o .ensures .0) _ (c .before .before .before .before .if1 .taken) (c .before .before .put-offset .ensures)
 
 same-length-2 : tie.Need-same-length-2
 same-length-2 c = search needs
@@ -41,7 +43,7 @@ returns-2 c =
     let entry = c .before .before .before .before in
     let a = entry .args in
     let o = c .before .offset-at in
-    offset-kept 2 (a .table) (a .rank) (a .end) (a .new-end) (o .result) (now (a .row)) (o .ensures .0) (c .before .before .before .slice-known .given) (entry .pre .0) (c .if1 .left)
+    offset-kept (offsetWidth (a .is-long)) (a .table) (a .rank) (a .end) (a .new-end) (o .result) (now (a .row)) (o .ensures .0) (c .before .before .before .slice-known .given) (entry .pre .0) (c .if1 .left)
 
 pub move-offset-spec : {M : Type 1} → statement M
 move-offset-spec =

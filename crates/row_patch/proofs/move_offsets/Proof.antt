@@ -1,3 +1,4 @@
+use Rattle.row_format.specs.Places.{offsetWidth}
 use Rattle.row_patch.proofs.move_offsets.Statement.{statement}
 use Rattle.row_patch.proofs.move_offsets.Tie as tie
 use Prim.Native.Nat.{_-_}
@@ -5,10 +6,10 @@ use borrow.Author.Needs.{needs}
 use Rattle.row_patch.proofs.Offsets.{Moving, moving-start, moving-inside, moving-may, moving-more, moving-end}
 
 abbrev Inv-loop : tie.InvT-loop
-Inv-loop row₀ table varlens rank end new-end k₀ row k = Moving 2 table varlens rank end new-end row₀ row k
+Inv-loop row₀ is-long table varlens rank end new-end k₀ row k = Moving (offsetWidth is-long) table varlens rank end new-end row₀ row k
 
 abbrev μ-loop : tie.MeasureT-loop
-μ-loop row₀ table varlens rank end new-end k₀ row k = varlens - k
+μ-loop row₀ is-long table varlens rank end new-end k₀ row k = varlens - k
 
 add-k : tie.Need-add-k Inv-loop μ-loop
 add-k c = search needs

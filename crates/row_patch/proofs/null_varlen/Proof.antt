@@ -1,4 +1,5 @@
 use borrow.Author.Needs.{needs}
+use Rattle.row_format.proofs.Sorts.{fits-limit}
 use Rattle.row_patch.proofs.null_varlen.Statement.{statement}
 use Rattle.row_patch.proofs.null_varlen.Tie as tie
 use native.Mathlib.Omega.{arith}
@@ -30,7 +31,7 @@ edit-table-requires : tie.Need-edit-table-requires
 edit-table-requires c κs =
     let entry = c .before .before .before .before .before .before in
     let a = entry .args in
-    (table-ready (entry .pre) none refl (a .start + (a .n - a .end)) (a .start) (rw add-zero) (rw add-zero) _ (c .before .before .before .remove .ensures), omega arith)
+    (table-ready (entry .pre) none refl (a .start + (a .n - a .end)) (a .start) (rw add-zero) (rw add-zero) _ (c .before .before .before .remove .ensures), fits-limit (a .is-long) (omega arith))
 
 same-length : tie.Need-same-length
 same-length c = search needs

@@ -36,7 +36,7 @@ add-at : tie.Need-add-at
 add-at c =
     let entry = c .before .before .before .before .before .before .before in
     let p = entry .pre .0 in
-    let h = rw (← c .before .alignment .ensures .0, ← c .slot-start .ensures, ← c .before .before .fixed-data-start .ensures, length-take-le (entry .args .n) (now (entry .args .buf)) (p .inside)) at (p .reach .slot (sym (c .before .before .before .before .is-variable-length .ensures) ∙ c .before .before .before .if1 .left)) in
+    let h = rw (← c .before .alignment .ensures .0, ← c .slot-start .ensures, ← c .before .before .fixed-data-start .ensures .0, length-take-le (entry .args .n) (now (entry .args .buf)) (p .inside)) at (p .reach .slot (sym (c .before .before .before .before .is-variable-length .ensures) ∙ c .before .before .before .if1 .left)) in
     search needs
 
 store-fixed-requires : tie.Need-store-fixed-requires
@@ -44,7 +44,7 @@ store-fixed-requires c κs =
     let entry = c .before .before .before .before .before .before .before .before in
     let p = entry .pre in
     let f = sym (c .before .before .before .before .before .is-variable-length .ensures) ∙ c .before .before .before .before .if1 .left in
-    let h = rw (← c .before .before .alignment .ensures .0, ← c .before .slot-start .ensures, ← c .before .before .before .fixed-data-start .ensures) at (p .0 .reach .slot f) in
+    let h = rw (← c .before .before .alignment .ensures .0, ← c .before .slot-start .ensures, ← c .before .before .before .fixed-data-start .ensures .0) at (p .0 .reach .slot f) in
     (p .1, (f, (rw (length-take-le (entry .args .n) (now (entry .args .buf)) (p .0 .inside)) at h, p .0 .inside)))
 
 same-length-2 : tie.Need-same-length-2
@@ -52,7 +52,7 @@ same-length-2 c = search needs
 
 returns-2 : tie.Need-returns-2
 returns-2 c =
-    rw (← c .before .before .before .before .before .before .before .before .is-variable-length .ensures, c .before .before .before .before .before .before .before .if1 .left, ← c .before .before .before .before .before .alignment .ensures .0, ← c .before .before .before .before .slot-start .ensures, ← c .before .before .before .before .before .before .fixed-data-start .ensures) (c .before .before .store-fixed .ensures)
+    rw (← c .before .before .before .before .before .before .before .before .is-variable-length .ensures, c .before .before .before .before .before .before .before .if1 .left, ← c .before .before .before .before .before .alignment .ensures .0, ← c .before .before .before .before .slot-start .ensures, ← c .before .before .before .before .before .before .fixed-data-start .ensures .0) (c .before .before .store-fixed .ensures)
 
 pub store-column-spec : {M : Type 1} → statement M
 store-column-spec =

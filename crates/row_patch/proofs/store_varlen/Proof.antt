@@ -1,4 +1,5 @@
 use borrow.Author.Needs.{needs}
+use Rattle.row_format.proofs.Sorts.{fits-limit}
 use Rattle.row_patch.proofs.store_varlen.Statement.{statement}
 use Rattle.row_patch.proofs.store_varlen.Tie as tie
 use native.Mathlib.Omega.{arith}
@@ -62,7 +63,7 @@ edit-table-requires c κs =
     let e = c .before .before .before .before .before .range .ensures in
     let g = rw (← e) at (p .0) in
     let size = c .before .before .before .before .before .range .result .length in
-    (table-ready g (some (formOf (a .ty) (a .value) (now (a .area)))) (rw e (length-text (p .1 .0) (p .1 .1))) (a .start + size + (a .n - a .end)) (a .start + size) refl refl _ (c .before .before .before .replace .ensures), omega (arith, g .short))
+    (table-ready g (some (formOf (a .ty) (a .value) (now (a .area)))) (rw e (length-text (p .1 .0) (p .1 .1))) (a .start + size + (a .n - a .end)) (a .start + size) refl refl _ (c .before .before .before .replace .ensures), fits-limit (a .is-long) (omega (arith, g .short)))
 
 same-length : tie.Need-same-length
 same-length c = search needs

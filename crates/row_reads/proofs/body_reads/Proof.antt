@@ -60,7 +60,7 @@ returns-2 c =
     )
     (rw (c .before .varlen-table-offset .ensures) at (c .range-reads .ensures)
     ∙ range-reads (eqb (a .kind) 16) (n .result) (a .before .«num_columns») (now (a .row))
-    (varlenRange offsetWidth (tableStart (l .«num_columns»)) (l .«num_varlen_cols») (a .before .«num_varlen_cols») (now (a .row))))
+    (varlenRange (offsetWidth (l .«is_long»)) (tableStart (l .«num_columns»)) (l .«num_varlen_cols») (a .before .«num_varlen_cols») (now (a .row))))
 
 char-sound-requires : tie.Need-char-sound-requires
 char-sound-requires c κs =

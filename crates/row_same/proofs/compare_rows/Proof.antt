@@ -3,7 +3,6 @@ use Rattle.row_same.proofs.compare_rows.Statement.{statement}
 use Rattle.row_same.proofs.compare_rows.Tie as tie
 use denote.Ref.{now}
 use mathlib.Core.Path.{sym, _∙_}
-use Rattle.row_format.specs.Places.{rowLimit}
 use Rattle.datatype.specs.Check.{typesIn}
 use Rattle.row_column.proofs.Framing.{framed}
 use Rattle.row_same.proofs.Compared.{rows-good, rows-refused}
@@ -27,7 +26,7 @@ returns c =
     let m = c .before .before .before in
     let n = m .before .before .before .before in
     let a = n .args in
-    rows-refused rowLimit (typesIn (now (a .schema))) (n .pre .layout) (now (a .a)) (now (a .b))
+    rows-refused (typesIn (now (a .schema))) (n .pre .layout) (now (a .a)) (now (a .b))
     (sym (m .check-frame .ensures) ∙ c .before .e .given .1)
 
 returns-2 : tie.Need-returns-2
@@ -36,7 +35,7 @@ returns-2 c =
     let n = m .before .before .before .before in
     let a = n .args in
     c .compare-read .ensures
-    ∙ rows-good rowLimit (typesIn (now (a .schema))) (n .pre .layout) (now (a .a)) (now (a .b))
+    ∙ rows-good (typesIn (now (a .schema))) (n .pre .layout) (now (a .a)) (now (a .b))
     (sym (m .check-frame .ensures) ∙ c .before .before .p .given .1)
 
 pub compare-rows-spec : {M : Type 1} → statement M

@@ -14,7 +14,7 @@ add-start c =
     let n = entry .pre .1 in
     let s = entry .pre .0 .0 .slot n in
     let r = entry .pre .0 .0 .rises n in
-    let f = c .before .fixed-data-start .ensures in
+    let f = c .before .fixed-data-start .ensures .0 in
     let x = c .size-in .ensures in
     search needs
 
@@ -27,7 +27,7 @@ add-end c =
     let n = entry .pre .1 in
     let s = entry .pre .0 .0 .slot n in
     let r = entry .pre .0 .0 .rises n in
-    let f = c .before .before .fixed-data-start .ensures in
+    let f = c .before .before .fixed-data-start .ensures .0 in
     let x = c .size-in2 .ensures in
     search needs
 
@@ -40,7 +40,7 @@ add-from c =
     let n = entry .pre .1 in
     let s = entry .pre .0 .1 .slot n in
     let r = entry .pre .0 .1 .rises n in
-    let f = c .before .before .before .fixed-data-start .ensures in
+    let f = c .before .before .before .fixed-data-start .ensures .0 in
     let x = c .size-in3 .ensures in
     search needs
 
@@ -53,7 +53,7 @@ add-to c =
     let n = entry .pre .1 in
     let s = entry .pre .0 .1 .slot n in
     let r = entry .pre .0 .1 .rises n in
-    let f = c .before .before .before .before .fixed-data-start .ensures in
+    let f = c .before .before .before .before .fixed-data-start .ensures .0 in
     let x = c .size-in4 .ensures in
     search needs
 
@@ -63,7 +63,7 @@ sub-same-bytes c =
     let n = entry .pre .1 in
     let s = entry .pre .0 .0 .slot n in
     let r = entry .pre .0 .0 .rises n in
-    let f = c .before .before .before .before .fixed-data-start .ensures in
+    let f = c .before .before .before .before .fixed-data-start .ensures .0 in
     let x = c .before .before .before .size-in .ensures in
     let y = c .before .before .size-in2 .ensures in
     search needs
@@ -74,7 +74,7 @@ part-same-bytes-start c =
     let n = entry .pre .1 in
     let s = entry .pre .0 .0 .slot n in
     let r = entry .pre .0 .0 .rises n in
-    let f = c .before .before .before .before .fixed-data-start .ensures in
+    let f = c .before .before .before .before .fixed-data-start .ensures .0 in
     let x = c .before .before .before .size-in .ensures in
     let y = c .before .before .size-in2 .ensures in
     search needs
@@ -85,7 +85,7 @@ part-same-bytes-end c =
     let n = entry .pre .1 in
     let s = entry .pre .0 .0 .slot n in
     let r = entry .pre .0 .0 .rises n in
-    let f = c .before .before .before .before .fixed-data-start .ensures in
+    let f = c .before .before .before .before .fixed-data-start .ensures .0 in
     let x = c .before .before .before .size-in .ensures in
     let y = c .before .before .size-in2 .ensures in
     search needs
@@ -96,7 +96,7 @@ sub-same-bytes-2 c =
     let n = entry .pre .1 in
     let s = entry .pre .0 .1 .slot n in
     let r = entry .pre .0 .1 .rises n in
-    let f = c .before .before .before .before .before .fixed-data-start .ensures in
+    let f = c .before .before .before .before .before .fixed-data-start .ensures .0 in
     let x = c .before .before .size-in3 .ensures in
     let y = c .before .size-in4 .ensures in
     search needs
@@ -107,7 +107,7 @@ part-same-bytes-start-2 c =
     let n = entry .pre .1 in
     let s = entry .pre .0 .1 .slot n in
     let r = entry .pre .0 .1 .rises n in
-    let f = c .before .before .before .before .before .fixed-data-start .ensures in
+    let f = c .before .before .before .before .before .fixed-data-start .ensures .0 in
     let x = c .before .before .size-in3 .ensures in
     let y = c .before .size-in4 .ensures in
     search needs
@@ -118,7 +118,7 @@ part-same-bytes-end-2 c =
     let n = entry .pre .1 in
     let s = entry .pre .0 .1 .slot n in
     let r = entry .pre .0 .1 .rises n in
-    let f = c .before .before .before .before .before .fixed-data-start .ensures in
+    let f = c .before .before .before .before .before .fixed-data-start .ensures .0 in
     let x = c .before .before .size-in3 .ensures in
     let y = c .before .size-in4 .ensures in
     search needs
@@ -130,7 +130,7 @@ returns : tie.Need-returns
 returns c =
     let m = c .before .before .before in
     rw (
-      ← m .before .before .before .before .fixed-data-start .ensures,
+      ← m .before .before .before .before .fixed-data-start .ensures .0,
       ← m .before .before .before .size-in .ensures,
       ← m .before .before .size-in2 .ensures,
       ← m .before .size-in3 .ensures,

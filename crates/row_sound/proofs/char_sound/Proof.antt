@@ -12,10 +12,10 @@ slot-start-requires : tie.Need-slot-start-requires
 slot-start-requires c κs = search needs
 
 add-start : tie.Need-add-start
-add-start c = let h = rw (← c .slot-start .ensures, ← c .before .fixed-data-start .ensures) at (c .before .before .before .pre .slot refl) in search needs
+add-start c = let h = rw (← c .slot-start .ensures, ← c .before .fixed-data-start .ensures .0) at (c .before .before .before .pre .slot refl) in search needs
 
 add-is-valid : tie.Need-add-is-valid
-add-is-valid c = let h = rw (← c .slot-start .ensures, ← c .before .fixed-data-start .ensures) at (c .before .before .before .pre .slot refl) in search needs
+add-is-valid c = let h = rw (← c .slot-start .ensures, ← c .before .fixed-data-start .ensures .0) at (c .before .before .before .pre .slot refl) in search needs
 
 sub-is-valid : tie.Need-sub-is-valid
 sub-is-valid c = search needs
@@ -24,13 +24,13 @@ part-is-valid-start : tie.Need-part-is-valid-start
 part-is-valid-start c = search needs
 
 part-is-valid-end : tie.Need-part-is-valid-end
-part-is-valid-end c = let h = rw (← c .slot-start .ensures, ← c .before .fixed-data-start .ensures) at (c .before .before .before .pre .slot refl) in search needs
+part-is-valid-end c = let h = rw (← c .slot-start .ensures, ← c .before .fixed-data-start .ensures .0) at (c .before .before .before .pre .slot refl) in search needs
 
 is-valid-requires : tie.Need-is-valid-requires
 is-valid-requires c κs = search needs
 
 returns : tie.Need-returns
-returns c = rw (← c .before .before .slot-start .ensures, ← c .before .before .before .fixed-data-start .ensures) (rw (so-many (c .before .before .before .fixed-data-start .result + c .before .before .slot-start .result) (c .before .before .before .before .before .args .n)) at (c .is-valid .ensures))
+returns c = rw (← c .before .before .slot-start .ensures, ← c .before .before .before .fixed-data-start .ensures .0) (rw (so-many (c .before .before .before .fixed-data-start .result + c .before .before .slot-start .result) (c .before .before .before .before .before .args .n)) at (c .is-valid .ensures))
 
 pub char-sound-spec : {M : Type 1} → statement M
 char-sound-spec =

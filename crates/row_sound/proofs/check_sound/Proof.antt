@@ -3,7 +3,7 @@ use Rattle.row_sound.proofs.check_sound.Statement.{statement}
 use Rattle.row_sound.proofs.check_sound.Tie as tie
 use denote.Ref.{now}
 use mathlib.Core.Path.{sym, _∙_}
-use Rattle.row_format.specs.Places.{offsetWidth, rowLimit}
+use Rattle.row_format.specs.Places.{offsetWidth}
 use Rattle.datatype.specs.Check.{typesIn}
 use Rattle.row_column.proofs.Framing.{framed, frame-refused, frame-good}
 use Rattle.row_sound.specs.declared.Soundness.the-variants.{NotSound}
@@ -26,7 +26,7 @@ returns : tie.Need-returns
 returns c =
     let entry = c .before .before .before .before .before in
     let a = entry .args in
-    frame-refused rowLimit (typesIn (now (a .schema))) (now (a .row))
+    frame-refused (typesIn (now (a .schema))) (now (a .row))
     (entry .pre .layout)
     (λ e. NotSound) _ (sym (c .before .before .check-frame .ensures) ∙ c .enum-told .given .1)
 
@@ -37,7 +37,7 @@ returns-2 c =
     let ts = typesIn (now (a .schema)) in
     let known = entry .pre .layout in
     c .row-sound .ensures ∙ soundness-walked _ ts (now (a .row)) known
-    ∙ frame-good rowLimit ts (now (a .row)) known (λ e. NotSound) (λ p. soundIn offsetWidth p ts (now (a .row)))
+    ∙ frame-good ts (now (a .row)) known (λ e. NotSound) (λ p. soundIn (offsetWidth (a .layout .«is_long»)) p ts (now (a .row)))
     (sym (c .before .before .before .before .check-frame .ensures) ∙ c .before .before .packed .given .1)
 
 pub check-sound-spec : {M : Type 1} → statement M

@@ -42,7 +42,7 @@ add-start c =
     let h : 0 < plainSize (columnKind (a .kind)) = omega (arith, entry .pre .0, entry .pre .1 .0) in
     let f = plainly (a .kind) h in
     let s = entry .pre .1 .1 .1 .slot (f .fixed) in
-    let k = place-is (a .layout) (a .packed) (a .before) (now (a .row)) (plainType (columnKind (a .kind))) (f .aligned ∙ sym (entry .pre .0)) (c .before .fixed-data-start .ensures) (c .slot-start .ensures) in
+    let k = place-is (a .layout) (a .packed) (a .before) (now (a .row)) (plainType (columnKind (a .kind))) (f .aligned ∙ sym (entry .pre .0)) (c .before .fixed-data-start .ensures .0) (c .slot-start .ensures) in
     let i = rw (← k) at s in
     search needs
 
@@ -52,7 +52,7 @@ slot-sound-requires c κs =
     let a = entry .args in
     let h : 0 < plainSize (columnKind (a .kind)) = omega (arith, entry .pre .0, entry .pre .1 .0) in
     let f = plainly (a .kind) h in
-    let k = place-is (a .layout) (a .packed) (a .before) (now (a .row)) (plainType (columnKind (a .kind))) (f .aligned ∙ sym (entry .pre .0)) (c .before .fixed-data-start .ensures) (c .slot-start .ensures) in
+    let k = place-is (a .layout) (a .packed) (a .before) (now (a .row)) (plainType (columnKind (a .kind))) (f .aligned ∙ sym (entry .pre .0)) (c .before .fixed-data-start .ensures .0) (c .slot-start .ensures) in
     (h, rw (← k, f .size) at (entry .pre .1 .1 .1 .slot (f .fixed)))
 
 returns-3 : tie.Need-returns-3
@@ -61,7 +61,7 @@ returns-3 c =
     let a = entry .args in
     let h : 0 < plainSize (columnKind (a .kind)) = omega (arith, entry .pre .0, entry .pre .1 .0) in
     let f = plainly (a .kind) h in
-    let k = place-is (a .layout) (a .packed) (a .before) (now (a .row)) (plainType (columnKind (a .kind))) (f .aligned ∙ sym (entry .pre .0)) (c .before .before .fixed-data-start .ensures) (c .before .slot-start .ensures) in
+    let k = place-is (a .layout) (a .packed) (a .before) (now (a .row)) (plainType (columnKind (a .kind))) (f .aligned ∙ sym (entry .pre .0)) (c .before .before .fixed-data-start .ensures .0) (c .before .slot-start .ensures) in
     slot-told (a .layout) (a .packed) (a .before) (now (a .row)) (plainType (columnKind (a .kind))) (f .fixed) (f .size) (sym (c .before .before .before .before .column-bit-is-set .ensures) ∙ c .before .before .before .if2 .left) k (c .slot-sound .ensures)
 
 pub plain-sound-spec : {M : Type 1} → statement M

@@ -2,7 +2,9 @@ use borrow.Author.Needs.{needs}
 use Rattle.row_sound.proofs.varchar_sound.Statement.{statement}
 use Rattle.row_sound.proofs.Slots.{varchar-told}
 use denote.Ref.{now}
-use native.Mathlib.Omega.{arith}
+use lib.ListN.{length}
+use Rattle.row_format.specs.Places.{tableStart}
+use Rattle.row_format.proofs.Sorts.{entry-in}
 use mathlib.Core.Path.{refl}
 use Rattle.row_sound.proofs.varchar_sound.Tie as tie
 
@@ -15,7 +17,8 @@ column-bit-is-set-requires c κs = search needs
 offset-at-requires : tie.Need-offset-at-requires
 offset-at-requires c κs =
     let entry = c .before .before .before .before in
-    let k = entry .pre .rank refl in rw (c .before .before .varlen-table-offset .ensures) (omega (arith, k, entry .pre .table))
+    let a = entry .args in
+    rw (c .before .before .varlen-table-offset .ensures) (entry-in (a .layout .«is_long») (tableStart (a .layout .«num_columns»)) (a .layout .«num_varlen_cols») (a .before .«num_varlen_cols») (length (now (a .row))) (entry .pre .rank refl) (entry .pre .table))
 
 returns : tie.Need-returns
 returns c =

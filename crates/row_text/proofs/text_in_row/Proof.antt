@@ -3,7 +3,7 @@ use Rattle.row_text.proofs.text_in_row.Statement.{statement}
 use Rattle.row_text.proofs.text_in_row.Tie as tie
 use denote.Ref.{now}
 use mathlib.Core.Path.{_≡_, sym, ap, _∙_}
-use Rattle.row_format.specs.Places.{offsetWidth, rowLimit}
+use Rattle.row_format.specs.Places.{offsetWidth}
 use Rattle.datatype.specs.Check.{typesIn}
 use Rattle.row_column.specs.Column.{columnValue}
 use Rattle.row_column.specs.InnerWalk.{walkedColumn}
@@ -35,7 +35,7 @@ returns : tie.Need-returns
 returns c =
     let entry = c .before .before .before .before .before .before in
     let a = entry .args in (
-      frame-refused rowLimit (typesIn (now (a .schema))) (now (a .row))
+      frame-refused (typesIn (now (a .schema))) (now (a .row))
           (entry .pre .0 .layout)
           Refused _ (sym (c .before .before .before .check-frame .ensures) ∙ c .before .e .given .1),
       tt,
@@ -50,11 +50,11 @@ returns-2 c =
     let ts = typesIn (now (a .schema)) in
     let p = c .before .before .before .packed .given .0 .0 in
     let same : walkedColumn (a .layout) p (a .found .before) (a .found .ty) (now (a .row))
-    ≡ columnValue offsetWidth p ts (a .column) (now (a .row))
-    = rw (f .layout, f .type-is, ← h .0 .layout) (sym (column-walked p ts (a .column) (now (a .row)) (h .1 .0))) in (
+    ≡ columnValue (offsetWidth (a .layout .«is_long»)) p ts (a .column) (now (a .row))
+    = rw (f .layout, f .type-is, ← h .0 .layout) (sym (column-walked (a .layout .«is_long») p ts (a .column) (now (a .row)) (h .1 .0))) in (
       c .text-read .ensures .0 ∙ ap textRead (c .before .read-column .ensures .0 ∙ same)
-          ∙ frame-good rowLimit ts (now (a .row)) (h .0 .layout) Refused
-          (λ q. textRead (columnValue offsetWidth q ts (a .column) (now (a .row))))
+          ∙ frame-good ts (now (a .row)) (h .0 .layout) Refused
+          (λ q. textRead (columnValue (offsetWidth (a .layout .«is_long»)) q ts (a .column) (now (a .row))))
           (sym (c .before .before .before .before .before .check-frame .ensures)
           ∙ c .before .before .before .packed .given .1),
       c .text-read .ensures .1,

@@ -14,7 +14,7 @@ same-length : tie.Need-same-length
 same-length c = search needs
 
 returns : tie.Need-returns
-returns c = rw (c .before .before .write-8 .ensures .0, c .before .before .write-8 .ensures .1, eq-eqb _ 0 (c .before .before .before .before .if1 .taken))
+returns c = λ k. rw (c .before .before .write-8 .ensures .0, c .before .before .write-8 .ensures .1, eq-eqb _ 0 (c .before .before .before .before .if1 .taken))
 
 write-8-requires-2 : tie.Need-write-8-requires-2
 write-8-requires-2 c κs = search needs
@@ -23,7 +23,7 @@ same-length-2 : tie.Need-same-length-2
 same-length-2 c = search needs
 
 returns-2 : tie.Need-returns-2
-returns-2 c = rw (c .before .before .write-82 .ensures .0, c .before .before .write-82 .ensures .1, ne-eqb _ 0 (c .before .before .before .before .if1 .left))
+returns-2 c = λ k. rw (c .before .before .write-82 .ensures .0, c .before .before .write-82 .ensures .1, ne-eqb _ 0 (c .before .before .before .before .if1 .left))
 
 pub bool-record-spec : {M : Type 1} → statement M
 bool-record-spec =

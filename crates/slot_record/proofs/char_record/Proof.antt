@@ -31,7 +31,7 @@ returns c =
     let few = part-length (now (a .row)) (a .start) (a .end) (entry .pre .0) (entry .pre .1 .0) in
     c .before .before .text-record .ensures
     ∙ rw (few-bytes false (a .end - a .start) part (omega (arith, few)))
-    (char-text part (now (a .out)) (a .at) (a .i) (a .start) (points part) (isText part))
+    (char-text (a .is-long) part (now (a .out)) (a .at) (a .i) (a .start) (points part) (isText part))
 
 pub char-record-spec : {M : Type 1} → statement M
 char-record-spec = tie.close (tie.spec sub-text-record text-record-requires same-length returns)

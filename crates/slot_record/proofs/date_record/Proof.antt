@@ -29,14 +29,14 @@ same-length : tie.Need-same-length
 same-length c = search needs
 
 returns : tie.Need-returns
-returns c =
+returns c = λ k.
     let entry = c .before .before .before .before .before .before .before .before .before .before in
     let bs = now (entry .args .bytes) in
     let read = ap isDate (sym (passed w32 (search needs) (c .before .before .before .before .before .before .before .read-i32 .ensures ∙ ap (toZ w32) (slot-taken 4 bs (entry .pre .0))))) ∙ sym (c .before .before .before .before .before .before .is-date .ensures) ∙ c .before .before .before .before .before .if1 .taken in
     rw read (signed (now (entry .args .out)) (entry .args .at) 10 4 (c .before .before .write-32 .ensures .0) (c .before .before .write-32 .ensures .1) w32 (search needs) (c .before .before .before .read-u32 .ensures ∙ slot-taken 4 bs (entry .pre .0)))
 
 returns-2 : tie.Need-returns-2
-returns-2 c =
+returns-2 c = λ k.
     let entry = c .before .before .before .before .before in
     let bs = now (entry .args .bytes) in
     let read = ap isDate (sym (passed w32 (search needs) (c .before .before .read-i32 .ensures ∙ ap (toZ w32) (slot-taken 4 bs (entry .pre .0))))) ∙ sym (c .before .is-date .ensures) ∙ c .if1 .left in

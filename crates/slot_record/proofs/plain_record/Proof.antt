@@ -80,7 +80,7 @@ same-length c = search needs
 returns : tie.Need-returns
 returns c =
     let entry = c .before .before .before .before .before .before .before .before in
-    λ start.
+    λ k start.
     let a = entry .args in
     let h = rw (c .before .before .before .before .before .match .keys1) at (entry .pre .1 .0) in
     rw (c .before .before .before .before .before .match .keys1) (signed (now (a .out)) (a .at) 1 2 (c .before .before .write-16 .ensures .0) (c .before .before .write-16 .ensures .1) w16 (search needs) (c .before .before .before .read-u16 .ensures ∙ slot-taken 2 (now (a .bytes)) h))
@@ -91,7 +91,7 @@ same-length-2 c = search needs
 returns-2 : tie.Need-returns-2
 returns-2 c =
     let entry = c .before .before .before .before .before .before .before .before in
-    λ start.
+    λ k start.
     let a = entry .args in
     let h = rw (c .before .before .before .before .before .match .keys2) at (entry .pre .1 .0) in
     rw (c .before .before .before .before .before .match .keys2) (signed (now (a .out)) (a .at) 2 4 (c .before .before .write-32 .ensures .0) (c .before .before .write-32 .ensures .1) w32 (search needs) (c .before .before .before .read-u32 .ensures ∙ slot-taken 4 (now (a .bytes)) h))
@@ -102,7 +102,7 @@ same-length-3 c = search needs
 returns-3 : tie.Need-returns-3
 returns-3 c =
     let entry = c .before .before .before .before .before .before .before .before in
-    λ start.
+    λ k start.
     let a = entry .args in
     let h = rw (c .before .before .before .before .before .match .keys3) at (entry .pre .1 .0) in
     rw (c .before .before .before .before .before .match .keys3) (signed (now (a .out)) (a .at) 3 8 (c .before .before .write-64 .ensures .0) (c .before .before .write-64 .ensures .1) w64 (search needs) (c .before .before .before .read-u64 .ensures ∙ slot-taken 8 (now (a .bytes)) h))
@@ -113,7 +113,7 @@ same-length-4 c = search needs
 returns-4 : tie.Need-returns-4
 returns-4 c =
     let entry = c .before .before .before .before .before .before .before .before in
-    λ start.
+    λ k start.
     let a = entry .args in
     let h = rw (c .before .before .before .before .before .match .keys4) at (entry .pre .1 .0) in
     rw (c .before .before .before .before .before .match .keys4) (unsigned (now (a .out)) (a .at) 4 4 (c .before .before .write-322 .ensures .0) (c .before .before .write-322 .ensures .1) (c .before .before .before .read-u322 .ensures ∙ slot-taken 4 (now (a .bytes)) h))
@@ -124,7 +124,7 @@ same-length-5 c = search needs
 returns-5 : tie.Need-returns-5
 returns-5 c =
     let entry = c .before .before .before .before .before .before .before .before in
-    λ start.
+    λ k start.
     let a = entry .args in
     let h = rw (c .before .before .before .before .before .match .keys5) at (entry .pre .1 .0) in
     rw (c .before .before .before .before .before .match .keys5) (unsigned (now (a .out)) (a .at) 5 8 (c .before .before .write-642 .ensures .0) (c .before .before .write-642 .ensures .1) (c .before .before .before .read-u642 .ensures ∙ slot-taken 8 (now (a .bytes)) h))
@@ -133,32 +133,32 @@ same-length-6 : tie.Need-same-length-6
 same-length-6 c = search needs
 
 returns-6 : tie.Need-returns-6
-returns-6 c = λ start. rw (c .before .before .before .before .match .keys6) (c .before .before .bool-record .ensures)
+returns-6 c = λ k start. rw (c .before .before .before .before .match .keys6) (c .before .before .bool-record .ensures k)
 
 same-length-7 : tie.Need-same-length-7
 same-length-7 c = search needs
 
 returns-7 : tie.Need-returns-7
-returns-7 c = λ start. rw (c .before .before .before .before .match .keys7) (c .before .before .date-record .ensures)
+returns-7 c = λ k start. rw (c .before .before .before .before .match .keys7) (c .before .before .date-record .ensures k)
 
 same-length-8 : tie.Need-same-length-8
 same-length-8 c = search needs
 
 returns-8 : tie.Need-returns-8
-returns-8 c = λ start. rw (c .before .before .before .before .match .keys8) (c .before .before .time-record .ensures)
+returns-8 c = λ k start. rw (c .before .before .before .before .match .keys8) (c .before .before .time-record .ensures k)
 
 same-length-9 : tie.Need-same-length-9
 same-length-9 c = search needs
 
 returns-9 : tie.Need-returns-9
-returns-9 c = λ start.
+returns-9 c = λ k start.
     let r = c .before .before .before .before .match .rest in
     let b = c .before .before .before .before .before .before .before in
     let e =
     last-plain (b .args .kind) (r .0 .0 .0 .0 .0 .0 .0 .1) (r .0 .0 .0 .0 .0 .0 .1) (r .0 .0 .0 .0 .0 .1)
     (r .0 .0 .0 .0 .1) (r .0 .0 .0 .1) (r .0 .0 .1) (r .0 .1) (r .1) (b .pre .0)
     in
-    rw e (c .before .before .timestamp-record .ensures)
+    rw e (c .before .before .timestamp-record .ensures k)
 
 pub plain-record-spec : {M : Type 1} → statement M
 plain-record-spec =

@@ -4,6 +4,8 @@ use denote.Ref.{now}
 use lib.ListN.{take, drop}
 use mathlib.Core.Path.{sym, _∙_}
 use native.Mathlib.Omega.{arith}
+use Rattle.row_format.proofs.Sorts.{width-le, limit-le, limit-fits}
+use Rattle.value_list.proofs.Records.{length-range}
 use Rattle.slot_record.proofs.Numbers.{part-length}
 use Rattle.text_limit.proofs.Limits.{told-false}
 use Rattle.text_limit.specs.Limit.{fitsText}
@@ -36,16 +38,21 @@ sub-length : tie.Need-sub-length
 sub-length c = search needs
 
 write-range-requires : tie.Need-write-range-requires
-write-range-requires c κs = search needs
+write-range-requires c κs =
+    let entry = c .before .before .before .before .before .before .before .before in
+    let a = entry .args in (
+      omega (arith, length-range (a .is-long) (a .kind) (record { start = a .start; length = a .end - a .start }), width-le (a .is-long), entry .pre .1 .1 .1),
+      record { start = omega (arith, limit-fits (a .is-long), entry .pre); size = omega (arith, limit-fits (a .is-long), entry .pre) },
+    )
 
-cast-t23 : tie.Need-cast-t23
-cast-t23 c =
+cast-t24 : tie.Need-cast-t24
+cast-t24 c =
     let entry = c .before .before .before .before .before .before .before .before .before .before .before in
     let a = entry .args in
     let part = take (a .end - a .start) (drop (a .start) (now (a .row))) in
     let said = sym (c .before .before .before .before .before .before .before .check-within .ensures) ∙ c .before .before .before .before .before .points .given .1 in
     record {
-      fits = omega (arith, check-le (a .by-points) (a .n) part said, part-length (now (a .row)) (a .start) (a .end) (entry .pre .0) (entry .pre .1 .0), entry .pre .1);
+      fits = omega (arith, check-le (a .by-points) (a .n) part said, part-length (now (a .row)) (a .start) (a .end) (entry .pre .0) (entry .pre .1 .0), limit-le (a .is-long), entry .pre .1);
     }
 
 returns : tie.Need-returns
@@ -77,7 +84,7 @@ text-record-spec =
     enum-known-points
     sub-length
     write-range-requires
-    cast-t23
+    cast-t24
     returns
     same-length
     returns-2)

@@ -35,7 +35,7 @@ same-length : tie.Need-same-length
 same-length c = search needs
 
 returns : tie.Need-returns
-returns c =
+returns c = λ k.
     let entry = c .before .before .before .before .before .before .before .before .before .before .before .before in
     let bs = now (entry .args .bytes) in
     let m = c .before .before .before .before .before .before .micros .given in
@@ -44,7 +44,7 @@ returns c =
     rw (read, c .before .before .write-64 .ensures .0, c .before .before .write-64 .ensures .1, bits)
 
 returns-2 : tie.Need-returns-2
-returns-2 c =
+returns-2 c = λ k.
     let entry = c .before .before .before .before .before .before in
     let bs = now (entry .args .bytes) in
     let read = ap timeOf (sym (passed w64 (search needs) (c .before .before .before .read-i64 .ensures ∙ ap (toZ w64) (slot-taken 8 bs (entry .pre .0))))) ∙ sym (c .before .before .time-of .ensures) ∙ c .enum-told .given .1 in

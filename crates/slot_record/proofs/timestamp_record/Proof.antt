@@ -29,14 +29,14 @@ same-length : tie.Need-same-length
 same-length c = search needs
 
 returns : tie.Need-returns
-returns c =
+returns c = λ k.
     let entry = c .before .before .before .before .before .before .before .before .before .before in
     let bs = now (entry .args .bytes) in
     let read = ap isTimestamp (sym (passed w64 (search needs) (c .before .before .before .before .before .before .before .read-i64 .ensures ∙ ap (toZ w64) (slot-taken 8 bs (entry .pre .0))))) ∙ sym (c .before .before .before .before .before .before .is-timestamp .ensures) ∙ c .before .before .before .before .before .if1 .taken in
     rw read (signed (now (entry .args .out)) (entry .args .at) 13 8 (c .before .before .write-64 .ensures .0) (c .before .before .write-64 .ensures .1) w64 (search needs) (c .before .before .before .read-u64 .ensures ∙ slot-taken 8 bs (entry .pre .0)))
 
 returns-2 : tie.Need-returns-2
-returns-2 c =
+returns-2 c = λ k.
     let entry = c .before .before .before .before .before in
     let bs = now (entry .args .bytes) in
     let read = ap isTimestamp (sym (passed w64 (search needs) (c .before .before .read-i64 .ensures ∙ ap (toZ w64) (slot-taken 8 bs (entry .pre .0))))) ∙ sym (c .before .is-timestamp .ensures) ∙ c .if1 .left in

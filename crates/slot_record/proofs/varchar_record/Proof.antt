@@ -21,7 +21,7 @@ returns c =
     let a = c .before .before .before .before .before .before .args in
     let part = take (a .end - a .start) (drop (a .start) (now (a .row))) in
     c .before .before .text-record .ensures
-    ∙ varchar-text part (now (a .out)) (a .at) (a .i) (a .start) (points part) (fitsText (a .by-points) (a .n) part)
+    ∙ varchar-text (a .is-long) part (now (a .out)) (a .at) (a .i) (a .start) (points part) (fitsText (a .by-points) (a .n) part)
 
 pub varchar-record-spec : {M : Type 1} → statement M
 varchar-record-spec = tie.close (tie.spec text-record-requires same-length returns)

@@ -11,13 +11,13 @@ use Rattle.value_list.proofs.check_values.Statement.{statement}
 use Rattle.value_list.proofs.check_values.Tie as tie
 
 abbrev Inv-loop : tie.InvT-loop
-Inv-loop list columns area at₀ count₀ at count = Checking list columns area at count
+Inv-loop list is-long columns area at₀ count₀ at count = Checking is-long list columns area at count
 
 abbrev μ-loop : tie.MeasureT-loop
-μ-loop list columns area at₀ count₀ at count = length list - at
+μ-loop list is-long columns area at₀ count₀ at count = length list - at
 
 loop-holds : tie.Need-loop-holds Inv-loop μ-loop
-loop-holds c = let a = c .before .args in check-start (now (a .list)) (a .columns) (a .area)
+loop-holds c = let a = c .before .args in check-start (a .is-long) (now (a .list)) (a .columns) (a .area)
 
 record-size-requires : tie.Need-record-size-requires Inv-loop μ-loop
 record-size-requires c κs = search needs
@@ -46,11 +46,14 @@ loop-again c =
 returns-2 : tie.Need-returns-2 Inv-loop μ-loop
 returns-2 c = (search by-tests) ∙ check-end (c .before .before .loop .inv) (c .before .loop-test .left)
 
+row-limit-requires : tie.Need-row-limit-requires Inv-loop μ-loop
+row-limit-requires c κs = search needs
+
 returns-3 : tie.Need-returns-3 Inv-loop μ-loop
-returns-3 c = (search by-tests) ∙ check-end (c .before .before .before .loop .inv) (c .before .before .loop-test .left)
+returns-3 c = rw (← c .before .row-limit .ensures .0) (search by-tests) ∙ check-end (c .before .before .before .before .loop .inv) (c .before .before .before .loop-test .left)
 
 returns-4 : tie.Need-returns-4 Inv-loop μ-loop
-returns-4 c = (search by-tests) ∙ check-end (c .before .before .before .loop .inv) (c .before .before .loop-test .left)
+returns-4 c = rw (← c .before .row-limit .ensures .0) (search by-tests) ∙ check-end (c .before .before .before .before .loop .inv) (c .before .before .before .loop-test .left)
 
 pub check-values-spec : {M : Type 1} → statement M
 check-values-spec =
@@ -66,5 +69,6 @@ check-values-spec =
     loop-less
     loop-again
     returns-2
+    row-limit-requires
     returns-3
     returns-4)
