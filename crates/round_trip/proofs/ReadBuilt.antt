@@ -18,10 +18,10 @@ use Rattle.laws.proofs.Forall.{forall-length}
 use Rattle.laws.proofs.Maps.{at-map}
 use Rattle.row_format.specs.declared.Shape.{Shape}
 use Rattle.row_format.specs.declared.Shape.the-variants.{Fixed, Varlen}
-use Rattle.row_format.specs.Places.{through, rankAfter, varlens, rankOf, bitmapStart, tableStart, slotPlace, minimum, offsetWidth, rowLimit}
+use Rattle.row_format.specs.Places.{varlens, rankOf, bitmapStart, tableStart, slotPlace, minimum, offsetWidth, rowLimit}
 use Rattle.row_format.specs.Table.{Cell, bytes, payloads, lay, rangeEnd}
 use Rattle.row_format.specs.Row.{packedMarks, header, nullBit, varlenCells, rowWith, builtRow, slotSize}
-use Rattle.row_format.proofs.Places.{packed-inside}
+use Rattle.row_format.proofs.Places.{packed-inside, varlens-le}
 use Rattle.row_format.proofs.Row.{length-header, header-columns, header-varlens, length-row, slots-fit, bit-row, entry-row, end-row, range-row, of-rank}
 use Rattle.row_format.proofs.Cells.{columnBytes, cellAt, cell-built}
 use Rattle.row_format.specs.InnerTable.{rangeBytes}
@@ -62,11 +62,6 @@ any-default : (l : List Cell) (i : ℕ) (c d : Cell) → i < length l → getD l
 any-default [] i c d h = absurd (omega arith)
 any-default (x ∷ l) zero c d h = refl
 any-default (x ∷ l) (suc i) c d h = any-default l i c d (omega arith)
-
-ranks-le : (ss : List Shape) (k : ℕ) → through rankAfter k ss ≤ k + length ss
-ranks-le [] k = omega arith
-ranks-le (Fixed z a ∷ ss) k = omega (arith, ranks-le ss k)
-ranks-le (Varlen ∷ ss) k = omega (arith, ranks-le ss (k + 1))
 
 payload-inside : (ps : List Cell) (k : ℕ)
     → length (payloads (take k ps)) + length (bytes (getD ps k none)) ≤ length (payloads ps)
@@ -141,7 +136,7 @@ module _ (sort : Bool) (ts : List DataType) (vs : List DataValue) (area : List �
   v = varlens ss
 
   v-small : v ≤ 256
-  v-small = omega (arith, ranks-le ss 0, columns-are)
+  v-small = omega (arith, varlens-le ss, columns-are)
 
   field-is : varlenField r ≡ v + packedMarks sort
   field-is =
