@@ -1,6 +1,6 @@
-/* Every call once, from C, and a refusal of each. The columns are Int, Varchar(5), SmallInt; where code points are
- * counted, Char(5), Varchar(5), Bit(3), Int; where a length is in characters, one Varchar; where a list is printed,
- * those of platform occupations. */
+/* Every call once, from C, and a refusal of each; then long rows. The columns are Int, Varchar(5), SmallInt; where code
+ * points are counted, Char(5), Varchar(5), Bit(3), Int; where a length is in characters, one Varchar; where a list is
+ * printed, those of platform occupations. */
 #include <stdio.h>
 
 #include "rook_row.h"
@@ -57,8 +57,9 @@ static void show_text(const char *call, rook_text_answer answer) {
 
 static void show_handle(rook_row_handle handle) {
     rook_row_layout layout = handle.layout;
-    printf("%-28slength %zu, %zu columns, %zu Varchars, %zu fixed bytes, %s\n", "the handle", handle.length,
-           layout.num_columns, layout.num_varlen_cols, layout.fixed_size, layout.packed ? "packed" : "padded");
+    printf("%-28slength %zu, %zu columns, %zu Varchars, %zu fixed bytes, %s, %s\n", "the handle", handle.length,
+           layout.num_columns, layout.num_varlen_cols, layout.fixed_size, layout.packed ? "packed" : "padded",
+           layout.is_long ? "long" : "short");
 }
 
 static void show_counts(size_t columns) {
@@ -78,7 +79,8 @@ static const uint8_t accented[] = {9, 5, 0, 11, 5, 0, 14, 3, 0, 2};
 /* A row of six bytes of text: the Char is two from byte 0, the Varchar five from byte 0, the Bit the last; null. */
 static rook_row_answer build_accented(const char *text, size_t room, size_t numbers) {
     static const uint8_t list[] = {8, 0, 0, 2, 0, 9, 0, 0, 5, 0, 12, 5, 0, 1, 0, 0};
-    return rook_row_build(accented, sizeof accented, list, sizeof list, bytes(text), 6, row, room, counts, numbers);
+    return rook_row_build(accented, sizeof accented, false, list, sizeof list, bytes(text), 6, row, room, counts,
+                          numbers);
 }
 
 /* Counts of code points: "e" with an accent as Char, the same and a euro sign as Varchar, three bits, a null. */
@@ -99,7 +101,7 @@ static void show_points(void) {
     show_counts(5);
     show("read, three numbers",
          rook_row_read(accented, sizeof accented, row, end, all, 4, list, sizeof list, counts, 3), list);
-    show("build, no columns", rook_row_build(NULL, 0, NULL, 0, NULL, 0, row, sizeof row, NULL, 0), row);
+    show("build, no columns", rook_row_build(NULL, 0, false, NULL, 0, NULL, 0, row, sizeof row, NULL, 0), row);
 
     show_check("text: a letter and a sign", text, 5);
     show_check("text: C0 80", "\xC0\x80", 2);
@@ -113,7 +115,7 @@ static void show_points(void) {
 static rook_row_answer build_station(uint8_t kind, const char *name, uint8_t count) {
     const uint8_t type[] = {kind, 10, 0};
     const uint8_t list[] = {ROOK_VALUE_VARCHAR, 0, 0, count, 0};
-    return rook_row_build(type, sizeof type, list, sizeof list, bytes(name), count, row, sizeof row, counts, 1);
+    return rook_row_build(type, sizeof type, false, list, sizeof list, bytes(name), count, row, sizeof row, counts, 1);
 }
 
 /* The umlaut is one character of two bytes: the first name has 10 characters and 11 bytes, the second 11 and 12. */
@@ -127,7 +129,7 @@ static void show_characters(void) {
 /* Edits over a handle of the row; the first accepted one fills in the layout. */
 static void show_handle_edits(void) {
     size_t n = sizeof schema;
-    rook_row_handle handle = {length, {0, 0, 0, 0}};
+    rook_row_handle handle = {length, {0, 0, 0, 0, 0}};
     show("handle, column 3 to null", rook_row_handle_set_null(&handle, schema, n, row, sizeof row, 3), row);
     show_handle(handle);
     show("handle, set column 1",
@@ -171,16 +173,51 @@ static void show_occupations(void) {
     show_print("print, and a bad arrival", n, 80);
 }
 
+/* The same calls on a long row: four bytes for each offset, and ranges in numbers of four bytes. */
+static void show_long_rows(void) {
+    /* Int 1; a Varchar, 2 bytes from byte 0 of the text, four bytes a number; null. */
+    static const uint8_t wide[] = {2, 1, 0, 0, 0, 18, 0, 0, 0, 0, 2, 0, 0, 0, 0};
+    /* Null; a Varchar of the greatest start and length; null. */
+    static const uint8_t past[] = {0, 18, 255, 255, 255, 255, 255, 255, 255, 255, 0};
+    /* Char(65535), whose short rows would pass the limit, and a row of it that is cut off behind the header. */
+    static const uint8_t possession[] = {9, 255, 255};
+    uint8_t cut[] = {1, 0, 0, 0x80};
+    size_t n = sizeof schema;
+    uint8_t list[54], twin[20];
+    show("fresh, long", rook_row_fresh(schema, n, true, row, sizeof row), row);
+    show("fresh, long, no columns", rook_row_fresh(NULL, 0, true, row, sizeof row), row);
+    show("build, long, text past",
+         rook_row_build(schema, n, true, past, sizeof past, bytes("AB"), 2, row, sizeof row, counts, 3), row);
+    length = show("build, long",
+                  rook_row_build(schema, n, true, wide, sizeof wide, bytes("AB"), 2, row, sizeof row, counts, 3), row);
+    size_t end =
+        show("build, short, of the same",
+             rook_row_build(schema, n, false, wide, sizeof wide, bytes("AB"), 2, twin, sizeof twin, counts, 3), twin);
+    show_flag("same content as its twin", rook_row_same_content(schema, n, row, length, twin, end));
+    show("read columns 0 and 1", rook_row_read(schema, n, row, length, wanted, 2, list, sizeof list, counts, 3), list);
+    show_counts(3);
+    show_text("text of column 1", rook_row_text(schema, n, row, length, 1));
+    rook_row_handle handle = {length, {0, 0, 0, 0, 0}};
+    show("handle, set column 1",
+         rook_row_handle_set(&handle, schema, n, row, sizeof row, 1, longer, sizeof longer, bytes("ABCDE"), 5), row);
+    show_handle(handle);
+    length = show("set column 1 to null", rook_row_set_null(schema, n, row, sizeof row, handle.length, 1), row);
+    show("read a short row", rook_row_read(possession, 3, cut, 4, wanted, 1, list, sizeof list, counts, 3), list);
+    cut[3] = 0xC0;
+    show("read a long one", rook_row_read(possession, 3, cut, 4, wanted, 1, list, sizeof list, counts, 3), list);
+}
+
 int main(void) {
     size_t n = sizeof schema;
     uint8_t list[54];
-    show("fresh", rook_row_fresh(schema, n, row, sizeof row), row);
-    show("fresh, no room", rook_row_fresh(schema, n, row, 12), row);
-    show("fresh, unknown type", rook_row_fresh(bytes("\2\21"), 2, row, sizeof row), row);
+    show("fresh", rook_row_fresh(schema, n, false, row, sizeof row), row);
+    show("fresh, no room", rook_row_fresh(schema, n, false, row, 12), row);
+    show("fresh, unknown type", rook_row_fresh(bytes("\2\21"), 2, false, row, sizeof row), row);
 
     show("build, text cut",
-         rook_row_build(schema, n, values, sizeof values, bytes("A"), 1, row, sizeof row, counts, 3), row);
-    length = show("build", rook_row_build(schema, n, values, sizeof values, bytes("AB"), 2, row, sizeof row, counts, 3),
+         rook_row_build(schema, n, false, values, sizeof values, bytes("A"), 1, row, sizeof row, counts, 3), row);
+    length = show("build",
+                  rook_row_build(schema, n, false, values, sizeof values, bytes("AB"), 2, row, sizeof row, counts, 3),
                   row);
 
     show("read columns 0 and 1", rook_row_read(schema, n, row, length, wanted, 2, list, sizeof list, counts, 3), list);
@@ -202,10 +239,11 @@ int main(void) {
     show_points();
     show_characters();
     show_occupations();
+    show_long_rows();
 
     uint32_t version = rook_row_version();
     printf("%-28s%u.%u.%u\n", "version of the library", version >> 16, version >> 8 & 255, version & 255);
     printf("%-28s%s\n", "version of the header", ROOK_ROW_VERSION);
-    printf("%-28s%s\n", "the same series", rook_row_0_3() >> 8 == ROOK_ROW_VERSION_NUMBER >> 8 ? "yes" : "no");
+    printf("%-28s%s\n", "the same series", rook_row_0_4() >> 8 == ROOK_ROW_VERSION_NUMBER >> 8 ? "yes" : "no");
     return 0;
 }

@@ -57,11 +57,14 @@ static size_t done(rook_row_answer answer) {
     return answer.length;
 }
 
-static void build(struct row *row, const struct list *list) {
+static void build(struct row *row, bool is_long, const struct list *list) {
     uint32_t counts[COLUMNS];
-    row->length = done(rook_row_build(schema, schema_length, list->records, list->values.records.length, list->text,
-                                      list->values.text.length, row->bytes, ROOM, counts, COLUMNS));
+    row->length = done(rook_row_build(schema, schema_length, is_long, list->records, list->values.records.length,
+                                      list->text, list->values.text.length, row->bytes, ROOM, counts, COLUMNS));
 }
+
+/* Whether a row is long: its own mark tells. */
+static bool is_long(const struct row *row) { return (row->bytes[3] & 0x40) != 0; }
 
 /* What was read of a row: a value list, and the code points of each text. */
 struct reading {
@@ -110,7 +113,8 @@ static size_t show_head(const struct row *row) {
     char says[ROOM];
     sprintf(says, "%d columns", (int)rook_number_at(row->bytes, 2));
     line(row, 0, 2, "header", says);
-    sprintf(says, "%d Varchars; 80: slots are packed, end to end", row->bytes[2]);
+    sprintf(says, "%d Varchars; %s", row->bytes[2],
+            is_long(row) ? "C0: slots are packed, and the row is long" : "80: slots are packed, end to end");
     line(row, 2, 2, "header", says);
     size_t nulls = 0, length = (size_t)sprintf(says, "a bit a column, the low one first, set for null");
     for (size_t i = 0; i < COLUMNS; i++)
@@ -122,14 +126,16 @@ static size_t show_head(const struct row *row) {
 /* The offset of each Varchar, from byte `start` on; hands back where they end. */
 static size_t show_offsets(const struct row *row, size_t start) {
     char says[ROOM];
+    size_t width = is_long(row) ? 4 : 2;
     for (size_t i = 0; i < COLUMNS; i++) {
         if (columns[i].slot != 0)
             continue;
+        int offset = (int)rook_number_at(row->bytes + start, width);
         if (is_null(row, i))
             sprintf(says, "%s: null", columns[i].name);
         else
-            sprintf(says, "%s: its text starts at byte %d", columns[i].name, (int)rook_number_at(row->bytes + start, 2));
-        start = line(row, start, 2, "offsets", says);
+            sprintf(says, "%s: its text starts at byte %d", columns[i].name, offset);
+        start = line(row, start, width, "offsets", says);
     }
     return start;
 }
@@ -251,11 +257,11 @@ static void build_accented(struct row *row) {
     rook_values_null(&list.values);
     rook_values_small_int(&list.values, 6);
     rook_values_bool(&list.values, 0);
-    build(row, &list);
+    build(row, false, &list);
 }
 
 int main(void) {
-    struct row table[ROWS];
+    struct row table[ROWS], twin;
     struct list first, second;
     printf("A table of platform occupations. Numbers have their low byte first. Its schema has a record for each\n"
            "column: a byte for the kind of type, then what the type is declared with.\n");
@@ -268,8 +274,10 @@ int main(void) {
     rook_values_timestamp(&first.values, at(6, 14, 30));
     rook_values_small_int(&first.values, 4);
     rook_values_bool(&first.values, 1);
-    build(&table[0], &first);
+    build(&table[0], false, &first);
     show("Row 0, built", &table[0]);
+    build(&twin, true, &first);
+    show("Row 0, built as a long row", &twin);
 
     start(&second);
     rook_values_varchar(&second.values, "2a");
@@ -278,7 +286,7 @@ int main(void) {
     rook_values_timestamp(&second.values, at(6, 21, 30));
     rook_values_null(&second.values);
     rook_values_bool(&second.values, 0);
-    build(&table[1], &second);
+    build(&table[1], false, &second);
     show("Row 1, built", &table[1]);
 
     edit(&table[0]);

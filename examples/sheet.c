@@ -55,7 +55,7 @@ int main(void) {
         put_text(&values, occupations[i].unit);
         put_time(&values, occupations[i].arrival);
         put_time(&values, occupations[i].departure);
-        rook_row_answer built = rook_row_build(schema, sizeof schema, records, values.records.length, text,
+        rook_row_answer built = rook_row_build(schema, sizeof schema, false, records, values.records.length, text,
                                                values.text.length, row, sizeof row, counts, COLUMNS);
         if (built.number != ROOK_DONE) {
             fprintf(stderr, "row %zu: %s\n", i, rook_number_text(built.number));

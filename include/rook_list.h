@@ -129,12 +129,31 @@ static inline void rook_values_numeric(rook_values *values, int64_t number, uint
     rook_values_numeric_halves(values, number < 0 ? -1 : 0, (uint64_t)number, scale);
 }
 
-/* A Char, a Varchar or packed bits: the bytes go to the text area, their range into the record. A text area above 65,535
- * bytes is refused by the library (10), so that a range that is cut here is never used. */
+/* The kind of a text or of bits whose range has four bytes for each number. */
+static inline uint8_t rook_long_kind(uint8_t kind) {
+    switch (kind) {
+    case ROOK_VALUE_CHAR:
+        return ROOK_VALUE_LONG_CHAR;
+    case ROOK_VALUE_VARCHAR:
+        return ROOK_VALUE_LONG_VARCHAR;
+    case ROOK_VALUE_BIT:
+        return ROOK_VALUE_LONG_BIT;
+    default:
+        return kind;
+    }
+}
+
+/* A Char, a Varchar or packed bits: the bytes go to the text area, their range into the record. Where two bytes do not
+ * hold start or length, the record is of the long kind, which may also be asked for; rows of either sort take both. A
+ * text area that four bytes cannot measure is refused by the library (10). */
 static inline void rook_values_text(rook_values *values, uint8_t kind, const void *bytes, size_t count) {
+    size_t start = values->text.length;
+    if (start > UINT16_MAX || count > UINT16_MAX)
+        kind = rook_long_kind(kind);
+    size_t size = kind < ROOK_VALUE_LONG_CHAR ? 2 : 4;
     rook_list_number(&values->records, 1, kind);
-    rook_list_number(&values->records, 2, values->text.length);
-    rook_list_number(&values->records, 2, count);
+    rook_list_number(&values->records, size, start);
+    rook_list_number(&values->records, size, count);
     rook_list_bytes(&values->text, bytes, count);
 }
 static inline void rook_values_char(rook_values *values, const char *text) {
@@ -158,7 +177,7 @@ static inline void rook_rows_put(rook_list *rows, const uint8_t *row, size_t row
 /* ---- a value list read: what rook_row_read wrote, whose text area is the row */
 
 typedef struct {
-    uint8_t kind;
+    uint8_t kind;   /* of a text or bits ROOK_VALUE_CHAR, _VARCHAR or _BIT, also where the list has the long kind */
     int64_t number; /* SmallInt, Int, BigInt, Bool, Date, Time, Timestamp; the upper half of a Numeric */
     uint64_t low;   /* the lower half of a Numeric; the bits of a Real or a DoublePrecision */
     uint8_t scale;  /* of a Numeric */
@@ -184,16 +203,21 @@ static inline uint64_t rook_number_at(const uint8_t *bytes, size_t size) {
     return number;
 }
 
-/* The bytes of a body by its kind, for kinds up to ROOK_VALUE_TIMESTAMP. */
+static inline int rook_kind_known(uint8_t kind) {
+    return kind <= ROOK_VALUE_TIMESTAMP || (kind >= ROOK_VALUE_LONG_CHAR && kind <= ROOK_VALUE_LONG_BIT);
+}
+
+/* The bytes of a body by its kind, for kinds that are known. */
 static inline size_t rook_body_length(uint8_t kind) {
     static const uint8_t lengths[] = {0, 2, 4, 8, 4, 8, 17, 1, 4, 4, 4, 8, 4, 8};
-    return lengths[kind];
+    return kind <= ROOK_VALUE_TIMESTAMP ? lengths[kind] : 8;
 }
 
 /* The next value: 1, or 0 at the list's end and where no whole record of a known kind stands. */
 static inline int rook_values_next(rook_values_reader *reader, rook_value *value) {
+    static const uint8_t plain[] = {ROOK_VALUE_CHAR, ROOK_VALUE_VARCHAR, ROOK_VALUE_BIT};
     size_t left = reader->length - reader->at;
-    if (left == 0 || reader->bytes[reader->at] > ROOK_VALUE_TIMESTAMP)
+    if (left == 0 || !rook_kind_known(reader->bytes[reader->at]))
         return 0;
     const uint8_t *body = reader->bytes + reader->at + 1;
     size_t size = rook_body_length(body[-1]);
@@ -216,6 +240,13 @@ static inline int rook_values_next(rook_values_reader *reader, rook_value *value
     case ROOK_VALUE_BIT:
         value->start = (size_t)rook_number_at(body, 2);
         value->length = (size_t)rook_number_at(body + 2, 2);
+        break;
+    case ROOK_VALUE_LONG_CHAR:
+    case ROOK_VALUE_LONG_VARCHAR:
+    case ROOK_VALUE_LONG_BIT:
+        value->kind = plain[value->kind - ROOK_VALUE_LONG_CHAR];
+        value->start = (size_t)rook_number_at(body, 4);
+        value->length = (size_t)rook_number_at(body + 4, 4);
         break;
     case ROOK_VALUE_SMALL_INT:
         value->number = (int16_t)rook_number_at(body, 2);

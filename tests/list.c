@@ -1,5 +1,6 @@
-/* include/rook_list.h: a value of every kind written, built into a row, read again and compared; stored forms of
- * docs/FORMAT.md; lists that do not fit, are cut, or have an unknown kind; row lists. */
+/* include/rook_list.h: a value of every kind written, built into a row of each sort, read again and compared; stored
+ * forms of docs/FORMAT.md; texts past 65,535 bytes; lists that do not fit, are cut, or have an unknown kind; row lists.
+ */
 #include <stdio.h>
 #include <string.h>
 
@@ -99,7 +100,7 @@ static void compare(const uint8_t *list, size_t length, const uint8_t *row) {
     expect(!rook_values_next(&reader, &value), "a value past the last");
 }
 
-static void every_kind(void) {
+static void every_kind(bool is_long) {
     uint8_t schema[64], records[ROOK_MAX_RECORD * KINDS], text[64], row[256], list[ROOK_MAX_RECORD * KINDS];
     uint16_t all[KINDS];
     uint32_t built_counts[KINDS], counts[KINDS];
@@ -108,8 +109,8 @@ static void every_kind(void) {
     rook_values v = rook_values_in(records, sizeof records, text, sizeof text);
     put_values(&v);
     expect(rook_values_fit(&v), "the values do not fit");
-    rook_row_answer built = rook_row_build(schema, schema_length, records, v.records.length, text, v.text.length, row,
-                                           sizeof row, built_counts, KINDS);
+    rook_row_answer built = rook_row_build(schema, schema_length, is_long, records, v.records.length, text,
+                                           v.text.length, row, sizeof row, built_counts, KINDS);
     expect(built.number == ROOK_DONE, rook_number_text(built.number));
     for (uint16_t i = 0; i < KINDS; i++)
         all[i] = i;
@@ -118,6 +119,9 @@ static void every_kind(void) {
     expect(read.number == ROOK_DONE, rook_number_text(read.number));
     expect(memcmp(built_counts, points, sizeof points) == 0, "the code points of what was built");
     expect(memcmp(counts, points, sizeof points) == 0, "the code points of what was read");
+    /* a SmallInt, an Int, a BigInt, a Real, a DoublePrecision, a Numeric and a Bool are before the Char */
+    size_t before = 3 + 5 + 9 + 5 + 9 + 18 + 2;
+    expect(list[before] == (is_long ? ROOK_VALUE_LONG_CHAR : ROOK_VALUE_CHAR), "the kind of a Char in the list");
     compare(list, read.length, row);
 }
 
@@ -132,9 +136,65 @@ static void numerics(void) {
     rook_values_numeric(&v, 7, 0);
     uint32_t counts[2];
     rook_row_answer built =
-        rook_row_build(schema, s.length, records, v.records.length, NULL, 0, row, sizeof row, counts, 2);
+        rook_row_build(schema, s.length, false, records, v.records.length, NULL, 0, row, sizeof row, counts, 2);
     static const uint8_t wanted[] = {2, 0, 0, 0x80, 0, 0x01, 0x23, 0x4D, 0x00, 0x7C};
     expect(built.length == sizeof wanted && memcmp(row, wanted, sizeof wanted) == 0, "the row of two Numerics");
+}
+
+/* A remark of 70,000 bytes, and behind it a Char, a Varchar and bits, which begin past 65,535 in the text area. */
+static void long_texts(void) {
+    enum { REMARK = 70000, COLUMNS = 4 };
+    static uint8_t remark[REMARK], text[REMARK + 16], row[REMARK + 64];
+    static const uint16_t all[COLUMNS] = {0, 1, 2, 3};
+    /* two bytes each, so that there are 35,000 characters */
+    for (size_t i = 0; i < REMARK; i += 2)
+        memcpy(remark + i, i % 4 == 0 ? "\xC3\xA9" : "\xC3\xBC", 2);
+    uint8_t schema[16], records[ROOK_MAX_RECORD * COLUMNS], list[ROOK_MAX_RECORD * COLUMNS];
+    uint32_t counts[COLUMNS];
+    rook_list s = rook_list_in(schema, sizeof schema);
+    rook_schema_put_sized(&s, ROOK_VARCHAR_CHARS, 40000);
+    rook_schema_put_sized(&s, ROOK_CHAR, 3);
+    rook_schema_put_sized(&s, ROOK_VARCHAR, 9);
+    rook_schema_put_sized(&s, ROOK_BIT, 4);
+    rook_values v = rook_values_in(records, sizeof records, text, sizeof text);
+    rook_values_text(&v, ROOK_VALUE_VARCHAR, remark, REMARK);
+    rook_values_char(&v, "ab");
+    rook_values_varchar(&v, "west");
+    rook_values_bits(&v, (const uint8_t *)"\xA0", 1);
+    expect(rook_values_fit(&v), "the long texts do not fit");
+    static const uint8_t written[] = {18, 0,    0,    0, 0, 0x70, 0x11, 1, 0,  /* 70,000 bytes from 0 */
+                                      17, 0x70, 0x11, 1, 0, 2,    0,    0, 0,  /* 2 from 70,000 */
+                                      18, 0x72, 0x11, 1, 0, 4,    0,    0, 0,  /* 4 from 70,002 */
+                                      19, 0x76, 0x11, 1, 0, 1,    0,    0, 0}; /* 1 from 70,006 */
+    expect(v.records.length == sizeof written && memcmp(records, written, sizeof written) == 0, "the long ranges");
+
+    rook_row_answer refused = rook_row_build(schema, s.length, false, records, v.records.length, text, v.text.length,
+                                             row, sizeof row, counts, COLUMNS);
+    expect(refused.number == ROOK_BAD_VALUE_LIST, "a text area above 65,535 bytes for a short row");
+    rook_row_answer built = rook_row_build(schema, s.length, true, records, v.records.length, text, v.text.length, row,
+                                           sizeof row, counts, COLUMNS);
+    /* header, bitmap, two offsets, Char and Bit, texts */
+    expect(built.number == ROOK_DONE && built.length == 4 + 1 + 8 + 4 + REMARK + 4, "the row of the long texts");
+    rook_row_answer read =
+        rook_row_read(schema, s.length, row, built.length, all, COLUMNS, list, sizeof list, counts, COLUMNS);
+    rook_values_reader reader = rook_values_of(list, read.length);
+    rook_value value = next(&reader, ROOK_VALUE_VARCHAR);
+    expect(is_text(&value, row, (const char *)remark, REMARK) && value.start == 17, "the remark");
+    value = next(&reader, ROOK_VALUE_CHAR);
+    expect(is_text(&value, row, "ab ", 3), "a Char past 65,535");
+    value = next(&reader, ROOK_VALUE_VARCHAR);
+    expect(is_text(&value, row, "west", 4) && value.start == 17 + REMARK, "a Varchar past 65,535");
+    value = next(&reader, ROOK_VALUE_BIT);
+    expect(is_text(&value, row, "\xA0", 1), "bits past 65,535");
+    expect(counts[0] == 35000 && counts[1] == 3 && counts[2] == 4 && counts[3] == 0, "the code points of long texts");
+
+    /* ranges of four bytes where two would do, as asked for; the same row */
+    v = rook_values_in(records, sizeof records, text, sizeof text);
+    rook_values_text(&v, ROOK_VALUE_LONG_VARCHAR, "west", 4);
+    expect(v.records.length == 9 && memcmp(records, "\x12\0\0\0\0\4\0\0\0", 9) == 0, "a long range as asked for");
+    rook_row_answer set = rook_row_set(schema, s.length, row, sizeof row, built.length, 0, records, v.records.length,
+                                       text, v.text.length);
+    expect(set.number == ROOK_DONE && set.length == 17 + 8 && memcmp(row + 17, "westwest", 8) == 0, "a long range set");
 }
 
 static void limits(void) {
@@ -148,9 +208,17 @@ static void limits(void) {
 
     rook_value value;
     rook_values_reader cut = rook_values_of((const uint8_t *)"\x02\x01\x00\x00", 4);
-    rook_values_reader unknown = rook_values_of((const uint8_t *)"\x0E", 1);
     expect(!rook_values_next(&cut, &value) && cut.at == 0, "a record that is cut off");
-    expect(!rook_values_next(&unknown, &value), "a record of unknown kind");
+    for (unsigned kind = 0; kind < 256; kind++) {
+        uint8_t record[1 + ROOK_MAX_RECORD] = {(uint8_t)kind};
+        rook_values_reader reader = rook_values_of(record, sizeof record);
+        int known = kind <= 13 || (kind >= 17 && kind <= 19);
+        expect(rook_values_next(&reader, &value) == known, "a record of unknown kind is none, and of a known kind one");
+        rook_values_reader short_of_one = rook_values_of(record, reader.at - (reader.at != 0));
+        expect(!rook_values_next(&short_of_one, &value), "a record that has a byte less");
+    }
+    for (uint32_t number = 0; number <= ROOK_UNPRINTABLE; number++)
+        expect(strstr(rook_number_text(number), "65,535") == NULL, "a text with the limit of one sort");
     expect(strcmp(rook_number_text(ROOK_NOT_SOUND), "the row to be edited is not sound") == 0, "the text of 15");
     expect(strcmp(rook_number_text(ROOK_BAD_LIST), "the row list is cut, or over its limits") == 0, "the text of 16");
     expect(strstr(rook_number_text(ROOK_UNPRINTABLE), "double quote") != NULL, "the text of 17");
@@ -175,8 +243,10 @@ static void row_lists(void) {
 }
 
 int main(void) {
-    every_kind();
+    every_kind(false);
+    every_kind(true);
     numerics();
+    long_texts();
     limits();
     row_lists();
     if (faults == 0)

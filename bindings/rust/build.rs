@@ -60,7 +60,7 @@ fn installed() -> Option<PathBuf> {
     (answer.status.success() && holds_archive(&folder)).then_some(folder)
 }
 
-/// Refuses an archive of another series. Each has a function that is called after its own, as `rook_row_0_3`.
+/// Refuses an archive of another series. Each has a function that is called after its own, as `rook_row_0_4`.
 fn of_our_series(archive: &Path) -> Result<(), String> {
     let bytes = fs::read(archive).map_err(|why| format!("{}: {why}", archive.display()))?;
     let ours = concat!(

@@ -1,9 +1,11 @@
-//! The null flag against a few lines that say it: 4, 3, 9 against the header's count, 3 for a cut bitmap, then the bit.
+//! The null flag against a few lines that say it: 4 by the row's sort, 3, 9 against the header's count, 3 for a cut
+//! bitmap, then the bit.
 use native::Random;
 use rook_row::raw::{is_null, Refusal};
 
 fn plain(row: &[u8], column: usize) -> Result<bool, u32> {
-    if row.len() > 65_535 {
+    let is_long = row.len() >= 4 && row[3] & 0x40 != 0;
+    if row.len() > if is_long { 1_048_576 } else { 65_535 } {
         return Err(4);
     }
     if row.len() < 4 {
@@ -94,7 +96,7 @@ fn random_rows() {
         }
         agree(&row, random.below(300));
     }
-    let mut long = vec![0u8; 65_537];
+    let mut long = vec![0u8; 1_048_577];
     long[..2].copy_from_slice(&[0xFF, 0xFF]);
     long[4..8196]
         .iter_mut()
@@ -102,6 +104,17 @@ fn random_rows() {
     for column in 0..65_535 {
         agree(&long[..65_535], column);
     }
-    agree(&long[..65_536], 0);
-    agree(&long, 0);
+    // Every bit of the header but those of the count, at both limits.
+    for bit in 0..16 {
+        long[2..4].copy_from_slice(&(1u16 << bit).to_le_bytes());
+        for length in [65_535, 65_536, 65_537, 1_048_575, 1_048_576, 1_048_577] {
+            for column in [0, 65_534, 65_535] {
+                agree(&long[..length], column);
+            }
+        }
+    }
+    assert_eq!(long[3], 0x80);
+    assert!(is_null(&long[..65_536], 0).is_err());
+    long[3] = 0x40;
+    assert!(is_null(&long[..65_536], 0).is_ok());
 }

@@ -7,7 +7,7 @@ use std::time::Duration;
 use std::{env, fs, thread};
 
 use native::Random;
-use rook_row::{occupation_schema, print_occupations, RowBuf, Timestamp, Value};
+use rook_row::{occupation_schema, print_occupations, RowBuf, Sort, Timestamp, Value};
 
 fn program() -> PathBuf {
     let built = PathBuf::from(env!("CARGO_MANIFEST_DIR")).join("../target/bin/occupations");
@@ -92,6 +92,24 @@ fn t41() -> Vec<u8> {
 }
 
 const LINE: &str = "\"3\"|\"T41\"|1970-01-01 00:00:00|-\n";
+
+/// A long row is printed like the short one of the same values.
+#[test]
+fn long_rows() {
+    let schema = occupation_schema();
+    let short = RowBuf::from_bytes(t41());
+    let values = short.read(&schema).expect("a row");
+    let long = RowBuf::build(schema.with_sort(Sort::Long), &values).expect("a row");
+    assert_eq!(long.as_bytes().len(), short.as_bytes().len() + 4);
+    let both = [long.into_bytes(), t41()];
+    let text = written(&[&list(&both)]);
+    assert_eq!(String::from_utf8(text).expect("text"), LINE.repeat(2));
+    // Without the mark the first four bytes of its offsets, 1D 00 00 00, are two: a platform from byte 29, no unit.
+    let [mut unmarked, _] = both;
+    unmarked[3] = 0x80;
+    let line = "\"3T41\"|-|1970-01-01 00:00:00|-\n";
+    assert_eq!(written(&[&list(&[unmarked])]), line.as_bytes());
+}
 
 #[test]
 fn small_lists() {

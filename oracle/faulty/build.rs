@@ -1,12 +1,13 @@
 //! Writes the model with every fault of the list `faults` in it. A fault is five
 //! lines: what is wrong; the file; a text that stands in it once; the expression
-//! whose first occurrence behind that text is wrong; what it is instead.
+//! whose first occurrence behind that text is wrong; what it is instead. Several faults
+//! may be about one expression.
 use std::path::{Path, PathBuf};
 use std::{env, fs};
 
-const MODULES: [&str; 11] = [
-    "build", "calendar", "edit", "layout", "print", "read", "row_list", "schema", "stored", "text",
-    "value",
+const MODULES: [&str; 13] = [
+    "build", "calendar", "edit", "handle", "layout", "print", "read", "row_list", "schema", "sort",
+    "stored", "text", "value",
 ];
 
 struct Fault<'a> {
@@ -64,12 +65,16 @@ fn planted(file: &str, text: &str, faults: &[Fault]) -> String {
     places.sort_by_key(|(place, _)| *place);
     let mut text = text.to_string();
     let mut before = text.len();
-    for (place, fault) in places.into_iter().rev() {
-        let end = place + fault.old.len();
-        assert!(end <= before, "{} overlaps another", fault.name);
-        let (number, old, new) = (fault.number, fault.old, fault.new);
-        let switch = format!("(if crate::on({number}) {{ {new} }} else {{ {old} }})");
-        text.replace_range(place..end, &switch);
+    for faults in places.chunk_by(|a, b| a.0 == b.0).rev() {
+        let (place, Fault { name, old, .. }) = faults[0];
+        let end = place + old.len();
+        assert!(end <= before, "{name} overlaps another");
+        let mut switch = String::new();
+        for (_, fault) in faults {
+            assert_eq!(fault.old, *old, "{}: another expression", fault.name);
+            switch += &format!("if crate::on({}) {{ {} }} else ", fault.number, fault.new);
+        }
+        text.replace_range(place..end, &format!("({switch}{{ {old} }})"));
         before = place;
     }
     text

@@ -1,10 +1,10 @@
 //! Many rows built of values.
 use crate::error::Call;
 use crate::list::{with_counts, ValueList};
-use crate::{raw, Error, RowMut, RowRef, Schema, Value, MAX_LENGTH};
+use crate::{raw, Error, RowFormat, RowMut, RowRef, Schema, Sort, Value};
 use alloc::vec::Vec;
 
-/// Builds rows of one schema; its lists and the row's memory are kept from one row to the next.
+/// Builds rows of one schema and sort; its lists and the row's memory are kept from one row to the next.
 ///
 /// ```
 /// use rook_row::{Builder, DataType, Schema, Value};
@@ -20,6 +20,7 @@ use alloc::vec::Vec;
 #[derive(Debug, Clone)]
 pub struct Builder {
     schema: Schema,
+    sort: Sort,
     list: ValueList,
     row: Vec<u8>,
     /// Those of the row that was last built with widths.
@@ -27,18 +28,21 @@ pub struct Builder {
 }
 
 impl Builder {
-    /// A builder of rows of this schema.
-    pub fn new(schema: &Schema) -> Builder {
+    /// A builder of short rows of this schema, or of rows of [another sort](Schema::with_sort).
+    pub fn new<'s>(format: impl Into<RowFormat<'s>>) -> Builder {
+        let format = format.into();
         Builder {
-            schema: schema.clone(),
+            schema: format.schema().clone(),
+            sort: format.sort(),
             list: ValueList::default(),
             row: Vec::new(),
             widths: Vec::new(),
         }
     }
 
-    /// The row of these values, one for each column. Refuses with 10 (not one for each column, or texts above 65,535
-    /// bytes), 11 and 12 (a column's value), 13 (row above 65,535 bytes).
+    /// The row of these values, one for each column. Refuses with 2 (the schema serves long rows alone), 10 (not one
+    /// for each column, or texts above the [sort's length](Sort::max_length)), 11 and 12 (a column's value), 13 (a row
+    /// above that length).
     pub fn build(&mut self, values: &[Value<'_>]) -> Result<RowRef<'_>, Error> {
         let length = self.write(values, |_, _| ())?;
         Ok(RowRef::new(&self.row[..length]))
@@ -81,9 +85,13 @@ impl Builder {
     ) -> Result<RowMut<'b>, Error> {
         self.list.fill(&self.schema, values);
         let length = with_counts(self.schema.len(), |counts| {
-            write(&self.schema, &self.list, values, buffer, counts)
+            write(self.format(), &self.list, values, buffer, counts)
         })?;
         Ok(RowMut::new(buffer, length))
+    }
+
+    fn format(&self) -> RowFormat<'_> {
+        self.schema.with_sort(self.sort)
     }
 
     /// Writes the row of these values to the kept memory, and hands back its length; `then` is given the counts of code
@@ -96,12 +104,14 @@ impl Builder {
     ) -> Result<usize, Error> {
         self.list.fill(&self.schema, values);
         // Only the texts of Varchars lengthen the row of nulls, and the text area has those and more.
-        let room = (self.schema.minimum() + self.list.text().len()).min(MAX_LENGTH);
+        let room = self.format().minimum() + self.list.text().len();
+        let room = room.min(self.sort.max_length());
         if self.row.len() < room {
             self.row.resize(room, 0);
         }
         with_counts(self.schema.len(), |counts| {
-            let length = write(&self.schema, &self.list, values, &mut self.row, counts)?;
+            let format = self.schema.with_sort(self.sort);
+            let length = write(format, &self.list, values, &mut self.row, counts)?;
             then(counts, &mut self.widths);
             Ok(length)
         })
@@ -109,12 +119,19 @@ impl Builder {
 }
 
 fn write(
-    schema: &Schema,
+    format: RowFormat<'_>,
     list: &ValueList,
     values: &[Value<'_>],
     out: &mut [u8],
     counts: &mut [u32],
 ) -> Result<usize, Error> {
-    raw::build(schema.as_bytes(), list.bytes(), list.text(), out, counts)
-        .map_err(|refusal| Error::new(refusal, Call::Build(schema, values)))
+    raw::build(
+        format.schema().as_bytes(),
+        format.sort().is_long(),
+        list.bytes(),
+        list.text(),
+        out,
+        counts,
+    )
+    .map_err(|refusal| Error::new(refusal, Call::Build(format, values)))
 }

@@ -1,5 +1,5 @@
 //! Many rows edited.
-use crate::{list, ColumnIndex, Error, IntoValue, RowMut, RowRef, Schema, MAX_LENGTH};
+use crate::{list, ColumnIndex, Error, IntoValue, RowFormat, RowMut, RowRef, Schema, Sort};
 use alloc::vec::Vec;
 
 /// Edits rows of one schema, one after the other, in memory that is kept.
@@ -22,15 +22,21 @@ use alloc::vec::Vec;
 #[derive(Debug, Clone)]
 pub struct Editor {
     schema: Schema,
+    /// Of the rows of nulls; another row has its own.
+    sort: Sort,
     buffer: Vec<u8>,
     length: usize,
 }
 
 impl Editor {
-    /// An editor of rows of this schema, with the row of nulls open.
-    pub fn new(schema: &Schema) -> Editor {
+    /// An editor of rows of this schema, with the row of nulls open: a short one, or of
+    /// [another sort](Schema::with_sort). If the schema serves long rows alone, and short ones are asked for, no row is
+    /// open, and edits refuse with 2. Rows of both sorts can be opened in any case.
+    pub fn new<'s>(format: impl Into<RowFormat<'s>>) -> Editor {
+        let format = format.into();
         let mut editor = Editor {
-            schema: schema.clone(),
+            schema: format.schema().clone(),
+            sort: format.sort(),
             buffer: Vec::new(),
             length: 0,
         };
@@ -38,17 +44,17 @@ impl Editor {
         editor
     }
 
-    /// Opens the row of nulls.
+    /// Opens the row of nulls, as [`new`](Editor::new) does.
     pub fn fresh(&mut self) {
-        self.make_room(self.schema.minimum());
-        // A schema is checked when it is made, and there is room: nothing is left to refuse.
-        self.length = RowMut::fresh(&self.schema, &mut self.buffer).map_or(0, |row| row.len());
+        let format = self.schema.with_sort(self.sort);
+        make_room(&mut self.buffer, format.minimum());
+        self.length = RowMut::fresh(format, &mut self.buffer).map_or(0, |row| row.len());
     }
 
     /// Opens a copy of this row, whatever its bytes are: the edits check them.
     pub fn open(&mut self, row: RowRef<'_>) {
         let bytes = row.as_bytes();
-        self.make_room(bytes.len());
+        make_room(&mut self.buffer, bytes.len());
         self.buffer[..bytes.len()].copy_from_slice(bytes);
         self.length = bytes.len();
     }
@@ -69,7 +75,9 @@ impl Editor {
             return self.set_null(column);
         };
         // No value lengthens a row by more than its text.
-        self.make_room((self.length + list::text(&value).len()).min(MAX_LENGTH));
+        let room = self.length + list::text(&value).len();
+        let room = room.min(self.row().sort().max_length());
+        make_room(&mut self.buffer, room);
         let mut row = RowMut::new(&mut self.buffer, self.length);
         row.set_value(&self.schema, column, &value)?;
         self.length = row.len();
@@ -83,10 +91,10 @@ impl Editor {
         self.length = row.len();
         Ok(())
     }
+}
 
-    fn make_room(&mut self, room: usize) {
-        if self.buffer.len() < room {
-            self.buffer.resize(room, 0);
-        }
+fn make_room(buffer: &mut Vec<u8>, room: usize) {
+    if buffer.len() < room {
+        buffer.resize(room, 0);
     }
 }

@@ -1,5 +1,5 @@
 //! Why a call refused.
-use crate::{Column, DataType};
+use crate::{Column, DataType, Sort};
 use alloc::boxed::Box;
 
 mod cause;
@@ -31,10 +31,12 @@ pub enum Error {
         /// The row's length.
         length: usize,
     },
-    /// 4: a row above 65,535 bytes.
+    /// 4: a row above the [greatest length](Sort::max_length) of its sort.
     RowTooLong {
         /// The row's length.
         length: usize,
+        /// Its sort, by its mark.
+        sort: Sort,
     },
     /// 5: the row's header counts other columns than the schema has.
     WrongColumnCount {
@@ -72,7 +74,8 @@ pub enum Error {
         /// The name.
         name: Box<str>,
     },
-    /// 10: not one value for each column, or texts above 65,535 bytes together.
+    /// 10: not one value for each column, or texts that are together above the [greatest length](Sort::max_length) of
+    /// the row's sort.
     BadValueList {
         /// The first byte of a bad record in the value list; for a wrong number of values the list's length, for the
         /// texts 0.
@@ -83,6 +86,8 @@ pub enum Error {
         due: usize,
         /// The bytes of their texts.
         text: usize,
+        /// The sort of the row.
+        sort: Sort,
     },
     /// 11: a value of another kind than the column's type.
     WrongKind {
@@ -125,8 +130,11 @@ pub enum Error {
         /// Why it does not hold it.
         misfit: Misfit,
     },
-    /// 13: the row would pass 65,535 bytes.
-    RowLimit,
+    /// 13: the row would pass the [greatest length](Sort::max_length) of its sort.
+    RowLimit {
+        /// The sort of the row.
+        sort: Sort,
+    },
     /// 14: the lent buffer is too short for the row. [`RowBuf`](crate::RowBuf) makes room by itself.
     NoRoom,
     /// 15: the row to be edited is not sound: a column of it cannot be read, or its texts are not where an edit needs
@@ -180,8 +188,11 @@ pub enum SchemaFault {
         /// Its type.
         data_type: DataType,
     },
-    /// Rows would be above 65,535 bytes without any text.
-    RowsTooLong,
+    /// Rows of this sort would be above its [greatest length](Sort::max_length) without any text.
+    RowsTooLong {
+        /// The sort of the row; when a schema is made, the long one, since it may be meant for either.
+        sort: Sort,
+    },
     /// An earlier column has the same name.
     SameName {
         /// The later of the two.
@@ -247,7 +258,7 @@ impl Error {
             | Error::NoText { .. }
             | Error::NotReadAs { .. } => 11,
             Error::Unsuitable { .. } => 12,
-            Error::RowLimit => 13,
+            Error::RowLimit { .. } => 13,
             Error::NoRoom => 14,
             Error::NotSound => 15,
             Error::BadRowList { .. } => 16,

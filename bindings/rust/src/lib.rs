@@ -35,6 +35,9 @@
 //! points, so a mark that is put on a letter counts by itself. The length of a [`DataType::VarcharChars`], whose texts
 //! are declared in characters, is in code points too; that of a [`DataType::Varchar`] is in bytes.
 //!
+//! A row has at most 65,535 bytes, or 1,048,576 if it is made as a long one: with [`Schema::with_sort`] in the place of
+//! the schema. [`Sort`] has an example.
+//!
 //! A [`RowList`] holds many rows as bytes, each after its length; [`print_occupations`] makes of one the sheet of
 //! platform occupations, a line a row, that hangs on a wall.
 //!
@@ -74,6 +77,7 @@ mod row_mut;
 mod schema;
 #[cfg(feature = "serde")]
 mod serde;
+mod sort;
 mod value;
 
 pub use bits::Bits;
@@ -92,10 +96,8 @@ pub use row_buf::RowBuf;
 pub use row_list::{RowList, Rows};
 pub use row_mut::RowMut;
 pub use schema::{Column, ColumnIndex, Schema};
+pub use sort::{RowFormat, Sort};
 pub use value::Value;
-
-/// The greatest length of a row, and of the texts of one value list.
-pub const MAX_LENGTH: usize = 65_535;
 
 /// The version of this crate.
 pub const VERSION: &str = env!("CARGO_PKG_VERSION");

@@ -5,9 +5,11 @@ use alloc::vec::Vec;
 /// The most bytes that a value takes in a list.
 pub(crate) const RECORD: usize = 18;
 
-/// The length in a range that no text area of at most 65,535 bytes and no bit string has, so that the library refuses
-/// it with 12.
+/// The length in a range that no bit string has, so that the library refuses it with 12.
 const NO_LENGTH: usize = 0xFFFF;
+
+/// A kind that no value has.
+const NO_KIND: u8 = 14;
 
 /// Lends a number for each column, which takes no memory of the heap.
 #[inline(always)]
@@ -61,7 +63,7 @@ pub(crate) fn write(
                 data_type(),
                 Some(DataType::Char(_) | DataType::Character(_))
             );
-            put(record, if fixed { 8 } else { 9 }, range(start, text.len()))
+            put_range(record, if fixed { 8 } else { 9 }, start, text.len())
         }
         Value::Date(date) => put(record, 10, date.days().to_le_bytes()),
         Value::Time(time) => put(record, 11, time.micros().to_le_bytes()),
@@ -73,10 +75,10 @@ pub(crate) fn write(
             } else {
                 NO_LENGTH
             };
-            put(record, 12, range(start, length))
+            put_range(record, 12, start, length)
         }
         Value::Timestamp(timestamp) => put(record, 13, timestamp.micros().to_le_bytes()),
-        Value::Unknown { kind } => put(record, (*kind).max(14), []),
+        Value::Unknown { .. } => put(record, NO_KIND, []),
     }
 }
 
@@ -87,10 +89,28 @@ fn put<const N: usize>(record: &mut [u8; RECORD], kind: u8, body: [u8; N]) -> us
     1 + N
 }
 
-/// Start and length, two bytes each. A number above 65,535 is cut, but then the text area is too long, and the library
-/// refuses it (10).
-fn range(start: usize, length: usize) -> [u8; 4] {
-    (start as u16 as u32 | (length as u32) << 16).to_le_bytes()
+/// Start and length of a text or of bits: two bytes each, or where these do not hold a number, four bytes each, in the
+/// kind that is for it. The sort of the row does not matter: either takes both.
+#[inline(always)]
+fn put_range(record: &mut [u8; RECORD], kind: u8, start: usize, length: usize) -> usize {
+    if start <= 0xFFFF && length <= 0xFFFF {
+        let range = start as u32 | (length as u32) << 16;
+        return put(record, kind, range.to_le_bytes());
+    }
+    put_wide_range(record, kind, start, length)
+}
+
+#[cold]
+fn put_wide_range(record: &mut [u8; RECORD], kind: u8, start: usize, length: usize) -> usize {
+    let wide = match kind {
+        8 => 17,
+        9 => 18,
+        _ => 19,
+    };
+    // Numbers past four bytes leave every text area that the library takes.
+    let number = |n: usize| u64::from(u32::try_from(n).unwrap_or(u32::MAX));
+    let range = number(start) | number(length) << 32;
+    put(record, wide, range.to_le_bytes())
 }
 
 /// A value list and its text area, whose memory is kept from one row to the next.

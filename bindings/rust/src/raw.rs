@@ -7,7 +7,7 @@
 //! let values = [2, 1, 0, 0, 0, 9, 0, 0, 2, 0, 0]; // Int 1; a Varchar, 2 bytes from byte 0 of the text; null
 //! let mut buffer = [0; 20];
 //! let mut counts = [0; 3]; // the code points of each text
-//! assert_eq!(raw::build(&schema, &values, b"AB", &mut buffer, &mut counts), Ok(15));
+//! assert_eq!(raw::build(&schema, false, &values, b"AB", &mut buffer, &mut counts), Ok(15));
 //! assert_eq!(counts, [0, 2, 0]);
 //! let row = [3, 0, 1, 0x80, 4, 0x0D, 0, 1, 0, 0, 0, 0, 0, 0x41, 0x42];
 //! assert_eq!(buffer[..15], row);
@@ -26,6 +26,14 @@
 //! // column 1 edited in place: longer, then null
 //! assert_eq!(raw::set(&schema, &mut buffer, 15, 1, &[9, 0, 0, 5, 0], b"ABCDE"), Ok(18));
 //! assert_eq!(raw::set_null(&schema, &mut buffer, 18, 1), Ok(13));
+//!
+//! // the long row of the same values: offsets of four bytes, and ranges of four-byte numbers when it is read
+//! assert_eq!(raw::build(&schema, true, &values, b"AB", &mut buffer, &mut counts), Ok(17));
+//! let long = [3, 0, 1, 0xC0, 4, 0x0F, 0, 0, 0, 1, 0, 0, 0, 0, 0, 0x41, 0x42];
+//! assert_eq!(buffer[..17], long);
+//! assert_eq!(raw::read(&schema, &long, &[0, 1], &mut list, &mut counts), Ok(15));
+//! assert_eq!(list[..15], [2, 1, 0, 0, 0, 18, 15, 0, 0, 0, 2, 0, 0, 0, 0]);
+//! assert_eq!(raw::same_content(&schema, &row, &long), Ok(true));
 //!
 //! // a list of one row, after its length: platform 3, unit T41, arrival 0, no departure
 //! let list = b"\x1D\0\x04\0\x02\x80\x08\x19\0\x1A\0\0\0\0\0\0\0\0\0\0\0\0\0\0\0\0\x003T41";
@@ -85,8 +93,8 @@ struct CheckAnswer {
     points: usize,
 }
 
-/// Where the parts of a row stand: the counts of columns and Varchars, the bytes of the fixed columns, and whether
-/// the row is packed.
+/// Where the parts of a row stand: the counts of columns and Varchars, the bytes of the fixed columns, whether the row
+/// is packed, and whether it is long.
 #[repr(C)]
 #[derive(Debug, Clone, Copy, PartialEq, Eq, Hash, Default)]
 pub struct Layout {
@@ -98,6 +106,8 @@ pub struct Layout {
     pub fixed_size: usize,
     /// Whether the fixed columns stand end to end: 1 if they do, else 0.
     pub packed: usize,
+    /// Whether the row is of the long sort, with four bytes for each offset: 1 if it is, else 0.
+    pub is_long: usize,
 }
 
 /// A row's length and layout. No call uses the layout that it gets; an accepted one stores the row's.
@@ -115,12 +125,14 @@ extern "C" {
     fn rook_row_fresh(
         schema: *const u8,
         schema_length: usize,
+        is_long: bool,
         out: *mut u8,
         out_length: usize,
     ) -> RowAnswer;
     fn rook_row_build(
         schema: *const u8,
         schema_length: usize,
+        is_long: bool,
         values: *const u8,
         values_length: usize,
         text: *const u8,
@@ -216,20 +228,29 @@ fn done<T>(number: u32, place: usize, result: T) -> Result<T, Refusal> {
     }
 }
 
-/// A row of nulls at the front of `out`; hands back its length.
-pub fn fresh(schema: &[u8], out: &mut [u8]) -> Result<usize, Refusal> {
+/// A row of nulls at the front of `out`, short or long; hands back its length.
+pub fn fresh(schema: &[u8], is_long: bool, out: &mut [u8]) -> Result<usize, Refusal> {
     // SAFETY: each pointer and length is that of a slice, borrowed for the call; `out` is borrowed alone. So the call
     // may read the one and write the other, and by its contract touches nothing else.
-    let answer =
-        unsafe { rook_row_fresh(schema.as_ptr(), schema.len(), out.as_mut_ptr(), out.len()) };
+    let answer = unsafe {
+        rook_row_fresh(
+            schema.as_ptr(),
+            schema.len(),
+            is_long,
+            out.as_mut_ptr(),
+            out.len(),
+        )
+    };
     done(answer.number, answer.place, answer.length)
 }
 
-/// The row of a value list at the front of `out`; hands back its length. Texts and bit strings are ranges of `text`.
-/// The code points of each text, as it is stored, go to the front of `counts`, a number for each column: 0 for a column
-/// that is null or has no text. A Char counts with its blanks. A list of fewer numbers than columns gives 14.
+/// The row of a value list at the front of `out`, short or long; hands back its length. Texts and bit strings are
+/// ranges of `text`, in two bytes a number or in four, whatever the row's sort is. The code points of each text, as it
+/// is stored, go to the front of `counts`, a number for each column: 0 for a column that is null or has no text. A
+/// Char counts with its blanks. A list of fewer numbers than columns gives 14.
 pub fn build(
     schema: &[u8],
+    is_long: bool,
     values: &[u8],
     text: &[u8],
     out: &mut [u8],
@@ -240,6 +261,7 @@ pub fn build(
         rook_row_build(
             schema.as_ptr(),
             schema.len(),
+            is_long,
             values.as_ptr(),
             values.len(),
             text.as_ptr(),
@@ -254,8 +276,9 @@ pub fn build(
 }
 
 /// The wanted columns of a row as a value list at the front of `out`; hands back its length. A record for each
-/// column of the schema, null for an unwanted one; texts are ranges of the row. 18 bytes a column are always
-/// enough. The code points of each text go to the front of `counts` as in [`build`], 0 for an unwanted column.
+/// column of the schema, null for an unwanted one; texts are ranges of the row, of a long one in four bytes a number.
+/// 18 bytes a column are always enough. The code points of each text go to the front of `counts` as in [`build`], 0 for
+/// an unwanted column.
 pub fn read(
     schema: &[u8],
     row: &[u8],
@@ -455,7 +478,7 @@ pub(crate) fn printed(list: &[u8]) -> Result<String, Refusal> {
     Ok(unsafe { String::from_utf8_unchecked(lines) })
 }
 
-/// The library's version, with a byte for each of its numbers: `0x000302` for 0.3.2.
+/// The library's version, with a byte for each of its numbers: `0x000400` for 0.4.0.
 pub fn version() -> u32 {
     // SAFETY: the call gets nothing.
     unsafe { rook_row_version() }

@@ -2,7 +2,7 @@
 use crate::error::Call;
 use crate::list::with_counts;
 use crate::raw::records::{count_all, read_all, read_one, read_text};
-use crate::{raw, ColumnIndex, Error, FromValue, Reader, RowBuf, Schema, Value};
+use crate::{raw, ColumnIndex, Error, FromValue, Reader, RowBuf, Schema, Sort, Value};
 use alloc::vec::Vec;
 
 /// A row in borrowed bytes, to be read. What is read from it lives as long as the bytes:
@@ -33,7 +33,20 @@ impl<'a> RowRef<'a> {
         self.bytes
     }
 
-    /// The values of all columns. Refuses with 3 to 6 (the row), 7 and 8 (a column).
+    /// The row's sort, by its mark. Bytes that have no mark, since they are under four, count as short.
+    #[inline]
+    pub const fn sort(self) -> Sort {
+        Sort::of(self.bytes)
+    }
+
+    /// Whether the row is long, by its mark.
+    #[inline]
+    pub const fn is_long(self) -> bool {
+        self.sort().is_long()
+    }
+
+    /// The values of all columns. Refuses with 2 (a short row, but the schema serves long ones alone), 3 to 6 (the
+    /// row), 7 and 8 (a column).
     pub fn read(self, schema: &Schema) -> Result<Vec<Value<'a>>, Error> {
         with_counts(schema.len(), |counts| read_all(schema, self.bytes, counts))
             .map_err(|refusal| Error::new(refusal, Call::Read(schema, self.bytes)))

@@ -1,7 +1,7 @@
 //! Rows with bytes of their own.
 use crate::{
-    list, Builder, ColumnIndex, Error, FromValue, IntoValue, RowMut, RowRef, Schema, Value,
-    MAX_LENGTH,
+    list, Builder, ColumnIndex, Error, FromValue, IntoValue, RowFormat, RowMut, RowRef, Schema,
+    Sort, Value,
 };
 use alloc::vec;
 use alloc::vec::Vec;
@@ -9,6 +9,12 @@ use alloc::vec::Vec;
 /// The readings of [`RowRef`], for a type that has `as_row`.
 macro_rules! reads_as_a_row {
     () => {
+        /// Whether the row is long, by its mark.
+        #[inline]
+        pub fn is_long(&self) -> bool {
+            self.sort().is_long()
+        }
+
         /// As [`RowRef::read`].
         pub fn read(&self, schema: &Schema) -> Result<Vec<Value<'_>>, Error> {
             self.as_row().read(schema)
@@ -83,25 +89,29 @@ pub struct RowBuf {
 }
 
 impl RowBuf {
-    /// The row of nulls.
-    pub fn fresh(schema: &Schema) -> Result<RowBuf, Error> {
-        let mut bytes = vec![0; schema.minimum()];
-        RowMut::fresh(schema, &mut bytes)?;
+    /// The row of nulls. Refuses with 2 (the schema serves long rows alone).
+    pub fn fresh<'s>(format: impl Into<RowFormat<'s>>) -> Result<RowBuf, Error> {
+        let format = format.into();
+        let mut bytes = vec![0; format.minimum()];
+        RowMut::fresh(format, &mut bytes)?;
         Ok(RowBuf { bytes })
     }
 
     /// The row of these values, one for each column. Refuses as [`Builder::build`].
-    pub fn build(schema: &Schema, values: &[Value<'_>]) -> Result<RowBuf, Error> {
-        let mut builder = Builder::new(schema);
+    pub fn build<'s>(
+        format: impl Into<RowFormat<'s>>,
+        values: &[Value<'_>],
+    ) -> Result<RowBuf, Error> {
+        let mut builder = Builder::new(format);
         builder.build(values).map(RowRef::to_owned)
     }
 
     /// The row of these values and the widths of its columns, as [`Builder::build_with_widths`] has them.
-    pub fn build_with_widths(
-        schema: &Schema,
+    pub fn build_with_widths<'s>(
+        format: impl Into<RowFormat<'s>>,
         values: &[Value<'_>],
     ) -> Result<(RowBuf, Vec<usize>), Error> {
-        let mut builder = Builder::new(schema);
+        let mut builder = Builder::new(format);
         let (row, widths) = builder.build_with_widths(values)?;
         Ok((row.to_owned(), widths.to_vec()))
     }
@@ -123,6 +133,12 @@ impl RowBuf {
         self.bytes
     }
 
+    /// The row's sort, by its mark.
+    #[inline]
+    pub fn sort(&self) -> Sort {
+        self.as_row().sort()
+    }
+
     /// The row, borrowed.
     pub fn as_row(&self) -> RowRef<'_> {
         RowRef::new(&self.bytes)
@@ -131,8 +147,8 @@ impl RowBuf {
     reads_as_a_row!();
 
     /// Sets a column to a value; `None` of an `Option` sets it to null. Refuses with 15 (the row is not sound), 9 (no
-    /// such column), 10 (text above 65,535 bytes), 11 and 12 (the value; `Value::Null` is 11), 13 (row above 65,535
-    /// bytes).
+    /// such column), 10 (a text above the [sort's length](Sort::max_length)), 11 and 12 (the value; `Value::Null` is
+    /// 11), 13 (a row above that length).
     pub fn set<'v>(
         &mut self,
         schema: &Schema,
@@ -163,8 +179,8 @@ impl RowBuf {
         edit: impl FnOnce(&mut RowMut<'_>) -> Result<(), Error>,
     ) -> Result<(), Error> {
         let length = self.bytes.len();
-        self.bytes
-            .resize((length + more).min(MAX_LENGTH).max(length), 0);
+        let room = (length + more).min(self.sort().max_length());
+        self.bytes.resize(room.max(length), 0);
         let mut row = RowMut::new(&mut self.bytes, length);
         let result = edit(&mut row);
         let length = row.len();

@@ -1,8 +1,11 @@
 //! Rows in lent memory, written and edited in place.
 use crate::error::Call;
 use crate::list::{self, RECORD};
+use crate::raw::Refusal;
 use crate::row_buf::reads_as_a_row;
-use crate::{raw, Builder, ColumnIndex, Error, FromValue, IntoValue, RowRef, Schema, Value};
+use crate::{
+    raw, Builder, ColumnIndex, Error, FromValue, IntoValue, RowFormat, RowRef, Schema, Sort, Value,
+};
 use alloc::vec::Vec;
 
 /// A row at the front of a lent buffer, edited in place. Bytes behind the row stay as they are.
@@ -31,21 +34,25 @@ impl<'a> RowMut<'a> {
         RowMut { buffer, length }
     }
 
-    /// The row of nulls. Refuses with 14 (the buffer is too short).
-    pub fn fresh(schema: &Schema, buffer: &'a mut [u8]) -> Result<RowMut<'a>, Error> {
-        let length = raw::fresh(schema.as_bytes(), buffer)
-            .map_err(|refusal| Error::new(refusal, Call::Build(schema, &[])))?;
+    /// The row of nulls. Refuses with 2 (the schema serves long rows alone), 14 (the buffer is too short).
+    pub fn fresh<'s>(
+        format: impl Into<RowFormat<'s>>,
+        buffer: &'a mut [u8],
+    ) -> Result<RowMut<'a>, Error> {
+        let format = format.into();
+        let length = raw::fresh(format.schema().as_bytes(), format.sort().is_long(), buffer)
+            .map_err(|refusal| Error::new(refusal, Call::Build(format, &[])))?;
         Ok(RowMut { buffer, length })
     }
 
     /// The row of these values, one for each column. Refuses as [`Builder::build`], and with 14 (the buffer is too
     /// short).
-    pub fn build(
-        schema: &Schema,
+    pub fn build<'s>(
+        format: impl Into<RowFormat<'s>>,
         values: &[Value<'_>],
         buffer: &'a mut [u8],
     ) -> Result<RowMut<'a>, Error> {
-        Builder::new(schema).build_into(values, buffer)
+        Builder::new(format).build_into(values, buffer)
     }
 
     /// The row's length.
@@ -56,6 +63,12 @@ impl<'a> RowMut<'a> {
     /// Whether the row has no bytes, and so is none.
     pub fn is_empty(&self) -> bool {
         self.length == 0
+    }
+
+    /// The row's sort, by its mark. A row that the buffer does not hold counts as short.
+    #[inline]
+    pub fn sort(&self) -> Sort {
+        self.buffer.get(..self.length).map_or(Sort::Short, Sort::of)
     }
 
     /// The row, or what the buffer has of it.
@@ -72,8 +85,8 @@ impl<'a> RowMut<'a> {
     reads_as_a_row!();
 
     /// Sets a column to a value; `None` of an `Option` sets it to null. Refuses with 15 (the row is not sound), 9 (no
-    /// such column), 10 (text above 65,535 bytes), 11 and 12 (the value; `Value::Null` is 11), 13 (row above 65,535
-    /// bytes), 14 (the buffer is too short, for the row as it is or as it would be).
+    /// such column), 10 (a text above the [sort's length](Sort::max_length)), 11 and 12 (the value; `Value::Null` is
+    /// 11), 13 (a row above that length), 14 (the buffer is too short, for the row as it is or as it would be).
     pub fn set<'v>(
         &mut self,
         schema: &Schema,
@@ -103,7 +116,7 @@ impl<'a> RowMut<'a> {
             &record[..end],
             list::text(value),
         )
-        .map_err(|refusal| Error::new(refusal, Call::Edit(schema, column, Some(value))))?;
+        .map_err(|refusal| self.refused(refusal, schema, column, Some(value)))?;
         Ok(())
     }
 
@@ -112,7 +125,19 @@ impl<'a> RowMut<'a> {
     pub fn set_null(&mut self, schema: &Schema, column: impl ColumnIndex) -> Result<(), Error> {
         let column = column.number(schema)?;
         self.length = raw::set_null(schema.as_bytes(), self.buffer, self.length, column)
-            .map_err(|refusal| Error::new(refusal, Call::Edit(schema, column, None)))?;
+            .map_err(|refusal| self.refused(refusal, schema, column, None))?;
         Ok(())
+    }
+
+    #[cold]
+    fn refused(
+        &self,
+        refusal: Refusal,
+        schema: &Schema,
+        column: usize,
+        value: Option<&Value<'_>>,
+    ) -> Error {
+        let format = schema.with_sort(self.sort());
+        Error::new(refusal, Call::Edit(format, column, value))
     }
 }

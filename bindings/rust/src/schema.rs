@@ -1,7 +1,8 @@
 //! The columns of a table.
 use crate::error::{Call, SchemaFault};
 use crate::raw::records::Plan;
-use crate::{raw, ColumnLabel, DataType, Error, MAX_LENGTH};
+use crate::raw::Refusal;
+use crate::{raw, ColumnLabel, DataType, Error, RowFormat, Sort};
 use alloc::boxed::Box;
 use alloc::string::String;
 use alloc::sync::Arc;
@@ -26,6 +27,13 @@ impl Column {
     /// Its type.
     pub fn data_type(&self) -> DataType {
         self.data_type
+    }
+
+    pub(crate) fn is_varchar(&self) -> bool {
+        matches!(
+            self.data_type,
+            DataType::Varchar(_) | DataType::VarcharChars(_)
+        )
     }
 }
 
@@ -55,7 +63,9 @@ impl<N: Into<String> + Clone> From<&(N, DataType)> for Column {
     }
 }
 
-/// The columns of a table, at most 256, checked when it is made. A copy is cheap: it shares what it holds.
+/// The columns of a table, at most 256, checked when it is made. A copy is cheap: it shares what it holds. It serves
+/// short and long rows; one whose short rows would pass 65,535 bytes serves long ones alone, and where a short one is
+/// made or read, that is refused with 2.
 ///
 /// ```
 /// use rook_row::{DataType, Schema};
@@ -78,6 +88,8 @@ struct Inner {
     bytes: Vec<u8>,
     /// The numbers of the columns that have names, by rising name.
     named: Vec<u16>,
+    varchars: usize,
+    /// Of a long row.
     minimum: usize,
     plan: Plan,
 }
@@ -99,8 +111,8 @@ impl Hash for Schema {
 
 impl Schema {
     /// The schema of these columns: types, or pairs of name and type. Refuses with 2: more than 256 columns, a
-    /// precision outside 1 to 38, a scale above the precision, rows above 65,535 bytes, or a name that two columns
-    /// have.
+    /// precision outside 1 to 38, a scale above the precision, rows above 1,048,576 bytes, or a name that two
+    /// columns have.
     pub fn new<C: Into<Column>>(columns: impl IntoIterator<Item = C>) -> Result<Schema, Error> {
         Schema::checked(columns.into_iter().map(Into::into).collect())
     }
@@ -110,7 +122,7 @@ impl Schema {
     pub fn from_bytes(bytes: &[u8]) -> Result<Schema, Error> {
         let (columns, known) = parse(bytes);
         // The library refuses it, unless it is newer and knows a type that this crate does not.
-        match raw::fresh(bytes, &mut vec![0; MAX_LENGTH]) {
+        match long_minimum(bytes) {
             Err(refusal) => Err(Error::new(refusal, Call::Schema(&columns))),
             Ok(_) if known < bytes.len() => Err(Error::BadRecord {
                 at: known,
@@ -125,8 +137,9 @@ impl Schema {
         columns
             .iter()
             .for_each(|column| column.data_type.write(&mut bytes));
-        let minimum = raw::fresh(&bytes, &mut vec![0; MAX_LENGTH])
-            .map_err(|refusal| Error::new(refusal, Call::Schema(&columns)))?;
+        let minimum =
+            long_minimum(&bytes).map_err(|refusal| Error::new(refusal, Call::Schema(&columns)))?;
+        let varchars = columns.iter().filter(|column| column.is_varchar()).count();
         let mut named: Vec<u16> = (0..columns.len() as u16)
             .filter(|&number| columns[usize::from(number)].name.is_some())
             .collect();
@@ -146,6 +159,7 @@ impl Schema {
             columns,
             bytes,
             named,
+            varchars,
             minimum,
         })))
     }
@@ -202,9 +216,42 @@ impl Schema {
         &self.0.plan
     }
 
-    /// The length of a row without text: of the row of nulls.
+    /// The length of a short row without text: of the row of nulls. [`RowFormat::minimum`] has that of a long one.
     pub fn minimum(&self) -> usize {
-        self.0.minimum
+        self.minimum_of(Sort::Short)
+    }
+
+    #[inline]
+    pub(crate) fn minimum_of(&self, sort: Sort) -> usize {
+        match sort {
+            // Its offsets have two bytes less.
+            Sort::Short => self.0.minimum - 2 * self.0.varchars,
+            Sort::Long => self.0.minimum,
+        }
+    }
+
+    /// What rows of this sort are made by: it stands in the place of the schema where a row is made.
+    ///
+    /// ```
+    /// use rook_row::{DataType, RowBuf, Schema, Sort};
+    ///
+    /// let schema = Schema::new([DataType::Int])?;
+    /// assert!(!RowBuf::fresh(&schema)?.is_long());
+    /// assert!(RowBuf::fresh(schema.with_sort(Sort::Long))?.is_long());
+    /// # Ok::<(), rook_row::Error>(())
+    /// ```
+    pub const fn with_sort(&self, sort: Sort) -> RowFormat<'_> {
+        RowFormat::new(self, sort)
+    }
+}
+
+/// The length of the long row of nulls. A schema that is good for short rows is good for long ones.
+fn long_minimum(schema: &[u8]) -> Result<usize, Refusal> {
+    let in_room = |room| raw::fresh(schema, true, &mut vec![0; room]);
+    match in_room(Sort::Short.max_length()) {
+        // Few schemas are so long.
+        Err(Refusal { number: 14, .. }) => in_room(Sort::Long.max_length()),
+        answer => answer,
     }
 }
 

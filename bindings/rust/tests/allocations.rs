@@ -1,5 +1,5 @@
 //! Reader, builder and editor allocate nothing once they have had their longest row.
-use rook_row::{Builder, DataType, Editor, Reader, RowRef, Schema, Timestamp, Value};
+use rook_row::{Builder, DataType, Editor, Reader, RowRef, Schema, Sort, Timestamp, Value};
 use std::alloc::{GlobalAlloc, Layout, System};
 use std::sync::atomic::{AtomicUsize, Ordering};
 
@@ -38,11 +38,18 @@ fn none_in_a_loop() {
         ("cars", DataType::SmallInt),
     ])
     .unwrap();
+    for sort in [Sort::Short, Sort::Long] {
+        none_with(&schema, sort);
+    }
+}
+
+fn none_with(schema: &Schema, sort: Sort) {
+    let format = schema.with_sort(sort);
     let values: [Value; 3] = ["platform 7".into(), Timestamp::MIN.into(), 4i16.into()];
-    let mut builder = Builder::new(&schema);
+    let mut builder = Builder::new(format);
     let page = builder.build(&values).unwrap().to_owned();
-    let mut reader = Reader::new(&schema, &["cars", "platform"]).unwrap();
-    let mut editor = Editor::new(&schema);
+    let mut reader = Reader::new(schema, &["cars", "platform"]).unwrap();
+    let mut editor = Editor::new(format);
     let mut round = || {
         let row = builder.build(&values).unwrap();
         let columns = reader.read(row).unwrap();
@@ -57,9 +64,9 @@ fn none_in_a_loop() {
         editor.set("platform", "platform 12 b").unwrap();
         editor.set("cars", None::<i16>).unwrap();
         let row = RowRef::new(page.as_bytes());
-        assert_eq!(row.get::<i16>(&schema, "cars"), Ok(4));
-        assert_eq!(row.text(&schema, 0), Ok(Some("platform 7")));
-        let wide = row.get_with_width::<&str>(&schema, 0);
+        assert_eq!(row.get::<i16>(schema, "cars"), Ok(4));
+        assert_eq!(row.text(schema, 0), Ok(Some("platform 7")));
+        let wide = row.get_with_width::<&str>(schema, 0);
         assert_eq!(wide, Ok(("platform 7", 10)));
     };
     round();

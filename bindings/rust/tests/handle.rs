@@ -7,6 +7,7 @@ const PACKED: Layout = Layout {
     num_varlen_cols: 1,
     fixed_size: 6,
     packed: 1,
+    is_long: 0,
 };
 
 #[test]
@@ -16,9 +17,10 @@ fn as_the_plain_calls() {
         num_varlen_cols: 7,
         fixed_size: 1,
         packed: 0,
+        is_long: 5,
     };
     let mut plain = [0xEE; 20];
-    let mut length = raw::fresh(&SCHEMA, &mut plain).unwrap();
+    let mut length = raw::fresh(&SCHEMA, false, &mut plain).unwrap();
     let mut buf = plain;
     let mut handle = Handle {
         length,
@@ -113,6 +115,7 @@ fn a_padded_row() {
         num_varlen_cols: 0,
         fixed_size: 8,
         packed: 0,
+        is_long: 0,
     };
     assert_eq!((handle.length, handle.layout), (13, padded));
 }

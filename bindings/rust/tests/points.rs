@@ -46,7 +46,7 @@ fn the_text_check() {
 #[test]
 fn built_and_read() {
     let (mut out, mut counts) = ([FILL; 23], [NUMBER; 5]);
-    let built = raw::build(&SCHEMA, &VALUES, &TEXT, &mut out, &mut counts);
+    let built = raw::build(&SCHEMA, false, &VALUES, &TEXT, &mut out, &mut counts);
     assert_eq!((built, &out[..22], out[22]), (Ok(22), &ROW[..], FILL));
     assert_eq!(counts, [4, 2, 0, 0, NUMBER]);
 
@@ -69,7 +69,7 @@ fn a_short_list() {
         for room in [22, 21, 0] {
             let (mut out, mut counts) = ([FILL; 22], [NUMBER; 4]);
             let lent = &mut counts[..numbers];
-            let built = raw::build(&SCHEMA, &VALUES, &TEXT, &mut out[..room], lent);
+            let built = raw::build(&SCHEMA, false, &VALUES, &TEXT, &mut out[..room], lent);
             assert_eq!(built, no_room());
             let read = raw::read(&SCHEMA, &ROW, &[1], &mut out[..room], lent);
             assert_eq!(read, no_room());
@@ -78,14 +78,14 @@ fn a_short_list() {
     }
     let (mut out, mut counts) = ([FILL; 21], [NUMBER; 4]);
     assert_eq!(
-        raw::build(&SCHEMA, &VALUES, &TEXT, &mut out, &mut counts),
+        raw::build(&SCHEMA, false, &VALUES, &TEXT, &mut out, &mut counts),
         no_room()
     );
     assert_eq!((out, counts), ([FILL; 21], [NUMBER; 4]));
 
     let mut text = TEXT;
     text[0] = 0xFF;
-    let bad = raw::build(&SCHEMA, &VALUES, &text, &mut out, &mut counts[..3]);
+    let bad = raw::build(&SCHEMA, false, &VALUES, &text, &mut out, &mut counts[..3]);
     let unsuitable = Refusal {
         number: 12,
         place: 0,
@@ -96,7 +96,7 @@ fn a_short_list() {
 #[test]
 fn no_columns_need_no_list() {
     let mut out = [FILL; 4];
-    assert_eq!(raw::build(&[], &[], &[], &mut out, &mut []), Ok(4));
+    assert_eq!(raw::build(&[], false, &[], &[], &mut out, &mut []), Ok(4));
     assert_eq!(out, [0, 0, 0, 0x80]);
     assert_eq!(raw::read(&[], &out, &[0], &mut [], &mut []), Ok(0));
 }

@@ -1,6 +1,6 @@
-//! Random schemas, values and edits: what goes in comes out, and there is always room.
+//! Random schemas, values and edits, in rows of both sorts: what goes in comes out, and there is always room.
 use rook_row::{
-    Bits, Builder, DataType, Date, Editor, Numeric, Reader, RowBuf, RowMut, Schema, Time,
+    Bits, Builder, DataType, Date, Editor, Numeric, Reader, RowBuf, RowMut, Schema, Sort, Time,
     Timestamp, Value,
 };
 
@@ -147,8 +147,13 @@ fn built_edited_and_read() {
             .collect();
         let schema = Schema::new(&types).unwrap();
         let mut values: Vec<_> = types.iter().map(|&ty| random.value_or_null(ty)).collect();
-        let mut builder = Builder::new(&schema);
+        let (sort, other) = match turn % 3 {
+            0 => (Sort::Long, Sort::Short),
+            _ => (Sort::Short, Sort::Long),
+        };
+        let mut builder = Builder::new(schema.with_sort(sort));
         let mut row = builder.build(&values).unwrap().to_owned();
+        assert_eq!(row.sort(), sort);
         assert_eq!(row.read(&schema).unwrap(), values);
         check_read(&mut random, &schema, &values, row.as_bytes());
 
@@ -173,6 +178,9 @@ fn built_edited_and_read() {
             assert_eq!((lent.as_row(), editor.row()), (row.as_row(), row.as_row()));
             check_read(&mut random, &schema, &values, row.as_bytes());
         }
+        assert_eq!((row.sort(), lent.sort()), (sort, sort));
         check_built(&mut builder, &schema, &values, &row);
+        let twin = RowBuf::build(schema.with_sort(other), &values).unwrap();
+        assert_eq!(twin.same_content(&schema, row.as_row()), Ok(true));
     }
 }

@@ -1,8 +1,8 @@
 //! Each refusal: its number, place and message, and that it changes nothing.
 use rook_row::raw::Refusal;
 use rook_row::{
-    Bits, Column, DataType, Date, Error, Numeric, Reader, RowBuf, RowMut, RowRef, Schema, Time,
-    Timestamp, Value,
+    Bits, Builder, Column, DataType, Date, Editor, Error, Numeric, Reader, RowBuf, RowMut, RowRef,
+    Schema, Sort, Time, Timestamp, Value,
 };
 
 fn s() -> Schema {
@@ -71,8 +71,13 @@ fn schema_limits() {
         "schema: it has more than 256 columns",
     );
 
-    let long = Schema::new([DataType::Char(65_000), DataType::Character(65_000)]);
-    told(long, 2, 6, "schema: its rows would pass 65535 bytes");
+    let long = Schema::new([DataType::Char(65_535); 17]);
+    told(
+        long,
+        2,
+        51,
+        "schema: its long rows would pass 1048576 bytes",
+    );
 
     let twice = Schema::new([
         ("unit", DataType::Int),
@@ -106,7 +111,7 @@ fn rows_of_another_shape() {
         read(&long),
         4,
         0,
-        "the row has 65536 bytes, but 65535 are the most",
+        "the row has 65536 bytes, but 65535 are the most of a short row",
     );
     told(
         read(&with(0, 4)),
@@ -190,7 +195,7 @@ fn value_lists() {
         "300 values for 3 columns",
     );
     let long = "x".repeat(65_536);
-    let message = "the texts have 65536 bytes together, but 65535 are the most";
+    let message = "the texts have 65536 bytes together, but 65535 are the most of a short row";
     let values = [Value::Null, (&long).into(), Value::Null];
     told(RowBuf::build(&s(), &values), 10, 0, message);
     told(row().set(&s(), 1, &long), 10, 0, message);
@@ -199,11 +204,14 @@ fn value_lists() {
 /// A value that a newer library read cannot be handed back to it by this crate.
 #[test]
 fn values_of_unknown_kind() {
-    let unknown = Value::Unknown { kind: 17 };
     let message = "a value is of unknown kind";
-    told(row().set(&s(), 1, &unknown), 10, 0, message);
-    let values = [Value::Null, unknown, Value::Null];
-    told(RowBuf::build(&s(), &values), 10, 1, message);
+    // Some of these the library knows, but only with what stands behind the kind.
+    for kind in [1, 9, 12, 14, 16, 17, 18, 19, 20, 255] {
+        let unknown = Value::Unknown { kind };
+        told(row().set(&s(), 1, &unknown), 10, 0, message);
+        let values = [Value::Null, unknown, 7i64.into()];
+        told(RowBuf::build(&s(), &values), 10, 1, message);
+    }
 }
 
 #[test]
@@ -348,15 +356,72 @@ fn values_that_do_not_suit() {
 }
 
 #[test]
-fn long_rows() {
+fn rows_above_the_limit() {
     let schema = Schema::new([DataType::Varchar(65_535)]).unwrap();
     let text = "x".repeat(65_529);
     told(
         RowBuf::build(&schema, &[text.into()]),
         13,
         0,
-        "the row would pass 65535 bytes",
+        "the row would pass 65535 bytes, the most of a short row",
     );
+}
+
+/// Each refusal that depends on the sort of a row names the limit of its sort.
+#[test]
+fn limits_of_the_long_sort() {
+    let schema = Schema::new(vec![DataType::VarcharChars(65_535); 17]).unwrap();
+    let long = schema.with_sort(Sort::Long);
+    let mut row = RowBuf::fresh(long).unwrap();
+    let mut bytes = row.clone().into_bytes();
+    bytes.resize(1_048_577, b'x');
+    let message = "the row has 1048577 bytes, but 1048576 are the most of a long row";
+    told(RowRef::new(&bytes).read(&schema), 4, 0, message);
+    told(RowRef::new(&bytes).is_null(0), 4, 0, message);
+
+    // 16 columns of 65,535 characters of a byte each are 16 bytes short of 1,048,576.
+    let most = "x".repeat(65_535);
+    let mut values = vec![Value::from(&most); 17];
+    values[16] = "x".repeat(17).into();
+    let message = "the texts have 1048577 bytes together, but 1048576 are the most of a long row";
+    told(RowBuf::build(long, &values), 10, 0, message);
+    values[16] = "x".repeat(16).into();
+    let message = "the row would pass 1048576 bytes, the most of a long row";
+    told(RowBuf::build(long, &values), 13, 0, message);
+    for column in 0..15 {
+        row.set(&schema, column, &most).unwrap();
+    }
+    let before = row.clone();
+    told(row.set(&schema, 15, &most), 13, 0, message);
+    assert_eq!(row, before);
+}
+
+/// A schema whose short rows would be too long serves long ones.
+#[test]
+fn schemas_of_long_rows_alone() {
+    let schema = Schema::new([DataType::Char(65_000), DataType::Character(65_000)]).unwrap();
+    let message = "schema: its short rows would pass 65535 bytes";
+    let values = [Value::Null, Value::Null];
+    told(RowBuf::fresh(&schema), 2, 6, message);
+    told(RowBuf::build(&schema, &values), 2, 6, message);
+    told(Builder::new(&schema).build(&values), 2, 6, message);
+    told(RowMut::build(&schema, &values, &mut [0; 9]), 2, 6, message);
+    let short = RowRef::new(&[2, 0, 0, 0x80, 3]);
+    told(short.read(&schema), 2, 6, message);
+    told(short.text(&schema, 0), 2, 6, message);
+    told(short.to_owned().set_null(&schema, 0), 2, 6, message);
+    let mut editor = Editor::new(&schema);
+    told(editor.set(0, "x"), 2, 6, message);
+    assert_eq!(editor.row().as_bytes(), []);
+
+    let long = RowBuf::fresh(schema.with_sort(Sort::Long)).unwrap();
+    assert_eq!(long.as_bytes().len(), 5 + 130_000);
+    told(long.same_content(&schema, short), 2, 6, message);
+    told(short.same_content(&schema, long.as_row()), 2, 6, message);
+    editor.open(long.as_row());
+    editor.set(0, "x").unwrap();
+    let read = editor.row().read(&schema).unwrap();
+    assert_eq!(read, [format!("{:65000}", "x").into(), Value::Null]);
 }
 
 #[test]

@@ -170,7 +170,7 @@ fn a_history() {
 fn over_a_handle() {
     let schema = characters(2);
     let mut buf = [0xEE; 13];
-    let length = raw::fresh(schema.as_bytes(), &mut buf).unwrap();
+    let length = raw::fresh(schema.as_bytes(), false, &mut buf).unwrap();
     let mut handle = Handle {
         length,
         layout: Layout::default(),
@@ -191,6 +191,7 @@ fn over_a_handle() {
         num_varlen_cols: 1,
         fixed_size: 0,
         packed: 1,
+        is_long: 0,
     };
     let length = 12;
     assert_eq!(set(5), (Ok(12), Handle { length, layout }));
@@ -246,8 +247,9 @@ fn limits_in_bytes() {
 fn bytes_that_are_no_text() {
     let schema = characters(9);
     let (mut out, mut counts) = ([0; 20], [0; 1]);
-    let mut build =
-        |list: &[u8], text: &[u8]| raw::build(schema.as_bytes(), list, text, &mut out, &mut counts);
+    let mut build = |list: &[u8], text: &[u8]| {
+        raw::build(schema.as_bytes(), false, list, text, &mut out, &mut counts)
+    };
     assert_eq!(build(&[9, 0, 0, 1, 0], b"\xC3"), refusal(12, 0));
     assert_eq!(build(&[9, 0, 0, 3, 0], b"AB"), refusal(12, 0));
     assert_eq!(build(&[8, 0, 0, 1, 0], b"A"), refusal(11, 0));

@@ -401,8 +401,8 @@ pub enum SchemaCheck {
     Refused(Refusal),
 }
 
-// The test that comes after the last record.
-fn finish(layout: RowLayout, at: usize) -> SchemaCheck
+// The test that comes after the last record, for the rows of a sort.
+pub fn finish(layout: RowLayout, at: usize) -> SchemaCheck
     requires { ⌜ Bounded layout ⌝ }
     ensures { λ r. ⌜ (r ≡ finished at layout) × BoundedIn r ⌝ }
 {

@@ -2,6 +2,7 @@
 use mathlib.Core.Path.{refl}
 use Rattle.text.specs.Rfc3629.{octets}
 use Rattle.row_format.specs.Table.{lay, rangeEnd}
+use Rattle.row_format.specs.Header.{isLong, sortIn}
 use Rattle.row_format.specs.Row.{header, rowWith}
 use Rattle.row_format.specs.Edit.{rangeStart, varlenEdit, editedRow}
 use Rattle.datatype.specs.Schema.{schemaOf}
@@ -12,7 +13,7 @@ use Rattle.history.proofs.Worked.{edits-history}
 use Rattle.handle_history.specs.Worked.{odd, Worked}
 
 pub worked : Worked
-unfolding schemaOf typesIn valuesOf rowWith lay header rangeEnd rangeStart varlenEdit editedRow soundColumn octets
+unfolding schemaOf typesIn valuesOf rowWith lay header rangeEnd rangeStart varlenEdit editedRow soundColumn octets isLong sortIn
 worked =
     record {
       history = record { plain = edits-history; handle = odd .handle; handed = refl };

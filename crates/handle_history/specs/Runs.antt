@@ -31,22 +31,22 @@ pub record HandleState : Type 0 where
 abbrev pub stateOf : HandleState → State
 stateOf s = record { buf = s .buf; row-length = s .handle .length }
 
-abbrev pub handleCalled : Bool → List ℕ → Call → HandleState → Handled
-handleCalled sort schema (setValue i list area) s = handleSet sort schema (s .buf) (s .handle) i list area
-handleCalled sort schema (setNull i) s = handleSetNull sort schema (s .buf) (s .handle) i
+abbrev pub handleCalled : List ℕ → Call → HandleState → Handled
+handleCalled schema (setValue i list area) s = handleSet schema (s .buf) (s .handle) i list area
+handleCalled schema (setNull i) s = handleSetNull schema (s .buf) (s .handle) i
 
 abbrev pub handleNext : Handled → HandleState
 handleNext o = record { buf = o .1 .0; handle = o .1 .1 }
 
 -- what a list of calls leaves, and what the calls answer
-abbrev pub handleRun : Bool → List ℕ → List Call → HandleState → HandleState
-handleRun sort schema [] s = s
-handleRun sort schema (c ∷ cs) s = handleRun sort schema cs (handleNext (handleCalled sort schema c s))
+abbrev pub handleRun : List ℕ → List Call → HandleState → HandleState
+handleRun schema [] s = s
+handleRun schema (c ∷ cs) s = handleRun schema cs (handleNext (handleCalled schema c s))
 
-abbrev pub handleAnswers : Bool → List ℕ → List Call → HandleState → List Answer
-handleAnswers sort schema [] s = []
-handleAnswers sort schema (c ∷ cs) s =
-    handleCalled sort schema c s .0 ∷ handleAnswers sort schema cs (handleNext (handleCalled sort schema c s))
+abbrev pub handleAnswers : List ℕ → List Call → HandleState → List Answer
+handleAnswers schema [] s = []
+handleAnswers schema (c ∷ cs) s =
+    handleCalled schema c s .0 ∷ handleAnswers schema cs (handleNext (handleCalled schema c s))
 
 -- whether a call was accepted
 abbrev pub someDone : List Answer → Bool
@@ -66,10 +66,10 @@ module _ {sort : Bool} {schema : List ℕ} {ts : List DataType} (g : HandleHisto
   handleStart = record { buf = g .plain .start .buf; handle = g .handle }
 
   abbrev pub handleLeft : HandleState
-  handleLeft = handleRun sort schema (g .plain .calls) handleStart
+  handleLeft = handleRun schema (g .plain .calls) handleStart
 
   abbrev pub handleReplies : List Answer
-  handleReplies = handleAnswers sort schema (g .plain .calls) handleStart
+  handleReplies = handleAnswers schema (g .plain .calls) handleStart
 
   abbrev pub handleZeroed : List ℕ
   handleZeroed = zeroedRow (offsetWidth sort) (map shapeOf ts) (rowOf (stateOf handleLeft))
@@ -82,15 +82,16 @@ module _ {sort : Bool} {schema : List ℕ} {ts : List DataType} (g : HandleHisto
 
 -- Its answers, its buffer, and the handle's length are those of the plain calls; its row, zeroed, is the very row that
 -- the builder makes of the last accepted values; and from the first accepted call on the handle has the layout of the
--- packed rows of the schema. Of short rows.
-pub record Carries {schema : List ℕ} {ts : List DataType} (g : HandleHistory false schema ts) : Type 0 where
+-- packed rows of the schema, of the sort that fresh was asked for.
+pub record Carries {sort : Bool} {schema : List ℕ} {ts : List DataType} (g : HandleHistory sort schema ts)
+    : Type 0 where
   pub answered : handleReplies g ≡ replies (g .plain)
   pub state : stateOf (handleLeft g) ≡ left (g .plain)
   pub built : (o counts : List ℕ)
-      → buildCall false schema (listOf false (lastValues 0 (handleSheet g))) (texts (handleSheet g)) o counts
+      → buildCall sort schema (listOf sort (lastValues 0 (handleSheet g))) (texts (handleSheet g)) o counts
       ≡ placedBoth o counts (handleZeroed g) (cellsPoints ts (handleCells g))
   pub layout : handleLeft g .handle .layout
-      ≡ cond (someDone (handleReplies g)) (geometry (layoutFor false ts) true) (g .handle .layout)
+      ≡ cond (someDone (handleReplies g)) (geometry (layoutFor sort ts) true) (g .handle .layout)
 
 -- "exactly when both leave the same stored form, or null, in every column"
 abbrev pub HandlesTold : {sort : Bool} {schema : List ℕ} {ts : List DataType}

@@ -9,7 +9,7 @@ use Rattle.handle_history.specs.Runs.{HandleState, handleRun, HandleHist
 use mathlib.Core.Bool.{false}
 
 abbrev pub packedS : HandleLayout
-packedS = record { «num_columns» = 3; «num_varlen_cols» = 1; «fixed_size» = 6; packed = 1 }
+packedS = record { «num_columns» = 3; «num_varlen_cols» = 1; «fixed_size» = 6; packed = 1; «is_long» = 0 }
 
 abbrev pub odd : HandleState
 odd =
@@ -18,7 +18,7 @@ odd =
       handle =
           record {
             length = 13;
-            layout = record { «num_columns» = 99; «num_varlen_cols» = 7; «fixed_size» = 1; packed = 0 };
+            layout = record { «num_columns» = 99; «num_varlen_cols» = 7; «fixed_size» = 1; packed = 0; «is_long» = 5 };
           };
     }
 
@@ -30,4 +30,4 @@ pub record Worked : Type 0 where
   pub leaves : handleLeft history ≡ record { buf = row2 .buf; handle = record { length = 15; layout = packedS } }
   pub answers-given : handleReplies history ≡ answered
   -- refused with 9
-  pub refused : handleRun false S (setNull 3 ∷ []) odd ≡ odd
+  pub refused : handleRun S (setNull 3 ∷ []) odd ≡ odd

@@ -5,6 +5,7 @@ use native.Mathlib.Omega.{arith}
 use lib.ListN.{replicate}
 use Rattle.text.specs.Rfc3629.{octets}
 use Rattle.row_format.specs.Table.{lay, rangeEnd}
+use Rattle.row_format.specs.Header.{isLong, sortIn}
 use Rattle.row_format.specs.Row.{header, rowWith}
 use Rattle.row_format.specs.Edit.{rangeStart, varlenEdit, editedRow}
 use Rattle.datatype.specs.Schema.{schemaOf}
@@ -44,6 +45,6 @@ edits-history =
     }
 
 pub both-kinds : BothKinds
-unfolding schemaOf valuesOf rowWith lay header rangeEnd rangeStart varlenEdit editedRow soundColumn octets
+unfolding schemaOf valuesOf rowWith lay header rangeEnd rangeStart varlenEdit editedRow soundColumn octets isLong sortIn
 both-kinds =
     record { history = edits-history; these = refl; answers-given = refl; leaves = refl; on-sheet = refl }

@@ -3,18 +3,18 @@ use Prim.Native.Nat.{ℕ, _≤_, _<_}
 use mathlib.Core.Bool.{Bool, true, false, cond}
 use mathlib.Core.List.{List, [], _∷_}
 use mathlib.Core.Path.{_≡_, refl, sym, ap, subst}
-use borrow.Author.Tests.{ltb-false, leb-false}
-use lib.Dec.{leb, ltb}
+use borrow.Author.Tests.{leb-false}
+use lib.Dec.{leb}
 use lib.ListN.{length, getD, take}
 use Rattle.row_format.specs.Places.{rowLimit}
 use Rattle.laws.proofs.Bytes.{AllBytes}
 use Rattle.laws.proofs.Truths.{by-cond}
 use Rattle.error.specs.declared.Refusal.{Refusal}
 use Rattle.error.specs.declared.Refusal.the-variants as No
-use Rattle.error.specs.Answer.{Outcome, unchanged, placed}
+use Rattle.error.specs.Answer.{Outcome, unchanged}
 use Rattle.error.specs.Result.{Result, ok, refused, onResult}
 use Rattle.datatype.specs.declared.DataType.{DataType}
-use Rattle.datatype.specs.Schema.{Parsed, schemaOf}
+use Rattle.datatype.specs.Schema.{schemaOf}
 use Rattle.value.specs.declared.DataValue.{DataValue}
 use Rattle.value.specs.declared.DataValue.the-variants.{Null}
 use Rattle.value.specs.Kinds.{matches}
@@ -26,14 +26,9 @@ use Rattle.value_list.specs.InnerLists.{AllSized}
 use Rattle.stored_form.specs.Write.{accepted, storedForm}
 use Rattle.record_slot.specs.Stored.{storedIn}
 use Rattle.row_build.specs.Build.{rowPlaced}
-use Rattle.row_column.specs.declared.Frame.{Frame}
-use Rattle.row_column.specs.declared.Frame.the-variants as Frame
-use Rattle.row_column.specs.Frame.{onFrame}
-use Rattle.row_sound.specs.declared.Soundness.{Soundness}
-use Rattle.row_sound.specs.declared.Soundness.the-variants as Row
-use Rattle.row_sound.specs.Sound.{soundness, SoundRow}
-use Rattle.row_sound.proofs.Rows.{told-row}
-use Rattle.row_edit.specs.Edit.{onSound, opening, opened, rowStored, given}
+use Rattle.row_sound.specs.Sound.{SoundRow}
+use Rattle.row_edit.specs.Edit.{opened, rowStored, given}
+use Rattle.row_edit.proofs.Outcomes.{opened-by, tested-by, placed-by}
 use Rattle.history.specs.History.{oneValue}
 
 -- ---- the outcome o of a call on a buffer; P is what is known of a row that it wrote
@@ -43,42 +38,24 @@ pub data Ends (buf : List ℕ) (P : List ℕ → Type 0) (o : Outcome) : Type 0 
   written : (r : List ℕ) → o ≡ rowStored buf r → P r → Ends buf P o
 
 module _ {buf : List ℕ} {P : List ℕ → Type 0} where
+  unwritten : (e : Refusal) → Ends buf P (unchanged buf e)
+  unwritten e = refusal e refl
+
   -- 9
   pub column-ends : (n i : ℕ) (o : Outcome) → (i < n → Ends buf P o) → Ends buf P (cond (leb n i) (unchanged buf No.NoSuchColumn) o)
-  column-ends n i o f = by-cond (Ends buf P) (leb n i) (unchanged buf No.NoSuchColumn) o (λ h. refusal No.NoSuchColumn refl) (λ h. f (leb-false n i h))
+  column-ends n i o f = by-cond (Ends buf P) (leb n i) (unchanged buf No.NoSuchColumn) o (λ h. unwritten No.NoSuchColumn) (λ h. f (leb-false n i h))
 
   -- 1, 2, 14, 15, then 9
   pub opened-ends : (sort : Bool) (schema : List ℕ) (n i : ℕ) (k : List DataType → Bool → Outcome)
       → ((ts : List DataType) (p : Bool) → schemaOf sort schema ≡ ok ts → n ≤ length buf → SoundRow sort ts p (take n buf) → i < length ts → Ends buf P (k ts p)) → Ends buf P (opened sort schema buf n i k)
-  opened-ends sort schema n i k f = by-schema (schemaOf sort schema) refl
-    where
-      Then : List DataType → Frame → Type 0
-      Then ts x = Ends buf P (onFrame x (unchanged buf) (k ts))
-
-      by-sound : (ts : List DataType) → schemaOf sort schema ≡ ok ts → n ≤ length buf → (x : Soundness) → soundness sort ts (take n buf) ≡ x
-          → Then ts (onSound x (Frame.Refused No.NotSound) (λ p. cond (leb (length ts) i) (Frame.Refused No.NoSuchColumn) (Frame.Good p)))
-      by-sound ts g room (Row.Sound p) e =
-          by-cond (Then ts) (leb (length ts) i) (Frame.Refused No.NoSuchColumn) (Frame.Good p) (λ h. refusal No.NoSuchColumn refl)
-          (λ h. f ts p g room (told-row sort ts (take n buf) e) (leb-false (length ts) i h))
-      by-sound ts g room Row.NotSound e = refusal No.NotSound refl
-
-      by-schema : (x : Parsed) → schemaOf sort schema ≡ x
-          → Ends buf P (onResult x (unchanged buf) (λ ts. onFrame (opening sort ts buf n i) (unchanged buf) (k ts)))
-      by-schema (ok ts) g =
-          by-cond (Then ts) (ltb (length buf) n) (Frame.Refused No.NoRoom) _ (λ h. refusal No.NoRoom refl)
-          (λ h. by-sound ts g (ltb-false (length buf) n h) (soundness sort ts (take n buf)) refl)
-      by-schema (refused e) g = refusal e refl
+  opened-ends = opened-by buf (Ends buf P) unwritten
 
   pub tested-ends : {A : Type 0} (q : Result A) (k : A → Outcome) → ((x : A) → q ≡ ok x → Ends buf P (k x)) → Ends buf P (onResult q (unchanged buf) k)
-  tested-ends (ok x) k f = f x refl
-  tested-ends (refused e) k f = refusal e refl
+  tested-ends = tested-by buf (Ends buf P) unwritten
 
   -- 13, then 14
   pub placed-ends : (sort : Bool) (r : List ℕ) → (length r ≤ rowLimit sort → length r ≤ length buf → P r) → Ends buf P (rowPlaced sort buf r)
-  placed-ends sort r f =
-      by-cond (Ends buf P) (ltb (rowLimit sort) (length r)) (unchanged buf No.RowLimit) (placed buf r) (λ h. refusal No.RowLimit refl)
-      (λ h. by-cond (Ends buf P) (ltb (length buf) (length r)) (unchanged buf No.NoRoom) (rowStored buf r) (λ g. refusal No.NoRoom refl)
-      (λ g. written r refl (f (ltb-false (rowLimit sort) (length r) h) (ltb-false (length buf) (length r) g))))
+  placed-ends sort r f = placed-by buf (Ends buf P) unwritten sort r (λ short room. written r refl (f short room))
 
 -- ---- a value that was accepted
 

@@ -15,10 +15,11 @@ use Rattle.laws.proofs.Parts.{part-at}
 use Rattle.bit_utils.specs.Bits.{bytesFor, unpackBits}
 use Rattle.bit_utils.proofs.Packing.{length-packed}
 use Rattle.row_format.specs.declared.Shape.the-variants.{Fixed, Varlen}
-use Rattle.row_format.specs.Places.{fixedSize}
+use Rattle.row_format.specs.Places.{fixedSize, offsetWidth, rowLimit}
 use Rattle.row_format.specs.Table.{Cell, bytes, payloads}
 use Rattle.row_format.specs.Row.{varlenCells}
 use Rattle.row_format.proofs.Places.{packed-cons}
+use Rattle.row_format.proofs.Sorts.{fits-limit}
 use Rattle.row_format.proofs.Fresh.{null-fits}
 use Rattle.row_format.proofs.Sizes.{cell-counted}
 use Rattle.row_format.specs.InnerRow.{FitsCell}
@@ -29,8 +30,9 @@ use Rattle.value.specs.declared.DataValue.{DataValue}
 use Rattle.value.specs.declared.DataValue.the-variants as D
 use Rattle.value.specs.Kinds.{kindOf, matches}
 use Rattle.value.specs.Ranges.{rangeOf, inArea, textOf, moved}
-use Rattle.value_list.specs.Records.{Sized}
-use Rattle.value_list.specs.InnerLists.{AllSized}
+use Rattle.value_list.specs.Records.{NarrowRange, Sized}
+use Rattle.value_list.specs.InnerRecords.{Narrow}
+use Rattle.value_list.specs.InnerLists.{AllSized, AllNarrow}
 use Rattle.stored_form.specs.Write.{suits, accepted, storedForm}
 use Rattle.row_sound.specs.Written.{Writes, null, form}
 use Rattle.stored_form.proofs.Lengths.{accepted-suits, length-stored}
@@ -114,8 +116,8 @@ moving (D.Time z) at n = record { kind = refl; suit = λ t x. refl; form = λ t 
 moving (D.Bit r) at n = record { kind = refl; suit = λ t x. refl; form = λ t x. refl; seen = λ t x e. refl }
 moving (D.Timestamp z) at n = record { kind = refl; suit = λ t x. refl; form = λ t x. refl; seen = λ t x e. refl }
 
--- it fits a record
-moved-sized : (v : DataValue) (at n : ℕ) → at + n ≤ 65535 → Sized v → Sized (moved at n v)
+-- it fits a record, of a sort whose numbers hold its range
+moved-sized : (v : DataValue) (at n : ℕ) → at + n ≤ 1048576 → Sized v → Sized (moved at n v)
 moved-sized D.Null at n h f = tt
 moved-sized (D.SmallInt z) at n h f = f
 moved-sized (D.Int z) at n h f = f
@@ -130,6 +132,28 @@ moved-sized (D.Date z) at n h f = f
 moved-sized (D.Time z) at n h f = f
 moved-sized (D.Bit r) at n h f = record { start = omega arith; size = omega arith }
 moved-sized (D.Timestamp z) at n h f = f
+
+moved-narrow : (sort : Bool) (v : DataValue) (at n : ℕ) → at + n ≤ rowLimit sort → Narrow sort (moved at n v)
+moved-narrow sort v at n h = narrow v
+  where
+    range : NarrowRange (offsetWidth sort) (record { start = at; length = n })
+    range = record { start = fits-limit sort (omega arith); size = fits-limit sort (omega arith) }
+
+    narrow : (u : DataValue) → Narrow sort (moved at n u)
+    narrow D.Null = tt
+    narrow (D.SmallInt z) = tt
+    narrow (D.Int z) = tt
+    narrow (D.BigInt z) = tt
+    narrow (D.Real b) = tt
+    narrow (D.DoublePrecision b) = tt
+    narrow (D.Numeric m) = tt
+    narrow (D.Bool b) = tt
+    narrow (D.Char r) = range
+    narrow (D.Varchar r) = range
+    narrow (D.Date z) = tt
+    narrow (D.Time z) = tt
+    narrow (D.Bit r) = range
+    narrow (D.Timestamp z) = tt
 
 -- where its text stands in an area, that is its text
 module _ (us x vs : List ℕ) (at : ℕ) (e : length us ≡ at) where
@@ -253,12 +277,19 @@ length-values nil at = refl
 length-values (cons {b = none} q f) at = ap suc (length-values f at)
 length-values (cons {b = some (v, x)} q f) at = ap suc (length-values f (at + length x))
 
-pub values-sized : {ts : List DataType} {es : List Entry} → Forall₂ SuitsEntry ts es → (at : ℕ) → at + length (texts es) ≤ 65535 → AllSized (lastValues at es)
+pub values-sized : {ts : List DataType} {es : List Entry} → Forall₂ SuitsEntry ts es → (at : ℕ) → at + length (texts es) ≤ 1048576 → AllSized (lastValues at es)
 values-sized nil at h = tt
 values-sized (cons {b = none} q f) at h = (tt, values-sized f at h)
 values-sized (cons {b = some (v, x)} {ys = es} q f) at h =
     let l = length-append x (texts es) in
     (moved-sized v at (length x) (omega arith) (q .sized), values-sized f (at + length x) (omega arith))
+
+pub values-narrow : (sort : Bool) {ts : List DataType} {es : List Entry} → Forall₂ SuitsEntry ts es → (at : ℕ) → at + length (texts es) ≤ rowLimit sort → AllNarrow sort (lastValues at es)
+values-narrow sort nil at h = tt
+values-narrow sort (cons {b = none} q f) at h = (tt, values-narrow sort f at h)
+values-narrow sort (cons {b = some (v, x)} {ys = es} q f) at h =
+    let l = length-append x (texts es) in
+    (moved-narrow sort v at (length x) (omega arith), values-narrow sort f (at + length x) (omega arith))
 
 -- ---- and they are stored as the sheet's cells
 

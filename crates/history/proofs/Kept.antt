@@ -9,7 +9,7 @@ use borrow.Author.Tests.{le-ltb, ltb-false}
 use lib.Dec.{leb, ltb}
 use lib.ListN.{length, getD, take, drop, set, replicate, length-map}
 use lib.Seq.{sets, length-sets, length-take-le, take-append-seam}
-use Rattle.row_format.proofs.Sorts.{limit-fits}
+use Rattle.row_format.proofs.Sorts.{limit-fits, limit-le}
 use Rattle.laws.specs.InnerForall.{Forall₂}
 use Rattle.laws.proofs.Maps.{at-map}
 use Rattle.laws.proofs.Stores.{sets-start}
@@ -20,15 +20,18 @@ use Rattle.error.specs.Answer.{Outcome, unchanged, placed, placedBoth}
 use Rattle.error.specs.Result.{ok}
 use Rattle.row_format.specs.declared.Shape.{Shape}
 use Rattle.row_format.specs.declared.Shape.the-variants.{Varlen}
-use Rattle.row_format.specs.Places.{minimum, offsetWidth, rowLimit}
+use Rattle.row_format.specs.Places.{varlens, minimum, offsetWidth, rowLimit}
 use Rattle.row_format.specs.Table.{Cell, payloads}
 use Rattle.row_format.specs.Row.{packedMarks, header, varlenCells, rowWith, slotsOf, builtRow}
+use Rattle.row_format.specs.Header.{isLong, sortIn}
 use Rattle.row_format.specs.Edit.{editedRow}
 use Rattle.row_format.specs.Zeroed.{zeroedRow}
 use Rattle.row_format.proofs.Row.{length-header, length-row, slots-fit}
 use Rattle.row_format.proofs.SetRow.{cells-fit, kept-fit, set-row}
 use Rattle.row_format.proofs.Zeroed.{Agree, zeroed-built, agree-written, agree-kept}
 use Rattle.row_format.proofs.Fresh.{length-fresh}
+use Rattle.row_format.proofs.Header.{sort-inside, row-sort}
+use Rattle.row_format.proofs.Places.{varlens-le}
 use Rattle.row_format.proofs.Sizes.{nulled-le}
 use Rattle.row_format.specs.InnerRow.{FitsCell, FitsSlot}
 use Rattle.row_format.specs.InnerEdit.{slotsKept}
@@ -48,10 +51,11 @@ use Rattle.row_build.proofs.Schemas.{schema-minimum, schema-few}
 use Rattle.row_column.specs.declared.Frame.the-variants as Frame
 use Rattle.row_column.specs.Frame.{onFrame}
 use Rattle.row_edit.specs.Edit.{opened, edited, rowStored, given}
+use Rattle.row_edit.specs.Edit as Edit
 use Rattle.history.specs.History.{Call, setValue, setNull, State, called, handedBack, next, run, answers}
 use Rattle.history.specs.History.{Entry, oneValue, noted, sheetBy, texts, lastValues, entryCell, sheetCells}
 use Rattle.history.specs.Demand.{OfBytes, AllOfBytes}
-use Rattle.history.proofs.Entries.{SuitsEntry, blank-suits, set-suits, blank-cells, set-cells, entry-fits, cells-suit, cells-written, texts-le, length-values, values-sized, cells-read}
+use Rattle.history.proofs.Entries.{SuitsEntry, blank-suits, set-suits, blank-cells, set-cells, entry-fits, cells-suit, cells-written, texts-le, length-values, values-sized, values-narrow, cells-read}
 use Rattle.history.proofs.Calls.{Ends, refusal, written, column-ends, tested-ends, placed-ends, given-taken}
 
 module _ (sort : Bool) (ts : List DataType) where
@@ -150,6 +154,12 @@ module _ (sort : Bool) (schema : List ℕ) (ts : List DataType) (columns : schem
         let long = kept-length sort ts k in
         rw (k .row) (row-told sort ts _ (cells-row sort (cells-written (k .suit)) (k .fit) (k .agree) (schema-few sort schema columns) (rw (← k .row) (omega arith))))
 
+    -- of its sort, which its mark tells
+    pub kept-sort : sortIn buf n ≡ sort
+    kept-sort =
+        let few : varlens (map shapeOf ts) < 16384 = omega (arith, varlens-le (map shapeOf ts), length-map ts shapeOf, schema-few sort schema columns) in
+        sort-inside buf n (k .room) ∙ ap isLong (k .row) ∙ row-sort sort (map shapeOf ts) (sheetCells ts es) (k .slots) few
+
     pub open-kept : (i : ℕ) (f : List DataType → Bool → Outcome) → opened sort schema buf n i f ≡ cond (leb (length ts) i) (unchanged buf NoSuchColumn) (f ts true)
     open-kept i f = rw (columns, le-ltb (length buf) n (k .room), kept-sound) (by-column (leb (length ts) i))
       where
@@ -162,9 +172,9 @@ module _ (sort : Bool) (schema : List ℕ) (ts : List DataType) (columns : schem
     Puts i e r = Kept sort ts (sets buf 0 r) (length r) (set es i e)
 
     set-ends : (i : ℕ) (list area : List ℕ) → OfBytes (setValue i list area)
-        → Ends buf (Puts i (some (oneValue (valuesOf list), textOf area (oneValue (valuesOf list))))) (called sort schema (setValue i list area) s)
+        → Ends buf (Puts i (some (oneValue (valuesOf list), textOf area (oneValue (valuesOf list))))) (called schema (setValue i list area) s)
     set-ends i list area bytes =
-        rw (open-kept i _)
+        rw (kept-sort, open-kept i (λ us p. Edit.written sort us p buf n i (given sort (typeAt us i) i list area)))
         (column-ends (length ts) i _
         λ h. tested-ends (given sort (typeAt ts i) i list area) _
         λ b g. placed-ends sort (edited (offsetWidth sort) ts true buf n i (some b))
@@ -174,24 +184,25 @@ module _ (sort : Bool) (schema : List ℕ) (ts : List DataType) (columns : schem
         (record { match = t .chosen .match; area = area; accept = t .chosen .accept; text = refl; sized = t .sized })
         (edited (offsetWidth sort) ts true buf n i (some b)) (rw (t .chosen .form)) small room)
 
-    null-ends : (i : ℕ) → Ends buf (Puts i none) (called sort schema (setNull i) s)
+    null-ends : (i : ℕ) → Ends buf (Puts i none) (called schema (setNull i) s)
     null-ends i =
         let room = k .room in
         let short = k .short in
         let r = edited (offsetWidth sort) ts true buf n i none in
-        rw (open-kept i _) (column-ends (length ts) i _ λ h. let le = null-le sort ts k i h in written r refl (set-kept sort ts k i h none tt r refl (omega arith) (omega arith)))
+        rw (kept-sort, open-kept i (λ us p. rowStored buf (edited (offsetWidth sort) us p buf n i none)))
+        (column-ends (length ts) i _ λ h. let le = null-le sort ts k i h in written r refl (set-kept sort ts k i h none tt r refl (omega arith) (omega arith)))
 
     -- a refused call changes nothing, and an accepted one puts its entry down
     of-ends : (c : Call) (P : List ℕ → Type 0) (o : Outcome) → ((r : List ℕ) → P r → Keeps (next (rowStored buf r) s) (noted (Done (length r)) c es)) → Ends buf P o → Keeps (next o s) (noted (o .0) c es)
     of-ends c P o f (refusal e q) = subst (λ x. Keeps (next x s) (noted (x .0) c es)) (sym q) k
     of-ends c P o f (written r q p) = subst (λ x. Keeps (next x s) (noted (x .0) c es)) (sym q) (f r p)
 
-    pub keeps : (c : Call) → OfBytes c → Keeps (next (called sort schema c s) s) (noted (called sort schema c s .0) c es)
+    pub keeps : (c : Call) → OfBytes c → Keeps (next (called schema c s) s) (noted (called schema c s .0) c es)
     keeps (setValue i list area) bytes = of-ends (setValue i list area) _ _ (λ r p. p) (set-ends i list area bytes)
     keeps (setNull i) bytes = of-ends (setNull i) _ _ (λ r p. p) (null-ends i)
 
   pub keeps-all : (cs : List Call) → AllOfBytes cs → {s : State} {es : List Entry} → Keeps s es
-      → Keeps (run sort schema cs s) (sheetBy cs (answers sort schema cs s) es)
+      → Keeps (run schema cs s) (sheetBy cs (answers schema cs s) es)
   keeps-all [] b k = k
   keeps-all (c ∷ cs) b k = keeps-all cs (b .1) (keeps k c (b .0))
 
@@ -234,16 +245,17 @@ module _ (sort : Bool) (schema : List ℕ) (ts : List DataType) (columns : schem
       of-test false h q =
           subst (λ (o : Outcome). Kept sort ts (o .1) (handedBack (o .0) 0) blank) q (fresh-kept out (ltb-false (length out) (length (freshRow sort ts)) h))
 
-  -- ---- the builder, on the last accepted values: their texts are no longer than the row, and a value list names them
-  -- where two bytes a number do
+  -- ---- the builder, on the last accepted values: their texts are no longer than the row
 
   pub texts-short : {s : State} {es : List Entry} → Keeps s es → length (texts es) ≤ rowLimit sort
   texts-short k = let short = k .short in omega (arith, texts-le (k .suit), kept-long sort ts k)
 
-  pub keeps-built : {s : State} {es : List Entry} → Keeps s es → length (texts es) ≤ 65535 → (o counts : List ℕ) → buildCall sort schema (listOf false (lastValues 0 es)) (texts es) o counts
+  pub keeps-built : {s : State} {es : List Entry} → Keeps s es → (o counts : List ℕ) → buildCall sort schema (listOf sort (lastValues 0 es)) (texts es) o counts
       ≡ placedBoth o counts (builtRow (offsetWidth sort) (packedMarks sort) (map shapeOf ts) (sheetCells ts es)) (cellsPoints ts (sheetCells ts es))
-  keeps-built {s} {es} k narrow o counts =
+  keeps-built {s} {es} k o counts =
       let short = k .short in
-      let sized = values-sized (k .suit) 0 (omega arith) in
+      let fit = texts-short k in
+      let sized = values-sized (k .suit) 0 (omega (arith, limit-le sort)) in
+      let narrow = values-narrow sort (k .suit) 0 (omega arith) in
       let small : length (builtRow (offsetWidth sort) (packedMarks sort) (map shapeOf ts) (sheetCells ts es)) ≤ rowLimit sort = rw (built-length sort ts k) short in
-      rw (columns, list-checked sort (length ts) (length (texts es)) (lastValues 0 es) sized (length-values (k .suit) 0) (texts-short k), cells-read (k .suit), le-ltb (rowLimit sort) (length (builtRow (offsetWidth sort) (packedMarks sort) (map shapeOf ts) (sheetCells ts es))) small)
+      rw (columns, list-checked sort sort (length ts) (length (texts es)) (lastValues 0 es) sized narrow (length-values (k .suit) 0) fit, cells-read (k .suit), le-ltb (rowLimit sort) (length (builtRow (offsetWidth sort) (packedMarks sort) (map shapeOf ts) (sheetCells ts es))) small)

@@ -7,3 +7,4 @@ pub mod Reading
 pub mod Reread
 pub mod Worked
 pub mod BothKinds
+pub mod LongRows

@@ -11,6 +11,7 @@ use Rattle.laws.proofs.Truths.{both}
 use Rattle.error.specs.Answer.{unchangedBoth}
 use Rattle.error.specs.Result.{ok, onResult}
 use Rattle.row_format.specs.Places.{offsetWidth}
+use Rattle.row_format.specs.Header.{isLong}
 use Rattle.datatype.specs.declared.DataType.{DataType}
 use Rattle.datatype.specs.Schema.{Parsed, schemaOf}
 use Rattle.value.specs.declared.DataValue.{DataValue}
@@ -74,15 +75,15 @@ module _ {sort : Bool} {ts : List DataType} {p : Bool} {r : List ℕ} (s : Sound
         (read-from n (suc i) (omega arith))
         ∙ ap (λ (c : ColumnRead). onColumn c (ok (listed value (suc i) n))) (column-is i h)
 
-  pub reads-all : {schema : List ℕ} → schemaOf sort schema ≡ ok ts → ReadsAll sort schema (length ts) r rowValues
-  reads-all {schema} e =
+  pub reads-all : {schema : List ℕ} → isLong r ≡ sort → schemaOf sort schema ≡ ok ts → ReadsAll schema (length ts) r rowValues
+  reads-all {schema} m e =
       record {
         count = length-listed value 0 (length ts);
-        read = λ ws o counts all.
-            ap (λ (x : Parsed). onResult x (unchangedBoth o counts) (λ cs. readRow sort cs r ws o counts)) e
+        read = λ ws o counts all. rw m
+            (ap (λ (x : Parsed). onResult x (unchangedBoth o counts) (λ cs. readRow sort cs r ws o counts)) e
             ∙ ap (λ (x : Frame). onFrame x (unchangedBoth o counts)
             (λ q. handOut sort o counts r (readFrom (offsetWidth sort) q ts (isWanted ws) r 0 (length ts)))) (s .frame)
-            ∙ ap (handOut sort o counts r) (read-from (isWanted ws) all (length ts) 0 (zero-add (length ts)));
+            ∙ ap (handOut sort o counts r) (read-from (isWanted ws) all (length ts) 0 (zero-add (length ts))));
       }
 
   -- ---- what is read, by columns

@@ -5,7 +5,7 @@ use mathlib.Core.Bool.{Bool}
 use mathlib.Core.List.{List, _++_, map}
 use mathlib.Core.Option.{none, some}
 use native.Mathlib.Omega.{arith}
-use lib.ListN.{length, getD, drop, set, length-set}
+use lib.ListN.{length, getD, drop, set, length-set, length-append}
 use lib.Seq.{ext-getD, getD-set-same, getD-set-other, length-take-le, take-append-seam, drop-append-seam}
 use Rattle.laws.proofs.Bytes.{Below, AllBytes, all-below, below-take}
 use Rattle.laws.proofs.Stores.{sets-start}
@@ -16,7 +16,10 @@ use Rattle.error.specs.Answer.{Outcome}
 use Rattle.error.specs.Result.{ok}
 use Rattle.row_format.specs.Places.{offsetWidth, rowLimit}
 use Rattle.row_format.specs.Table.{Cell}
+use Rattle.row_format.specs.Header.{isLong}
 use Rattle.row_format.specs.Edit.{editedRow}
+use Rattle.row_format.proofs.Header.{sort-inside}
+use Rattle.row_format.proofs.Front.{same-sort}
 use Rattle.datatype.specs.declared.DataType.{DataType}
 use Rattle.datatype.specs.Types.{shapeOf}
 use Rattle.datatype.specs.Schema.{schemaOf}
@@ -25,9 +28,10 @@ use Rattle.value_list.specs.Lists.{valuesOf}
 use Rattle.row_sound.specs.Sound.{SoundRow}
 use Rattle.row_sound.specs.Written.{Writes, null, form}
 use Rattle.row_sound.specs.Reread.{Content, columnContent, nullContent, writtenContent, payloadOf, lengthIn, Reread}
-use Rattle.row_sound.proofs.Rows.{row-short, null-short, edit-sound, edit-reread}
+use Rattle.row_sound.proofs.Rows.{row-short, null-short, edit-head, edit-sound, edit-reread}
+use Rattle.row_sound.proofs.Columns.{sound-long}
 use Rattle.row_edit.specs.Edit.{edited, rowStored, given}
-use Rattle.history.specs.History.{Call, setValue, setNull, State, rowOf, called, handedBack, oneValue}
+use Rattle.history.specs.History.{Call, setValue, setNull, State, rowOf, sortOf, called, handedBack, oneValue}
 use Rattle.history.specs.Demand.{OfBytes}
 use Rattle.history.specs.Reread.{columnOf, givenContent, ReadsAll, contents, Edits}
 use Rattle.history.proofs.Calls.{Ends, refusal, written, opened-ends, tested-ends, placed-ends, given-taken}
@@ -36,6 +40,7 @@ use Rattle.history.proofs.Reading.{rowValues, reads-all, length-content
 -- ---- how an accepted call ends: the row r that it wrote
 
 record Went (sort : Bool) (schema : List ℕ) (c : Call) (s : State) (r : List ℕ) : Type 0 where
+  held : s .row-length ≤ length (s .buf)
   columns : List DataType
   schema-good : schemaOf sort schema ≡ ok columns
   packed : Bool
@@ -48,20 +53,21 @@ record Went (sort : Bool) (schema : List ℕ) (c : Call) (s : State) (r : List �
   short : length r ≤ rowLimit sort
   room : length r ≤ length (s .buf)
 
-module _ (sort : Bool) (schema : List ℕ) (s : State) where
+module _ (schema : List ℕ) (s : State) where
   abbrev buf : List ℕ
   buf = s .buf
 
   abbrev n : ℕ
   n = s .row-length
 
-  set-went : (i : ℕ) (list area : List ℕ) → AllBytes list → Ends buf (Went sort schema (setValue i list area) s) (called sort schema (setValue i list area) s)
+  set-went : (i : ℕ) (list area : List ℕ) → AllBytes list → Ends buf (Went (sortOf s) schema (setValue i list area) s) (called schema (setValue i list area) s)
   set-went i list area bytes =
-      opened-ends sort schema n i _
-      λ ts p g room sound h. tested-ends (given sort (typeAt ts i) i list area) _
-      λ b e. placed-ends sort (edited (offsetWidth sort) ts p buf n i (some b))
-      λ small fit. let t = given-taken sort (typeAt ts i) i list area b bytes e in
+      opened-ends (sortOf s) schema n i _
+      λ ts p g room sound h. tested-ends (given (sortOf s) (typeAt ts i) i list area) _
+      λ b e. placed-ends (sortOf s) (edited (offsetWidth (sortOf s)) ts p buf n i (some b))
+      λ small fit. let t = given-taken (sortOf s) (typeAt ts i) i list area b bytes e in
       record {
+        held = room;
         columns = ts;
         schema-good = g;
         packed = p;
@@ -70,18 +76,19 @@ module _ (sort : Bool) (schema : List ℕ) (s : State) where
         cell = some _;
         writes = form (oneValue (valuesOf list)) area (t .chosen .match) (t .chosen .accept) (t .sized);
         is-given = refl;
-        row-is = ap (λ (x : List ℕ). edited (offsetWidth sort) ts p buf n i (some x)) (sym (t .chosen .form));
+        row-is = ap (λ (x : List ℕ). edited (offsetWidth (sortOf s)) ts p buf n i (some x)) (sym (t .chosen .form));
         short = small;
         room = fit;
       }
 
-  null-went : (i : ℕ) → Ends buf (Went sort schema (setNull i) s) (called sort schema (setNull i) s)
+  null-went : (i : ℕ) → Ends buf (Went (sortOf s) schema (setNull i) s) (called schema (setNull i) s)
   null-went i =
-      opened-ends sort schema n i _
+      opened-ends (sortOf s) schema n i _
       λ ts p g room sound h. let le = null-short sound i h in
       let size = length-take-le n buf room in
-      written (edited (offsetWidth sort) ts p buf n i none) refl
+      written (edited (offsetWidth (sortOf s)) ts p buf n i none) refl
       (record {
+        held = room;
         columns = ts;
         schema-good = g;
         packed = p;
@@ -95,13 +102,13 @@ module _ (sort : Bool) (schema : List ℕ) (s : State) where
         room = omega (arith, le, size);
       })
 
-  went : (c : Call) → OfBytes c → Ends buf (Went sort schema c s) (called sort schema c s)
+  went : (c : Call) → OfBytes c → Ends buf (Went (sortOf s) schema c s) (called schema c s)
   went (setValue i list area) bytes = set-went i list area bytes
   went (setNull i) bytes = null-went i
 
 -- ---- the rows before and after it
 
-module _ {sort : Bool} {schema : List ℕ} {c : Call} {s : State} {r : List ℕ} (w : Went sort schema c s r) (bytes : AllBytes (s .buf)) where
+module _ {schema : List ℕ} {c : Call} {s : State} {r : List ℕ} (w : Went (sortOf s) schema c s r) (bytes : AllBytes (s .buf)) where
   abbrev ts : List DataType
   ts = w .columns
 
@@ -118,21 +125,29 @@ module _ {sort : Bool} {schema : List ℕ} {c : Call} {s : State} {r : List ℕ}
   octets = below-take 256 (s .row-length) (s .buf) (all-below (s .buf) bytes)
 
   abbrev edit : List ℕ
-  edit = editedRow (offsetWidth sort) p (map shapeOf ts) i (w .cell) old
+  edit = editedRow (offsetWidth (sortOf s)) p (map shapeOf ts) i (w .cell) old
 
-  edit-short : length edit ≤ rowLimit sort
+  edit-short : length edit ≤ rowLimit (sortOf s)
   edit-short = rw (w .row-is) (w .short)
 
-  after-sound : SoundRow sort ts p r
-  after-sound = subst (SoundRow sort ts p) (w .row-is) (edit-sound (w .sound) octets i (w .inside) (w .cell) (w .writes) edit-short)
+  after-sound : SoundRow (sortOf s) ts p r
+  after-sound = subst (SoundRow (sortOf s) ts p) (w .row-is) (edit-sound (w .sound) octets i (w .inside) (w .cell) (w .writes) edit-short)
+
+  old-marked : isLong old ≡ sortOf s
+  old-marked = sym (sort-inside (s .buf) (s .row-length) (w .held))
+
+  new-marked : isLong r ≡ sortOf s
+  new-marked =
+      let long : 4 ≤ length old = omega (arith, sound-long (offsetWidth (sortOf s)) p ts old (w .sound .sound)) in
+      ap isLong (sym (w .row-is)) ∙ same-sort old edit long (edit-head (w .sound) i (w .inside) (w .cell)) ∙ old-marked
 
   abbrev put : Content
   put = givenContent (typeAt ts i) c
 
-  read-again : Reread (offsetWidth sort) p ts i put old r
+  read-again : Reread (offsetWidth (sortOf s)) p ts i put old r
   read-again =
-      subst (λ (x : List ℕ). Reread (offsetWidth sort) p ts i put old x) (w .row-is)
-      (subst (λ (x : Content). Reread (offsetWidth sort) p ts i x old edit) (w .is-given) (edit-reread (w .sound) octets i (w .inside) (w .cell) (w .writes) edit-short))
+      subst (λ (x : List ℕ). Reread (offsetWidth (sortOf s)) p ts i put old x) (w .row-is)
+      (subst (λ (x : Content). Reread (offsetWidth (sortOf s)) p ts i x old edit) (w .is-given) (edit-reread (w .sound) octets i (w .inside) (w .cell) (w .writes) edit-short))
 
   abbrev before : List Content
   before = contents old (rowValues (w .sound))
@@ -141,7 +156,7 @@ module _ {sort : Bool} {schema : List ℕ} {c : Call} {s : State} {r : List ℕ}
   column-changed j l =
       content-at after-sound j l
       ∙ same-or i j
-      (λ e. subst (λ (k : ℕ). columnContent (offsetWidth sort) p ts k r ≡ getD (set before i put) k nullContent) e (read-again .own ∙ sym (getD-set-same before i put nullContent (rw (length-contents (w .sound)) (w .inside)))))
+      (λ e. subst (λ (k : ℕ). columnContent (offsetWidth (sortOf s)) p ts k r ≡ getD (set before i put) k nullContent) e (read-again .own ∙ sym (getD-set-same before i put nullContent (rw (length-contents (w .sound)) (w .inside)))))
       (λ ne. read-again .others j l ne ∙ sym (content-at (w .sound) j l) ∙ sym (getD-set-other before i j put nullContent (λ e. ne (sym e))))
 
   row-changed : contents r (rowValues after-sound) ≡ set before i put
@@ -155,31 +170,36 @@ abbrev IsDone : Answer → Type 0
 IsDone (Done m) = Unit {0}
 IsDone (Refused e) = ⊥
 
-pub edits : {sort : Bool} {schema : List ℕ} (c : Call) → OfBytes c → {old new : State} → AllBytes (old .buf) → called sort schema c old ≡ (Done (new .row-length), new .buf) → Edits sort schema c old new
-edits {sort} {schema} c of {old} {new} bytes done = by-end (went sort schema old c of)
+pub edits : {schema : List ℕ} (c : Call) → OfBytes c → {old new : State} → AllBytes (old .buf) → called schema c old ≡ (Done (new .row-length), new .buf) → Edits schema c old new
+edits {schema} c of {old} {new} bytes done = by-end (went schema old c of)
   where
-    by-end : Ends (old .buf) (Went sort schema c old) (called sort schema c old) → Edits sort schema c old new
+    by-end : Ends (old .buf) (Went (sortOf old) schema c old) (called schema c old) → Edits schema c old new
     by-end (refusal e q) = absurd (subst (λ (o : Outcome). IsDone (o .0)) (sym done ∙ q) tt)
     by-end (written r q w) =
         let same : rowStored (old .buf) r ≡ (Done (new .row-length), new .buf) = sym q ∙ done in
         let size : length r ≡ new .row-length = ap (λ (o : Outcome). handedBack (o .0) 0) same in
         let whole : r ++ drop (length r) (old .buf) ≡ new .buf = sym (sets-start (old .buf) r (w .room)) ∙ ap (λ (o : Outcome). o .1) same in
         let row : r ≡ rowOf new = rw (← size, ← whole) (sym (take-append-seam r (drop (length r) (old .buf)))) in
+        let fits : new .row-length ≤ length (new .buf) = rw (← size, ← whole, length-append) (omega arith) in
+        let marked : isLong (rowOf new) ≡ sortOf old = ap isLong (sym row) ∙ new-marked w bytes in
         record {
+          sort = sortOf old;
+          old-sort = refl;
+          new-sort = sort-inside (new .buf) (new .row-length) fits ∙ marked;
           columns = w .columns;
           schema-good = w .schema-good;
           inside = w .inside;
           old-values = rowValues (w .sound);
           new-values = rowValues (after-sound w bytes);
-          old-read = reads-all (w .sound) (w .schema-good);
-          new-read = subst (λ (x : List ℕ). ReadsAll sort schema (length (w .columns)) x (rowValues (after-sound w bytes))) row (reads-all (after-sound w bytes) (w .schema-good));
+          old-read = reads-all (w .sound) (old-marked w bytes) (w .schema-good);
+          new-read = subst (λ (x : List ℕ). ReadsAll schema (length (w .columns)) x (rowValues (after-sound w bytes))) row (reads-all (after-sound w bytes) (new-marked w bytes) (w .schema-good));
           changed = subst (λ (x : List ℕ). contents x (rowValues (after-sound w bytes)) ≡ set (before w bytes) (columnOf c) (givenContent (typeAt (w .columns) (columnOf c)) c)) row (row-changed w bytes);
           packed = w .packed;
           old-sound = w .sound;
-          new-sound = subst (SoundRow sort (w .columns) (w .packed)) row (after-sound w bytes);
+          new-sound = subst (SoundRow (sortOf old) (w .columns) (w .packed)) row (after-sound w bytes);
           handed = sym size ∙ ap length row;
-          long = subst (λ (x : List ℕ). length x ≡ lengthIn (offsetWidth sort) (w .packed) (w .columns) x) row (read-again w bytes .long);
+          long = subst (λ (x : List ℕ). length x ≡ lengthIn (offsetWidth (sortOf old)) (w .packed) (w .columns) x) row (read-again w bytes .long);
           change =
-              subst (λ (x : List ℕ). length x + length (payloadOf (offsetWidth sort) (w .packed) (w .columns) (columnOf c) (rowOf old)) ≡ length (rowOf old) + length (payloadOf (offsetWidth sort) (w .packed) (w .columns) (columnOf c) x)) row (read-again w bytes .change);
+              subst (λ (x : List ℕ). length x + length (payloadOf (offsetWidth (sortOf old)) (w .packed) (w .columns) (columnOf c) (rowOf old)) ≡ length (rowOf old) + length (payloadOf (offsetWidth (sortOf old)) (w .packed) (w .columns) (columnOf c) x)) row (read-again w bytes .change);
           behind = rw (← size, ← whole) (drop-append-seam r (drop (length r) (old .buf)));
         }

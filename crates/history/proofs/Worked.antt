@@ -6,6 +6,7 @@ use native.Mathlib.Omega.{arith}
 use Rattle.laws.proofs.Bytes.{Below, AllBytes}
 use Rattle.text.specs.Rfc3629.{octets}
 use Rattle.row_format.specs.Table.{lay, rangeEnd}
+use Rattle.row_format.specs.Header.{isLong, sortIn}
 use Rattle.row_format.specs.Row.{header, rowWith}
 use Rattle.row_format.specs.Edit.{rangeStart, varlenEdit, editedRow}
 use Rattle.datatype.specs.Schema.{schemaOf}
@@ -37,7 +38,7 @@ edits-history =
     record { columns = refl; out = lent; start = start; fresh = refl; calls = edits; bytes = edits-bytes }
 
 pub worked : Worked
-unfolding schemaOf valuesOf rowWith lay header rangeEnd rangeStart varlenEdit editedRow soundColumn octets
+unfolding schemaOf valuesOf rowWith lay header rangeEnd rangeStart varlenEdit editedRow soundColumn octets isLong sortIn
 worked =
     record {
       fresh = refl;

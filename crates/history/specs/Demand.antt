@@ -44,7 +44,8 @@ AllOfBytes [] = Unit {0}
 AllOfBytes (c ∷ cs) = OfBytes c × AllOfBytes cs
 
 -- "A history starts where fresh answers 0": `out` is what fresh was lent, `start` what it left and handed back. "a
--- list of set and set null calls, refused ones included": any calls. Its rows are of one sort.
+-- list of set and set null calls, refused ones included": any calls. 02, request 5: "The caller chooses short or long
+-- when a row is made", here by `sort`; each call goes by the row's own mark.
 pub record History (sort : Bool) (schema : List ℕ) (ts : List DataType) : Type 0 where
   pub columns : schemaOf sort schema ≡ ok ts
   pub out : List ℕ
@@ -57,7 +58,7 @@ module _ {sort : Bool} {schema : List ℕ} {ts : List DataType} (h : History sor
   -- what it leaves: the buffer and the length; the row, as it is and "with the slots of null fixed columns set to
   -- zero"
   abbrev pub left : State
-  left = run sort schema (h .calls) (h .start)
+  left = run schema (h .calls) (h .start)
 
   abbrev pub row : List ℕ
   row = rowOf left
@@ -67,7 +68,7 @@ module _ {sort : Bool} {schema : List ℕ} {ts : List DataType} (h : History sor
 
   -- what its calls answer
   abbrev pub replies : List Answer
-  replies = answers sort schema (h .calls) (h .start)
+  replies = answers schema (h .calls) (h .start)
 
   -- the sheet, by the calls and those answers: "one entry a column, all null at first"; and "the same stored form, or
   -- null, in every column"
@@ -84,34 +85,36 @@ module _ {sort : Bool} {schema : List ℕ} {ts : List DataType} (h : History sor
   pub record Accepts : Type 0 where
     pub sound : soundness sort ts row ≡ Sound true
     pub set : (i : ℕ) (list area b : List ℕ) → i < length ts → given sort (typeAt ts i) i list area ≡ ok b
-        → called sort schema (setValue i list area) left
+        → called schema (setValue i list area) left
         ≡ rowPlaced sort (left .buf) (editedRow (offsetWidth sort) true (map shapeOf ts) i (some b) row)
     pub bad-value : (i : ℕ) (list area : List ℕ) {e : Refusal} → i < length ts
         → given sort (typeAt ts i) i list area ≡ refused e
-        → called sort schema (setValue i list area) left ≡ unchanged (left .buf) e
+        → called schema (setValue i list area) left ≡ unchanged (left .buf) e
     pub no-column : (i : ℕ) (list area : List ℕ) → length ts ≤ i
-        → called sort schema (setValue i list area) left ≡ unchanged (left .buf) NoSuchColumn
+        → called schema (setValue i list area) left ≡ unchanged (left .buf) NoSuchColumn
     pub no-null : (i : ℕ) → length ts ≤ i
-        → called sort schema (setNull i) left ≡ unchanged (left .buf) NoSuchColumn
+        → called schema (setNull i) left ≡ unchanged (left .buf) NoSuchColumn
     pub set-null : (i : ℕ) → i < length ts
-        → called sort schema (setNull i) left
+        → called schema (setNull i) left
         ≡ rowStored (left .buf) (editedRow (offsetWidth sort) true (map shapeOf ts) i none row)
 
--- ---- "For every history", of short rows: the row zeroed "is the very row that the builder makes of the last accepted
--- values". `placedBoth` is 14 where there is no room for it or for its counts, which are those of the sheet's stored
--- forms; so "the builder refuses with nothing but 14, for want of room; otherwise it writes the history's row". The
--- length that was handed back is the row's, "the layout's minimum plus the payload lengths of its non-null Varchar
--- columns", and zeroing keeps it.
-pub record Leaves {schema : List ℕ} {ts : List DataType} (h : History false schema ts) : Type 0 where
+-- ---- "For every history": the row zeroed "is the very row that the builder makes of the last accepted values"; 02,
+-- request 5: "rows of one sort, which the builder makes too, with the last accepted texts of a long row in kinds 17, 18
+-- and 19", whatever kinds the calls had: `listOf` writes the list for the sort. `placedBoth` is 14 where there is no
+-- room for it or for its counts, which are those of the sheet's stored forms; so "the builder refuses with nothing but
+-- 14, for want of room; otherwise it writes the history's row". The length that was handed back is the row's, "the
+-- layout's minimum plus the payload lengths of its non-null Varchar columns", and zeroing keeps it.
+pub record Leaves {sort : Bool} {schema : List ℕ} {ts : List DataType} (h : History sort schema ts) : Type 0 where
   pub built : (o counts : List ℕ)
-      → buildCall false schema (listOf false (lastValues 0 (sheet h))) (texts (sheet h)) o counts
+      → buildCall sort schema (listOf sort (lastValues 0 (sheet h))) (texts (sheet h)) o counts
       ≡ placedBoth o counts (zeroed h) (cellsPoints ts (cells h))
   pub handed : left h .row-length ≡ length (row h)
   pub long : length (row h)
-      ≡ minimum (offsetWidth false) true (map shapeOf ts) + length (payloads (varlenCells (map shapeOf ts) (cells h)))
+      ≡ minimum (offsetWidth sort) true (map shapeOf ts) + length (payloads (varlenCells (map shapeOf ts) (cells h)))
   pub same-length : length (zeroed h) ≡ length (row h)
 
 -- ---- "For every two histories on one schema, the rows so zeroed are equal in length and in every byte exactly when
--- both leave the same stored form, or null, in every column."
+-- both leave the same stored form, or null, in every column." 02, request 5: "The comparison of two histories is about
+-- rows of one sort".
 abbrev pub Told : {sort : Bool} {schema : List ℕ} {ts : List DataType} (g h : History sort schema ts) → Type 0
 Told g h = (zeroed g ≡ zeroed h) ↔ (cells g ≡ cells h)

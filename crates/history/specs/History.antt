@@ -1,6 +1,7 @@
 -- Demand 3, and 01, "Histories of edits": lists of set and set null calls, refused ones included, from a fresh row of
 -- a schema. FORMAT 9.1, 9.2.
 use Prim.Native.Nat.{ℕ, _+_}
+use mathlib.Core.Bool.{Bool}
 use mathlib.Core.List.{List, [], _∷_, _++_}
 use mathlib.Core.Option.{Option, none, some}
 use lib.ListN.{length, getD, set, take}
@@ -9,6 +10,7 @@ use Rattle.error.specs.declared.Answer.the-variants.{Done, Refused}
 use Rattle.error.specs.Answer.{Outcome}
 use Rattle.error.specs.Result.{ok, refused}
 use Rattle.row_format.specs.Table.{Cell}
+use Rattle.row_format.specs.Header.{sortIn}
 use Rattle.datatype.specs.declared.DataType.{DataType}
 use Rattle.value.specs.declared.DataValue.{DataValue}
 use Rattle.value.specs.declared.DataValue.the-variants as D
@@ -16,7 +18,6 @@ use Rattle.value.specs.Ranges.{textOf, moved}
 use Rattle.value_list.specs.Lists.{Values, valuesOf}
 use Rattle.stored_form.specs.Write.{storedForm}
 use Rattle.row_edit.specs.Edit.{setCall, setNullCall}
-use mathlib.Core.Bool.{Bool}
 
 -- ---- the calls
 
@@ -34,10 +35,14 @@ pub record State : Type 0 where
 abbrev pub rowOf : State → List ℕ
 rowOf s = take (s .row-length) (s .buf)
 
--- the calls on a row that is taken as of a sort
-abbrev pub called : Bool → List ℕ → Call → State → Outcome
-called sort schema (setValue i list area) s = setCall sort schema (s .buf) (s .row-length) i list area
-called sort schema (setNull i) s = setNullCall sort schema (s .buf) (s .row-length) i
+-- 02, request 5: "the row's own mark tells the sort"
+abbrev pub sortOf : State → Bool
+sortOf s = sortIn (s .buf) (s .row-length)
+
+-- the call on the row and the length that the one before left
+abbrev pub called : List ℕ → Call → State → Outcome
+called schema (setValue i list area) s = setCall schema (s .buf) (s .row-length) i list area
+called schema (setNull i) s = setNullCall schema (s .buf) (s .row-length) i
 
 -- "accepted means answered 0"
 abbrev pub handedBack : Answer → ℕ → ℕ
@@ -74,14 +79,13 @@ sheetBy (c ∷ cs) (a ∷ as′) sheet = sheetBy cs as′ (noted a c sheet)
 
 -- ---- a whole history: what it leaves of buffer and length, and what its calls answer
 
-abbrev pub run : Bool → List ℕ → List Call → State → State
-run sort schema [] s = s
-run sort schema (c ∷ cs) s = run sort schema cs (next (called sort schema c s) s)
+abbrev pub run : List ℕ → List Call → State → State
+run schema [] s = s
+run schema (c ∷ cs) s = run schema cs (next (called schema c s) s)
 
-abbrev pub answers : Bool → List ℕ → List Call → State → List Answer
-answers sort schema [] s = []
-answers sort schema (c ∷ cs) s =
-    called sort schema c s .0 ∷ answers sort schema cs (next (called sort schema c s) s)
+abbrev pub answers : List ℕ → List Call → State → List Answer
+answers schema [] s = []
+answers schema (c ∷ cs) s = called schema c s .0 ∷ answers schema cs (next (called schema c s) s)
 
 -- ---- "The last accepted values are the entries by rising column as one value list, the texts end to end in that
 -- order in one text area, each range rewritten to match."

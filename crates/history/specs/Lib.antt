@@ -3,3 +3,4 @@ pub mod Demand
 pub mod Reread
 pub mod Worked
 pub mod BothKinds
+pub mod LongRows

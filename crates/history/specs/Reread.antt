@@ -8,6 +8,7 @@ use lib.ListN.{length, drop, set}
 use Rattle.error.specs.Answer.{placedBoth}
 use Rattle.error.specs.Result.{ok}
 use Rattle.row_format.specs.Places.{offsetWidth}
+use Rattle.row_format.specs.Header.{isLong}
 use Rattle.datatype.specs.declared.DataType.{DataType}
 use Rattle.datatype.specs.Schema.{schemaOf}
 use Rattle.datatype.specs.Check.{typeAt}
@@ -19,7 +20,7 @@ use Rattle.row_column.specs.declared.ColumnRead.the-variants.{Value}
 use Rattle.row_decode.specs.Read.{isWanted, readCall}
 use Rattle.row_sound.specs.Sound.{SoundRow}
 use Rattle.row_sound.specs.Reread.{Content, content, nullContent, valueContent, payloadOf, lengthIn}
-use Rattle.history.specs.History.{Call, setValue, setNull, State, rowOf, oneValue}
+use Rattle.history.specs.History.{Call, setValue, setNull, State, rowOf, sortOf, oneValue}
 
 -- the column that a call names, and what it puts there
 abbrev pub columnOf : Call → ℕ
@@ -31,27 +32,30 @@ givenContent t (setValue i list area) =
     valueContent t (oneValue (valuesOf list)) (textOf area (oneValue (valuesOf list)))
 givenContent t (setNull i) = nullContent
 
--- a read of all n columns of a row of a sort answers with the values vs, into any output, and with their counts, into
--- any list: "such a list whose text area is the row itself"
-pub record ReadsAll (sort : Bool) (schema : List ℕ) (n : ℕ) (row : List ℕ) (vs : List DataValue) : Type 0 where
+-- a read of all n columns of a row answers with the values vs, into any output, and with their counts, into any list:
+-- "such a list whose text area is the row itself", for the row's own sort
+pub record ReadsAll (schema : List ℕ) (n : ℕ) (row : List ℕ) (vs : List DataValue) : Type 0 where
   pub count : length vs ≡ n
   pub read : (wanted out counts : List ℕ) → ((i : ℕ) → i < n → isWanted wanted i ≡ true)
-      → readCall sort schema row wanted out counts
-      ≡ placedBoth out counts (listOf sort vs) (map (pointsIn row) vs)
+      → readCall schema row wanted out counts
+      ≡ placedBoth out counts (listOf (isLong row) vs) (map (pointsIn row) vs)
 
 -- what they are, wherever their texts stand
 abbrev pub contents : List ℕ → List DataValue → List Content
 contents row vs = map (λ (v : DataValue). content row (Value v)) vs
 
--- a call on a row of a sort that got `old` and left `new`
-pub record Edits (sort : Bool) (schema : List ℕ) (c : Call) (old new : State) : Type 0 where
+-- a call on a row of a sort that got `old` and left `new`, a row of that sort
+pub record Edits (schema : List ℕ) (c : Call) (old new : State) : Type 0 where
+  pub sort : Bool
+  pub old-sort : sortOf old ≡ sort
+  pub new-sort : sortOf new ≡ sort
   pub columns : List DataType
   pub schema-good : schemaOf sort schema ≡ ok columns
   pub inside : columnOf c < length columns
   pub old-values : List DataValue
   pub new-values : List DataValue
-  pub old-read : ReadsAll sort schema (length columns) (rowOf old) old-values
-  pub new-read : ReadsAll sort schema (length columns) (rowOf new) new-values
+  pub old-read : ReadsAll schema (length columns) (rowOf old) old-values
+  pub new-read : ReadsAll schema (length columns) (rowOf new) new-values
   pub changed : contents (rowOf new) new-values
       ≡ set (contents (rowOf old) old-values) (columnOf c) (givenContent (typeAt columns (columnOf c)) c)
   -- the row is sound as before, and its length "the layout's minimum plus the payload lengths of its non-null Varchar

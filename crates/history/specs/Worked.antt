@@ -54,7 +54,7 @@ row2 =
     }
 
 abbrev pub after : List Call → State
-after more = run false S (edits ++ more) start
+after more = run S (edits ++ more) start
 
 pub record Worked : Type 0 where
   -- 1

@@ -83,10 +83,11 @@ pub fn clear_null(bits: &mut [u8], n: usize, i: usize) -> BitAnswer
     put_null(bits, n, i, false)
 }
 
-// Whether a column of a row of this sort is null, by the row's own header and bitmap.
-pub fn is_column_null_in_row(row: &[u8], is_long: bool, column: usize) -> Flag
-    ensures { λ r. ⌜ r ≡ nullFlag «is_long» (now (row .entry)) column ⌝ }
+// Whether a column of a row is null, by the row's own mark, header and bitmap.
+pub fn is_column_null_in_row(row: &[u8], column: usize) -> Flag
+    ensures { λ r. ⌜ r ≡ nullFlag (now (row .entry)) column ⌝ }
 {
+    let is_long = row_layout::is_long(row);
     if row_layout::row_limit(is_long) < row.len() {
         return Flag::Refused(Refusal::RowTooLong);
     }

@@ -10,6 +10,7 @@ use Rattle.laws.proofs.Truths.{cases}
 use Rattle.error.specs.declared.Refusal.{Refusal}
 use Rattle.error.specs.declared.Refusal.the-variants.{Unprintable}
 use Rattle.error.specs.Result.{Result, ok, refused, onResult}
+use Rattle.row_format.specs.Header.{isLong}
 use Rattle.row_format.specs.Places.{offsetWidth, varlens, minimum}
 use Rattle.row_layout.specs.declared.VarlenRange.{VarlenRange}
 use Rattle.row_layout.specs.declared.VarlenRange.the-variants.{Null, Bytes, Outside}
@@ -27,7 +28,7 @@ use Rattle.row_decode.specs.Read.{onColumn, readFrom}
 use Rattle.occupation.specs.declared.MomentRead.{MomentRead}
 use Rattle.occupation.specs.declared.MomentRead.the-variants as Moment
 use Rattle.occupation.specs.declared.Fields.{Fields}
-use Rattle.occupation.specs.Occupation.{Occupation, columns, occupationOf, hasUnprintable, printable, occupationIn}
+use Rattle.occupation.specs.Occupation.{Occupation, columns, occupationOf, hasUnprintable, printable, occupationAs, occupationIn}
 use Rattle.occupation.specs.InnerFields.{momentFrom, fieldsShown, momentLimit, SpanIn, FieldsIn, isGood}
 use Rattle.occupation.specs.InnerRead.{arrivalPlace, departurePlace, leastLength, textRangeIn, textOfRead, momentOfRead, textColumn, momentColumn, withPlatform, withUnit, withArrival, withDeparture, shownIn, momentShown, MomentIn, spanOf, countOf}
 use Rattle.occupation.proofs.Reading.{text-null, text-outside, text-long, text-good, text-bad, text-in, null-in}
@@ -53,7 +54,7 @@ in-frame true r true = by-columns r (columnValue (offsetWidth true) true columns
 in-frame false r false = by-columns r (columnValue (offsetWidth false) false columns 0 r) (columnValue (offsetWidth false) false columns 1 r) (columnValue (offsetWidth false) false columns 2 r) (columnValue (offsetWidth false) false columns 3 r)
 in-frame true r false = by-columns r (columnValue (offsetWidth true) false columns 0 r) (columnValue (offsetWidth true) false columns 1 r) (columnValue (offsetWidth true) false columns 2 r) (columnValue (offsetWidth true) false columns 3 r)
 
-pub by-frame : (k : Bool) (r : List ℕ) → onFrame (frameOf k columns r) refused (λ p. withPlatform k r) ≡ occupationIn k r
+pub by-frame : (k : Bool) (r : List ℕ) → onFrame (frameOf k columns r) refused (λ p. withPlatform k r) ≡ occupationAs k r
 by-frame k r = same-good (frameOf k columns r) refused (λ p e. in-frame k r p)
 
 least : (k p : Bool) → minimum (offsetWidth k) p (map shapeOf columns) ≡ leastLength k
@@ -69,12 +70,19 @@ long-enough k r {p} e =
 
 -- ---- a row that can be printed
 
-good-frame : (k : Bool) (r : List ℕ) (f : Frame) → f ≡ frameOf k columns r → isGood (onFrame f refused (λ p. withPlatform k r)) ≡ true → (leastLength k ≤ length r) × (withPlatform k r ≡ occupationIn k r)
+good-frame : (k : Bool) (r : List ℕ) (f : Frame) → f ≡ frameOf k columns r → isGood (onFrame f refused (λ p. withPlatform k r)) ≡ true → (leastLength k ≤ length r) × (withPlatform k r ≡ occupationAs k r)
 good-frame k r (Frame.Good p) e h = (long-enough k r (sym e), ap (λ (x : Frame). onFrame x refused (λ p. withPlatform k r)) e ∙ by-frame k r)
 good-frame k r (Frame.Refused q) e h = absurd (false≢true h)
 
-pub good-row : (k : Bool) (r : List ℕ) → isGood (occupationIn k r) ≡ true → (leastLength k ≤ length r) × (withPlatform k r ≡ occupationIn k r)
+pub good-row : (k : Bool) (r : List ℕ) → isGood (occupationAs k r) ≡ true → (leastLength k ≤ length r) × (withPlatform k r ≡ occupationAs k r)
 good-row k r h = good-frame k r (frameOf k columns r) refl (ap isGood (by-frame k r) ∙ h)
+
+-- by the sort that was asked of the row
+pub good-sort : (r : List ℕ) {k : Bool} → k ≡ isLong r → isGood (occupationIn r) ≡ true → isGood (occupationAs k r) ≡ true
+good-sort r e h = subst (λ (q : Bool). isGood (occupationAs q r) ≡ true) (sym e) h
+
+pub good-length : (r : List ℕ) {k : Bool} → k ≡ isLong r → isGood (occupationIn r) ≡ true → leastLength k ≤ length r
+good-length r {k} e h = good-row k r (good-sort r e h) .0
 
 -- the first of two steps was not refused
 first-good : {A : Type 0} (x : Result A) (k : A → Result Occupation) → isGood (onResult x refused k) ≡ true → (a : A) × ((x ≡ ok a) × (isGood (k a) ≡ true))
@@ -121,7 +129,7 @@ moment-again (Moment.Good n) h w = (sym cc, w)
 moment-again (Moment.Refused e) h w = absurd (false≢true (ap isGood h))
 
 module _ (k : Bool) (r : List ℕ) (w : Inside r (textRangeIn k r 0)) (w' : Inside r (textRangeIn k r 1)) (a d : MomentRead) (ea : momentShown a ≡ momentColumn 2 (arrivalPlace k) r) (ed : momentShown d ≡ momentColumn 3 (departurePlace k) r) (wa : MomentIn a) (wd : MomentIn d)
-    (h : isGood (occupationIn k r) ≡ true) where
+    (h : isGood (occupationAs k r) ≡ true) where
   abbrev fields : Fields
   fields =
       record {
@@ -133,7 +141,7 @@ module _ (k : Bool) (r : List ℕ) (w : Inside r (textRangeIn k r 0)) (w' : Insi
         departure = countOf d;
       }
 
-  pub read-again : (ok (fieldsShown r fields) ≡ occupationIn k r) × FieldsIn (length r) fields
+  pub read-again : (ok (fieldsShown r fields) ≡ occupationAs k r) × FieldsIn (length r) fields
   read-again =
       let g = good-row k r h in
       let first = first-good (textColumn k 16 0 r) (withUnit k r) (ap isGood (g .1) ∙ h) in

@@ -8,6 +8,7 @@ use lib.ListN.{length, getD}
 use Rattle.error.specs.declared.Refusal.the-variants.{Unprintable}
 use Rattle.error.specs.Result.{Result, ok, refused, onResult}
 use Rattle.row_format.specs.Places.{offsetWidth}
+use Rattle.row_format.specs.Header.{isLong}
 use Rattle.datatype.specs.declared.DataType.{DataType}
 use Rattle.datatype.specs.declared.DataType.the-variants.{Varchar, Timestamp}
 use Rattle.value.specs.declared.DataValue.{DataValue}
@@ -75,8 +76,12 @@ printable o =
 
 -- "the reading refusals", which are those of a read of all columns; "17, after those of its row".
 -- The row is taken as of sort k.
-abbrev pub occupationIn : Bool → List ℕ → Result Occupation
-occupationIn k r =
+abbrev pub occupationAs : Bool → List ℕ → Result Occupation
+occupationAs k r =
     onFrame (frameOf k columns r) refused
     (λ p. onResult (readFrom (offsetWidth k) p columns (λ i. true) r 0 (length columns)) refused
     (λ vs. printable (occupationOf r vs)))
+
+-- 02, request 5: "On a read or edit the row's own mark tells the sort"
+abbrev pub occupationIn : List ℕ → Result Occupation
+occupationIn r = occupationAs (isLong r) r

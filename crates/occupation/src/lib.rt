@@ -201,11 +201,12 @@ fn read_columns(row: &[u8], is_long: bool) -> FieldsRead
     }
 }
 
-// The fields of a row, or why it is not printed.
-pub fn read(row: &[u8], is_long: bool) -> FieldsRead
-    ensures { λ r. ⌜ (readShown (now (row .entry)) r ≡ occupationIn «is_long» (now (row .entry)))
+// The fields of a row, or why it is not printed. The row's own mark tells its sort.
+pub fn read(row: &[u8]) -> FieldsRead
+    ensures { λ r. ⌜ (readShown (now (row .entry)) r ≡ occupationIn (now (row .entry)))
         × ReadIn (length (now (row .entry))) r ⌝ }
 {
+    let is_long = row_layout::is_long(row);
     let layout = RowLayout {
         num_columns: 4,
         num_varlen_cols: 2,
@@ -239,11 +240,12 @@ fn count_of(moment: MomentRead) -> u64
 }
 
 // The fields of a row that `read` did not refuse, without its tests of the texts.
-pub fn fields_of(row: &[u8], is_long: bool) -> Fields
-    requires { ⌜ isGood (occupationIn «is_long» (now row)) ≡ true ⌝ }
-    ensures { λ r. ⌜ (ok (fieldsShown (now (row .entry)) r) ≡ occupationIn «is_long» (now (row .entry)))
+pub fn fields_of(row: &[u8]) -> Fields
+    requires { ⌜ isGood (occupationIn (now row)) ≡ true ⌝ }
+    ensures { λ r. ⌜ (ok (fieldsShown (now (row .entry)) r) ≡ occupationIn (now (row .entry)))
         × FieldsIn (length (now (row .entry))) r ⌝ }
 {
+    let is_long = row_layout::is_long(row);
     let platform = span_of(text_range(row, is_long, 0));
     let unit = span_of(text_range(row, is_long, 1));
     let at = arrival_place(is_long);

@@ -1,7 +1,6 @@
 -- The walk over the rows of a list: those that were put in order, and those that are left.
 use Prim.Native.Nat.{ℕ, _+_, _*_, _-_, _≤_, _<_}
 use mathlib.Core.Path.{_≡_, refl, sym, ap, _∙_, subst}
-use mathlib.Core.Bool.{false}
 use mathlib.Core.List.{List, [], map}
 use native.Mathlib.Nat.{sub-zero}
 use native.Mathlib.Omega.{arith}
@@ -77,7 +76,7 @@ module _ {list order : List ℕ} {at k size : ℕ} (s : Arranging list order at 
     pub arrange-at : Addable list order k at
     arrange-at = let n = next .some in let r = s .room in record { so-far = s .so-far; room = omega arith; inside = next .inside; small = s .small }
 
-    rest-is : {x : Result Occupation} → occupationIn false (rowIn list at) ≡ x → orderedOnto (occupationsAt list (take k order)) (onResult x refused (λ o. before o (occupationsIn (next .rest)))) ≡ orderedOnto [] (occupationsOf list)
+    rest-is : {x : Result Occupation} → occupationIn (rowIn list at) ≡ x → orderedOnto (occupationsAt list (take k order)) (onResult x refused (λ o. before o (occupationsIn (next .rest)))) ≡ orderedOnto [] (occupationsOf list)
     rest-is e =
         sym (ap (λ (rs : List (List ℕ)). orderedOnto (occupationsAt list (take k order)) (occupationsIn rs)) (next .is-more)
         ∙ ap (λ (y : Result Occupation). orderedOnto (occupationsAt list (take k order)) (onResult y refused (λ o. before o (occupationsIn (next .rest))))) e) ∙ s .rest

@@ -25,13 +25,13 @@ use Rattle.occupation_list.proofs.Insertion.{Searching, split-inserted,
 
 pub known-at : (list : List ℕ) (p : ℕ) (r : List ℕ) {f : Fields} → r ≡ rowIn list p → Known r f → fieldsShown r f ≡ occupationAt list p
 unfolding occupationAt
-known-at list p r e k = ap goodOne (k .shown) ∙ ap (λ (s : List ℕ). goodOne (occupationIn false s)) e
+known-at list p r e k = ap goodOne (k .shown) ∙ ap (λ (s : List ℕ). goodOne (occupationIn s)) e
 
-pub known-ok : (list : List ℕ) (p : ℕ) (r : List ℕ) {f : Fields} → r ≡ rowIn list p → Known r f → occupationIn false (rowIn list p) ≡ ok (occupationAt list p)
-known-ok list p r e k = ap (occupationIn false) (sym e) ∙ sym (k .shown) ∙ ap ok (known-at list p r e k)
+pub known-ok : (list : List ℕ) (p : ℕ) (r : List ℕ) {f : Fields} → r ≡ rowIn list p → Known r f → occupationIn (rowIn list p) ≡ ok (occupationAt list p)
+known-ok list p r e k = ap occupationIn (sym e) ∙ sym (k .shown) ∙ ap ok (known-at list p r e k)
 
-pub good-at : {list : List ℕ} {p : ℕ} (r : List ℕ) → r ≡ rowIn list p → Place list p → isGood (occupationIn false r) ≡ true
-good-at r e p = ap (λ (s : List ℕ). isGood (occupationIn false s)) e ∙ p .good
+pub good-at : {list : List ℕ} {p : ℕ} (r : List ℕ) → r ≡ rowIn list p → Place list p → isGood (occupationIn r) ≡ true
+good-at r e p = ap (λ (s : List ℕ). isGood (occupationIn s)) e ∙ p .good
 
 pub line-at : (list : List ℕ) (p : ℕ) (r : List ℕ) {f : Fields} → r ≡ rowIn list p → Known r f → lineLength f ≡ length (line (occupationAt list p))
 line-at list p r {f} e k = sym (line-length r f (k .bounds)) ∙ ap (λ (o : Occupation). length (line o)) (known-at list p r e k)
@@ -116,13 +116,13 @@ module _ {list order : List ℕ} {k at : ℕ} (a : Addable list order k at) {r :
 
 -- ---- as the functions hand it on
 
-pub known-fields : (r : List ℕ) {f : Fields} → (ok (fieldsShown r f) ≡ occupationIn false r) × FieldsIn (length r) f → Known r f
+pub known-fields : (r : List ℕ) {f : Fields} → (ok (fieldsShown r f) ≡ occupationIn r) × FieldsIn (length r) f → Known r f
 known-fields r (a, b) = record { shown = a; bounds = b }
 
-pub read-known : (r : List ℕ) (x : FieldsRead) {f : Fields} → x ≡ Good f → (readShown r x ≡ occupationIn false r) × ReadIn (length r) x → Known r f
+pub read-known : (r : List ℕ) (x : FieldsRead) {f : Fields} → x ≡ Good f → (readShown r x ≡ occupationIn r) × ReadIn (length r) x → Known r f
 read-known r x e (a, b) = record { shown = ap (readShown r) (sym e) ∙ a; bounds = subst (ReadIn (length r)) e b }
 
-pub read-refused : (r : List ℕ) (x : FieldsRead) {e : Refusal} → x ≡ Refused e → readShown r x ≡ occupationIn false r → occupationIn false r ≡ refused e
+pub read-refused : (r : List ℕ) (x : FieldsRead) {e : Refusal} → x ≡ Refused e → readShown r x ≡ occupationIn r → occupationIn r ≡ refused e
 read-refused r x e a = sym a ∙ ap (readShown r) e
 
 pub add-row : {list order : List ℕ} {k at : ℕ} → Addable list order k at → (row : List ℕ) {f : Fields} → row ≡ rowIn list at → Known row f → {r : ℕ} → FoundPlace list order k (fieldsShown row f) r

@@ -31,16 +31,16 @@ goodOne (ok o) = o
 goodOne (refused e) = record { platform = none; unit = none; arrival = none; departure = none }
 
 unfoldable pub occupationAt : List ℕ → ℕ → Occupation
-occupationAt list p = goodOne (occupationIn false (rowIn list p))
+occupationAt list p = goodOne (occupationIn (rowIn list p))
 
 -- a row that is whole and can be printed
 pub record Place (list : List ℕ) (p : ℕ) : Type 0 where
   pub inside : p + (2 + firstSize (drop p list)) ≤ length list
-  pub good : isGood (occupationIn false (rowIn list p)) ≡ true
+  pub good : isGood (occupationIn (rowIn list p)) ≡ true
 
 -- the fields f of a row r
 pub record Known (r : List ℕ) (f : Fields) : Type 0 where
-  pub shown : ok (fieldsShown r f) ≡ occupationIn false r
+  pub shown : ok (fieldsShown r f) ≡ occupationIn r
   pub bounds : FieldsIn (length r) f
 
 -- ---- the first k of some places, in order
@@ -71,7 +71,7 @@ pub record Addable (list order : List ℕ) (k at : ℕ) : Type 0 where
   pub small : length list ≤ 32768
 
 pub record AddedRow (list order : List ℕ) (k at n : ℕ) (order' : List ℕ) : Type 0 where
-  pub is-ok : occupationIn false (rowIn list at) ≡ ok (occupationAt list at)
+  pub is-ok : occupationIn (rowIn list at) ≡ ok (occupationAt list at)
   pub then-placed : Placed list order' (k + 1)
   pub in-place : occupationsAt list (take (k + 1) order')
       ≡ inserted precedes (occupationAt list at) (occupationsAt list (take k order))
@@ -80,7 +80,7 @@ pub record AddedRow (list order : List ℕ) (k at n : ℕ) (order' : List ℕ) :
 
 abbrev pub AddedAs : List ℕ → List ℕ → ℕ → ℕ → Added → List ℕ → Type 0
 AddedAs list order k at (Added.Line n) order' = AddedRow list order k at n order'
-AddedAs list order k at (Added.Refused e) order' = occupationIn false (rowIn list at) ≡ refused e
+AddedAs list order k at (Added.Refused e) order' = occupationIn (rowIn list at) ≡ refused e
 
 -- ---- all rows
 

@@ -1,6 +1,6 @@
 -- 02, request 2, the whole call and all that the program prints. FORMAT 10.5, 10.6.
 use Prim.Native.Nat.{ℕ}
-use mathlib.Core.Bool.{false, cond}
+use mathlib.Core.Bool.{cond}
 use mathlib.Core.List.{List, [], _∷_, _++_, map}
 use lib.Dec.{ltb}
 use Rattle.error.specs.declared.Refusal.{Refusal}
@@ -19,10 +19,11 @@ use Rattle.occupation_list.specs.Ordered.{ordered}
 abbrev pub rowCountLimit : ℕ
 rowCountLimit = 512
 
--- "then the reading refusals row by row; 17, after those of its row": the first row that is refused decides
+-- "then the reading refusals row by row; 17, after those of its row": the first row that is refused decides. Each row
+-- is of the sort that its own mark tells.
 abbrev pub occupationsIn : List (List ℕ) → Result (List Occupation)
 occupationsIn [] = ok []
-occupationsIn (r ∷ rs) = onResult (occupationIn false r) refused (λ o. before o (occupationsIn rs))
+occupationsIn (r ∷ rs) = onResult (occupationIn r) refused (λ o. before o (occupationsIn rs))
 
 -- "16 for a list that is cut or over its limits, tested first"
 abbrev pub occupationsOf : List ℕ → Result (List Occupation)

@@ -39,7 +39,7 @@ fn precedes_placed(row: &[u8], f: Fields, list: &[u8], at: usize) -> bool
     ensures { λ r. ⌜ r ≡ precedes (fieldsShown (now (row .entry)) f) (occupationAt (now (list .entry)) at) ⌝ }
 {
     let other = row_list::row_at(list, at);
-    occupation::precedes(row, f, other, occupation::fields_of(other, false))
+    occupation::precedes(row, f, other, occupation::fields_of(other))
 }
 
 // How many of the first k places a row does not come before: by halves.
@@ -88,7 +88,7 @@ fn add_row(list: &[u8], at: usize, order: &mut [u16], k: usize) -> Added
     ensures { λ r. ⌜ AddedAs (now (list .entry)) (now (order .entry)) k at r (now (order .exit)) ⌝ }
 {
     let row = row_list::row_at(list, at);
-    match occupation::read(row, false) {
+    match occupation::read(row) {
         FieldsRead::Refused(e) => Added::Refused(e),
         FieldsRead::Good(f) => {
             let p = place_for(list, order, k, row, f);
@@ -137,7 +137,7 @@ fn write_row(out: &mut [u8], end: usize, list: &[u8], at: usize) -> usize
         × (now (out .exit) ≡ sets (now (out .entry)) end (line (occupationAt (now (list .entry)) at))) ⌝ }
 {
     let row = row_list::row_at(list, at);
-    occupation::write_line(out, end, row, occupation::fields_of(row, false))
+    occupation::write_line(out, end, row, occupation::fields_of(row))
 }
 
 fn write_lines(out: &mut [u8], list: &[u8], order: &[u16], k: usize)

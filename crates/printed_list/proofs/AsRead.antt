@@ -15,6 +15,7 @@ use Rattle.error.specs.Refusal.{numberOf}
 use Rattle.error.specs.Result.{Result, ok, refused, onResult}
 use Rattle.error.specs.Answer.{Counted, unchangedBoth}
 use Rattle.row_format.specs.Places.{offsetWidth}
+use Rattle.row_format.specs.Header.{isLong}
 use Rattle.datatype.specs.Schema.{schemaOf}
 use Rattle.value_list.specs.Lists.{Values, listOf}
 use Rattle.stored_form.specs.Points.{pointsIn}
@@ -26,9 +27,10 @@ use Rattle.occupation.specs.Occupation.{Occupation, columns, occupationOf, hasU
 use Rattle.occupation.specs.InnerFields.{isGood}
 use Rattle.printed_list.specs.AsRead.{occupationSchema, allColumns, RefusedAsRead}
 
-columns-are : schemaOf false occupationSchema ≡ ok columns
+columns-are : (k : Bool) → schemaOf k occupationSchema ≡ ok columns
 unfolding schemaOf
-columns-are = refl
+columns-are false = refl
+columns-are true = refl
 
 -- ---- refusals told apart
 
@@ -53,7 +55,7 @@ no-room false n x y h = absurd (false≢true (ap (λ (c : Counted). isRefused (c
 
 -- ---- the values that a read gives, and its header
 
-module _ (r out counts : List ℕ) (e : Refusal) where
+module _ (k : Bool) (r out counts : List ℕ) (e : Refusal) where
   abbrev Same : Result Occupation → Counted → Type 0
   Same o c = (o ≡ refused e) ↔ (c ≡ unchangedBoth out counts e)
 
@@ -61,22 +63,22 @@ module _ (r out counts : List ℕ) (e : Refusal) where
     refused-alike : (q : Refusal) → Same (refused q) (unchangedBoth out counts q)
     refused-alike q = (λ h. ap (unchangedBoth out counts) (same-refusal h), λ h. ap refused (same-answer h))
 
-    by-values : (v : Values) → Same (onResult v refused (λ vs. printable (occupationOf r vs))) (handOut false out counts r v)
+    by-values : (v : Values) → Same (onResult v refused (λ vs. printable (occupationOf r vs))) (handOut k out counts r v)
     by-values (refused q) = refused-alike q
     by-values (ok vs) = (
       λ h. absurd (m (not-printable (hasUnprintable (occupationOf r vs .platform)) (hasUnprintable (occupationOf r vs .unit)) (occupationOf r vs) h)),
-      λ h. absurd (n (no-room (ltb (length out) (length (listOf false vs)) || ltb (length counts) (length (map (pointsIn r) vs))) (length (listOf false vs)) (out, counts) (sets out 0 (listOf false vs), sets counts 0 (map (pointsIn r) vs)) h)),
+      λ h. absurd (n (no-room (ltb (length out) (length (listOf k vs)) || ltb (length counts) (length (map (pointsIn r) vs))) (length (listOf k vs)) (out, counts) (sets out 0 (listOf k vs), sets counts 0 (map (pointsIn r) vs)) h)),
     )
 
-    by-frame : (f : Frame) → Same (onFrame f refused (λ p. onResult (readFrom (offsetWidth false) p columns (λ i. true) r 0 (length columns)) refused (λ vs. printable (occupationOf r vs))))
-        (onFrame f (unchangedBoth out counts) (λ p. handOut false out counts r (readFrom (offsetWidth false) p columns (λ i. true) r 0 (length columns))))
-    by-frame (Frame.Good p) = by-values (readFrom (offsetWidth false) p columns (λ i. true) r 0 (length columns))
+    by-frame : (f : Frame) → Same (onFrame f refused (λ p. onResult (readFrom (offsetWidth k) p columns (λ i. true) r 0 (length columns)) refused (λ vs. printable (occupationOf r vs))))
+        (onFrame f (unchangedBoth out counts) (λ p. handOut k out counts r (readFrom (offsetWidth k) p columns (λ i. true) r 0 (length columns))))
+    by-frame (Frame.Good p) = by-values (readFrom (offsetWidth k) p columns (λ i. true) r 0 (length columns))
     by-frame (Frame.Refused q) = refused-alike q
 
 -- all four columns are wanted, so the read is that of the definition
-read-is : (r out counts : List ℕ) → readCall false occupationSchema r allColumns out counts
-    ≡ onFrame (frameOf false columns r) (unchangedBoth out counts) (λ p. handOut false out counts r (readFrom (offsetWidth false) p columns (λ i. true) r 0 (length columns)))
-read-is r out counts = rw columns-are
+read-is : (r out counts : List ℕ) → readCall occupationSchema r allColumns out counts
+    ≡ onFrame (frameOf (isLong r) columns r) (unchangedBoth out counts) (λ p. handOut (isLong r) out counts r (readFrom (offsetWidth (isLong r)) p columns (λ i. true) r 0 (length columns)))
+read-is r out counts = rw (columns-are (isLong r))
 
 pub refused-as-read : RefusedAsRead
-refused-as-read r out counts e n m = rw (read-is r out counts) (by-frame r out counts e n m (frameOf false columns r))
+refused-as-read r out counts e n m = rw (read-is r out counts) (by-frame (isLong r) r out counts e n m (frameOf (isLong r) columns r))

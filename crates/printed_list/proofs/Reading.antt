@@ -35,10 +35,11 @@ use Rattle.row_column.specs.declared.ColumnRead.{ColumnRead}
 use Rattle.row_column.specs.declared.ColumnRead.the-variants.{Value, Refused}
 use Rattle.row_column.specs.declared.Frame.{Frame}
 use Rattle.row_column.specs.declared.Frame.the-variants as Header
-use Rattle.row_column.specs.Frame.{columnCount, varlenField, isPacked, frameWith, onFrame}
+use Rattle.row_format.specs.Header.{columnCount, varlenField, isPacked, isLong}
+use Rattle.row_column.specs.Frame.{frameWith, onFrame}
 use Rattle.row_column.specs.Column.{slotValue, readBytes, varlenValue, columnWith}
 use Rattle.row_decode.specs.Read.{onColumn, readFrom}
-use Rattle.occupation.specs.Occupation.{Occupation, columns, textIn, momentIn, occupationOf, hasUnprintable, printable, occupationIn}
+use Rattle.occupation.specs.Occupation.{Occupation, columns, textIn, momentIn, occupationOf, hasUnprintable, printable, occupationAs}
 use Rattle.occupation.specs.InnerFields.{isGood}
 use Rattle.occupation_list.specs.Print.{rowCountLimit, occupationsIn, occupationsOf}
 use Rattle.printed_list.specs.Sorted.{Every}
@@ -152,7 +153,7 @@ module _ {B : Type 0} (S : B → Type 0) (k : Bool → Result B) (f : (p : Bool)
       (λ t. bad R.varchars))
       (λ t. bad R.columns)))
 
-pub occupation-in : (k : Bool) (r : List ℕ) → length r ≤ rowLimit k → Gives Printable OfList (occupationIn k r)
+pub occupation-in : (k : Bool) (r : List ℕ) → length r ≤ rowLimit k → Gives Printable OfList (occupationAs k r)
 occupation-in k r h =
     on-frame Printable _
     (λ p. on-result (λ vs. printable (occupationOf r vs)) (read-sized k p r) (λ vs s. printed (occupationOf r vs) s))
@@ -160,8 +161,9 @@ occupation-in k r h =
 
 pub good-printable : ReadPrintable
 good-printable r o e =
-    cases (rowLimit false) (length r) (λ l. absurd (false≢true (ap isGood (rw (lt-ltb (rowLimit false) (length r) l) at e))))
-    (λ l. of-good (occupation-in false r l) e)
+    let k : Bool = isLong r in
+    cases (rowLimit k) (length r) (λ l. absurd (false≢true (ap isGood (rw (lt-ltb (rowLimit k) (length r) l) at e))))
+    (λ l. of-good (occupation-in k r l) e)
 
 -- ---- row by row
 
@@ -169,10 +171,15 @@ pub record Good (n : ℕ) (os : List Occupation) : Type 0 where
   pub count : length os ≤ n
   pub all : Every Printable os
 
+-- a row of either sort may have as many bytes as a short one
+in-limit : (k : Bool) {n : ℕ} → n ≤ rowLimit false → n ≤ rowLimit k
+in-limit false h = h
+in-limit true h = omega arith
+
 rows-read : (rs : List (List ℕ)) → Every (λ r. length r ≤ rowLimit false) rs → Gives (Good (length rs)) OfList (occupationsIn rs)
 rows-read [] e = good {x = []} (record { count = omega arith; all = tt })
 rows-read (r ∷ rs) e =
-    on-result (λ o. before o (occupationsIn rs)) (occupation-in false r (e .0))
+    on-result (λ o. before o (occupationsIn rs)) (occupation-in (isLong r) r (in-limit (isLong r) (e .0)))
     (λ o p. before-good o (rows-read rs (e .1)) (λ os g. record { count = omega (arith, g .count); all = (p, g .all) }))
 
 pub list-read : (list : List ℕ) → Gives (Good rowCountLimit) OfList (occupationsOf list)

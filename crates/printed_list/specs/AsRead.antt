@@ -8,7 +8,6 @@ use Rattle.error.specs.declared.Refusal.{Refusal}
 use Rattle.error.specs.Refusal.{numberOf}
 use Rattle.error.specs.Result.{refused}
 use Rattle.error.specs.Answer.{unchangedBoth}
-use mathlib.Core.Bool.{false}
 use Rattle.row_decode.specs.Read.{readCall}
 use Rattle.occupation.specs.Occupation.{occupationIn}
 
@@ -22,5 +21,5 @@ allColumns = 0 ∷ 1 ∷ 2 ∷ 3 ∷ []
 abbrev pub RefusedAsRead : Type 0
 RefusedAsRead =
     (r out counts : List ℕ) (e : Refusal) → (numberOf e ≡ 14 → ⊥) → (numberOf e ≡ 17 → ⊥)
-    → (occupationIn false r ≡ refused e)
-    ↔ (readCall false occupationSchema r allColumns out counts ≡ unchangedBoth out counts e)
+    → (occupationIn r ≡ refused e)
+    ↔ (readCall occupationSchema r allColumns out counts ≡ unchangedBoth out counts e)

@@ -61,6 +61,12 @@ late platform = row 0x1A 0x02 0x19 0x00 zeros (replicate 8 0x7F) platform
 abbrev pub paddedRow : List ℕ
 paddedRow = take 5 t41 ++ (0x00 ∷ drop 6 t41)
 
+-- 02, request 5: the same row long by its marks, packed or padded; without the mark of its sort it is another row
+abbrev pub longRow : ℕ → List ℕ
+longRow marks =
+    0x21 ∷ 0x00 ∷ 0x04 ∷ 0x00 ∷ 0x02 ∷ marks ∷ 0x08 ∷ 0x1D ∷ 0x00 ∷ 0x00 ∷ 0x00 ∷ 0x1E ∷ 0x00 ∷ 0x00 ∷ 0x00
+    ∷ (replicate 16 0x00 ++ (0x33 ∷ 0x54 ∷ 0x34 ∷ 0x31 ∷ []))
+
 abbrev pub line-t41 : List ℕ
 line-t41 = ascii "\"3\"|\"T41\"|1970-01-01 00:00:00|-\n"
 
@@ -79,6 +85,9 @@ table =
           );
     }
     ∷ record { input = paddedRow; output = line-t41 }
+    ∷ record { input = longRow 0xC0; output = line-t41 }
+    ∷ record { input = longRow 0x40 ++ t41; output = line-t41 ++ line-t41 }
+    ∷ record { input = longRow 0x80; output = ascii "\"3T41\"|-|1970-01-01 00:00:00|-\n" }
     ∷ record { input = take (length four - 1) four; output = ascii "16 0\n" }
     ∷ record { input = t41 ++ (0x03 ∷ 0x00 ∷ 0x04 ∷ 0x00 ∷ 0x02 ∷ []); output = ascii "3 0\n" }
     ∷ record { input = t41 ++ quote; output = ascii "17 1\n" }

@@ -33,4 +33,4 @@ pub record Printable (o : Occupation) : Type 0 where
   pub unit-clean : hasUnprintable (o .unit) ≡ false
 
 abbrev pub ReadPrintable : Type 0
-ReadPrintable = (r : List ℕ) (o : Occupation) → occupationIn false r ≡ ok o → Printable o
+ReadPrintable = (r : List ℕ) (o : Occupation) → occupationIn r ≡ ok o → Printable o

@@ -4,15 +4,15 @@ use mathlib.Core.Path.{_≡_, refl, sym, ap, _∙_, subst}
 use mathlib.Core.Bool.{Bool, true, false, cond, false≢true}
 use mathlib.Core.List.{List, []}
 use native.Mathlib.Omega.{arith}
-use borrow.Author.Tests.{eqb-true, eqb-false, eq-eqb, ne-eqb, lt-ltb, leb-true, le-leb}
+use borrow.Author.Tests.{eqb-true, eqb-false, eq-eqb, ne-eqb, leb-true, le-leb}
 use lib.Dec.{eqb, leb}
 use lib.ListN.{length, getD}
 use mir.Syntax.{Width}
 use mir.Val.{Fits, toZ, ofZ}
 use mir.ValLaws.{ofZ-toZ}
-use Rattle.error.specs.declared.Refusal.the-variants.{BadValueList, WrongKind, Unsuitable}
+use Rattle.error.specs.declared.Refusal.the-variants.{WrongKind, Unsuitable}
 use Rattle.error.specs.declared.Answer.the-variants as Answer
-use Rattle.laws.proofs.Truths.{both, cases}
+use Rattle.laws.proofs.Truths.{both}
 use Rattle.text_limit.specs.Limit.{sizeBy, fitsText}
 use Rattle.text_limit.proofs.Limits.{fits-size, fits-valid}
 use Rattle.bit_utils.specs.Bits.{bytesFor}
@@ -26,16 +26,18 @@ use Rattle.datatype.specs.InnerSteps.{typeIn}
 use Rattle.datatype.proofs.Records.{few-digits, points-told}
 use Rattle.value.specs.declared.TextRange.{TextRange}
 use Rattle.value.specs.declared.DataValue.{DataValue}
-use Rattle.value.specs.Kinds.{kindOf, valueKind, matches}
+use Rattle.value.specs.Kinds.{kindOf, valueKind, matches, plainKind, isLongKind}
 use Rattle.value.specs.Ranges.{noText, inArea, part, rangeOf, textOf}
 use Rattle.value.specs.InnerKinds.{heldKind}
-use Rattle.value_list.specs.Records.{bodyLength, numericAt, rangeAt, valueAt, recordAt as valueRecordAt}
+use Rattle.value_list.specs.Records.{bodyLength, numericAt, rangeAt, rangeWidth, valueAt, recordAt as valueRecordAt}
+use Rattle.value_list.specs.InnerSizes.{bodyIn}
+use Rattle.value_list.proofs.LongKinds.{plain-known}
 use Rattle.stored_form.specs.Write.{accepted, storedForm}
 use Rattle.stored_form.proofs.Lengths.{fits-below}
 use Rattle.record_slot.specs.Stored.{isNull}
 use Rattle.record_slot.specs.InnerSteps.{HasType, Readable, valueIn, declaredAt, textSuits, bitsSuit, suitsAt, Testable, payloadLength, payloadIn, formIn, slotSize, bodyStored, slotStored, SlotReady, NumberReady, TextThere, Suited}
 use Rattle.record_slot.proofs.Tests.{payload-short, cell-wrong, cell-unsuited, size-refused, size-null, size-fixed, size-varchar}
-use Rattle.record_slot.proofs.Held.{read-at, value-body, body-within, Declared, told}
+use Rattle.record_slot.proofs.Held.{null-plain, read-at, value-body, body-within, kind-known, Declared, told}
 
 -- ---- numbers by their bits, and texts that suit
 
@@ -98,12 +100,12 @@ no-null T.Time e = omega (arith, e)
 no-null (T.Bit m) e = omega (arith, e)
 no-null T.Timestamp e = omega (arith, e)
 
-module _ (list : List ℕ) (at : ℕ) where
+module _ (w : ℕ) (list : List ℕ) (at : ℕ) where
   back : (k : ℕ) (t : Bool) (x y : DataValue) → (t ≡ true → kindOf x ≡ k) → ((kindOf y ≡ 0 → ⊥) → kindOf y ≡ k) → (kindOf (cond t x y) ≡ 0 → ⊥) → kindOf (cond t x y) ≡ k
   back k true x y f g n = f refl
   back k false x y f g n = g n
 
-  kind-back : (k : ℕ) → (kindOf (valueAt k list at) ≡ 0 → ⊥) → kindOf (valueAt k list at) ≡ k
+  kind-back : (k : ℕ) → (kindOf (valueAt w k list at) ≡ 0 → ⊥) → kindOf (valueAt w k list at) ≡ k
   kind-back k =
       back k (eqb k 1) _ _ (λ e. sym (eqb-true k 1 e))
       (back k (eqb k 2) _ _ (λ e. sym (eqb-true k 2 e))
@@ -127,7 +129,7 @@ module _ (list : List ℕ) (at : ℕ) where
       by-test false e = let n = eqb-false k j e in g (omega (arith, h, n))
 
   -- a kind other than 0 has values
-  some-value : (k : ℕ) → 1 ≤ k → k ≤ 13 → isNull (valueAt k list at) ≡ false
+  some-value : (k : ℕ) → 1 ≤ k → k ≤ 13 → isNull (valueAt w k list at) ≡ false
   some-value k h₁ l =
       past k 1 _ _ refl h₁ (λ h2.
       (past k 2 _ _ refl (omega (arith, h2)) (λ h3.
@@ -145,28 +147,28 @@ module _ (list : List ℕ) (at : ℕ) where
       absurd (omega (arith, h14, l)))))))))))))))))))))))))))
 
   -- the kind of a value that is no null
-  kind-of : (k : ℕ) → 1 ≤ k → k ≤ 13 → kindOf (valueAt k list at) ≡ k
-  kind-of k h l = kind-back k (eqb-false (kindOf (valueAt k list at)) 0 (some-value k h l))
+  kind-of : (k : ℕ) → 1 ≤ k → k ≤ 13 → kindOf (valueAt w k list at) ≡ k
+  kind-of k h l = kind-back k (eqb-false (kindOf (valueAt w k list at)) 0 (some-value k h l))
 
   -- a value that matches a type has its kind
-  matched-kind : (t : DataType) (k : ℕ) → matches t (valueAt k list at) ≡ true → k ≡ valueKind t
+  matched-kind : (t : DataType) (k : ℕ) → matches t (valueAt w k list at) ≡ true → k ≡ valueKind t
   matched-kind t k m =
-      let e : kindOf (valueAt k list at) ≡ valueKind t = eqb-true (kindOf (valueAt k list at)) (valueKind t) m in
+      let e : kindOf (valueAt w k list at) ≡ valueKind t = eqb-true (kindOf (valueAt w k list at)) (valueKind t) m in
       sym (kind-back k (λ z. no-null t (sym e ∙ z))) ∙ e
 
 -- ---- a value of the kind that a type holds, by the bytes of its body
 
-module _ (list : List ℕ) (at : ℕ) where
+module _ (w : ℕ) (list : List ℕ) (at : ℕ) where
   abbrev body : DataType → DataValue
-  body t = valueAt (valueKind t) list at
+  body t = valueAt w (valueKind t) list at
 
   record Body (t : DataType) (n : ℕ) : Type 0 where
     match : matches t (body t) ≡ true
     value : isNull (body t) ≡ false
-    payload : payloadLength (valueKind t) list at ≡ cond (isVarlen t) (rangeOf (body t) .length) 0
+    payload : payloadLength w (valueKind t) list at ≡ cond (isVarlen t) (rangeOf (body t) .length) 0
     size : slotSize (valueKind t) n ≡ sizeOf t
-    suited : (area : List ℕ) → suitsAt (countsPoints t) (valueKind t) n list at area ≡ accepted t (body t) area
-    form : isVarlen t ≡ false → (area : List ℕ) → slotStored (valueKind t) n list at area ≡ storedForm t (body t) (textOf area (body t))
+    suited : (area : List ℕ) → suitsAt (countsPoints t) w (valueKind t) n list at area ≡ accepted t (body t) area
+    form : isVarlen t ≡ false → (area : List ℕ) → slotStored w (valueKind t) n list at area ≡ storedForm t (body t) (textOf area (body t))
 
   -- no range lies in every area
   in-any : (area : List ℕ) (b : Bool) → b ≡ cond (inArea (length area) noText) b false
@@ -191,8 +193,8 @@ module _ (list : List ℕ) (at : ℕ) where
 
 -- kinds whose stored form is the body
 module _ (k n : ℕ) where
-  plain-stored : (list : List ℕ) (at : ℕ) (area : List ℕ) → (k ≡ 6 → ⊥) → (k ≡ 8 → ⊥) → (k ≡ 12 → ⊥) → bodyStored k list at ≡ slotStored k n list at area
-  plain-stored list at area a b c = rw (ne-eqb k 6 a, ne-eqb k 8 b, ne-eqb k 12 c)
+  plain-stored : (w : ℕ) (list : List ℕ) (at : ℕ) (area : List ℕ) → (k ≡ 6 → ⊥) → (k ≡ 8 → ⊥) → (k ≡ 12 → ⊥) → bodyStored k list at ≡ slotStored w k n list at area
+  plain-stored w list at area a b c = rw (ne-eqb k 6 a, ne-eqb k 8 b, ne-eqb k 12 c)
 
   -- no kind at all
   pub none-stored : (list : List ℕ) (at : ℕ) → (k ≡ 1 → ⊥) → (k ≡ 2 → ⊥) → (k ≡ 3 → ⊥) → (k ≡ 4 → ⊥) → (k ≡ 5 → ⊥) → (k ≡ 7 → ⊥) → (k ≡ 10 → ⊥) → (k ≡ 11 → ⊥) → (k ≡ 13 → ⊥) → [] ≡ bodyStored k list at
@@ -225,7 +227,7 @@ pub slot-bytes : {s : List ℕ} {at : ℕ} → HasType s at → {k n : ℕ} → 
 slot-bytes {s} {at} h {k} {n} f g = rw (f, g) (by-record (columnRecordAt s at) refl)
   where
     by-record : (q : Record) → columnRecordAt s at ≡ q → slotSize (heldKind (columnKind (getD s at 0))) (declaredAt s at) ≡ sizeOf (typeIn q)
-    by-record (Column t next) e = rw (told s at e .0) (body-of [] 0 t (declaredAt s at) (told s at e .1) .size)
+    by-record (Column t next) e = rw (told s at e .0) (body-of 0 [] 0 t (declaredAt s at) (told s at e .1) .size)
     by-record (Refused u) e = absurd (h .type-there e)
 
 -- ---- the column's value at a place
@@ -237,8 +239,15 @@ module _ {s : List ℕ} {at : ℕ} {list : List ℕ} {from : ℕ} (r : Readable 
   abbrev v : DataValue
   v = valueIn (valueRecordAt list from)
 
+  abbrev given : ℕ
+  given = getD list from 0
+
+  -- the kind of the value, and whether its range has numbers of four bytes
   abbrev k : ℕ
-  k = getD list from 0
+  k = plainKind given
+
+  abbrev w : ℕ
+  w = rangeWidth given
 
   abbrev n : ℕ
   n = declaredAt s at
@@ -247,23 +256,30 @@ module _ {s : List ℕ} {at : ℕ} {list : List ℕ} {from : ℕ} (r : Readable 
   q = countsPoints t
 
   known : k ≤ 13
-  known = cases 13 k (λ l. absurd (r .value-there {e = BadValueList from} (rw (lt-ltb 13 k l)))) (λ g. g)
+  known = plain-known given (kind-known r)
 
-  by-type : Body list (from + 1) t n
-  by-type = body-of list (from + 1) t n (told s at (read-at r .type-is) .1)
+  by-type : Body w list (from + 1) t n
+  by-type = body-of w list (from + 1) t n (told s at (read-at r .type-is) .1)
 
   -- its bytes in the offset table, by its kind
   pub entry-bytes : (w : ℕ) {j z : ℕ} → j ≡ heldKind (columnKind (getD s at 0)) → z ≡ cond (eqb j 9) w 0 → z ≡ cond (isVarlen t) w 0
   entry-bytes w e f = f ∙ ap (λ (m : ℕ). cond (eqb m 9) w 0) (e ∙ told s at (read-at r .type-is) .0) ∙ ap (λ (b : Bool). cond b w 0) (sym (varlen-kind t))
 
-  pub within-at : (j : ℕ) → k ≡ j → from + 1 + bodyLength j ≤ length list
-  within-at j e = subst (λ (m : ℕ). from + 1 + bodyLength m ≤ length list) e (body-within r)
+  pub within-at : (j : ℕ) → k ≡ j → from + 1 + bodyIn (isLongKind given) j ≤ length list
+  within-at j e = subst (λ (m : ℕ). from + 1 + bodyIn (isLongKind given) m ≤ length list) e (body-within r)
 
   pub is-null : k ≡ 0 → isNull v ≡ true
   is-null e = rw (value-body r, e) refl
 
   pub is-value : (k ≡ 0 → ⊥) → isNull v ≡ false
-  is-value z = rw (value-body r) (some-value list (from + 1) k (omega (arith, z)) known)
+  is-value z = rw (value-body r) (some-value w list (from + 1) k (omega (arith, z)) known)
+
+  -- by the kind of the record
+  pub given-null : given ≡ 0 → isNull v ≡ true
+  given-null e = is-null (ap plainKind e)
+
+  pub given-value : (given ≡ 0 → ⊥) → isNull v ≡ false
+  given-value z = is-value (λ e. z (null-plain given e))
 
   -- ---- what it adds to the row
 
@@ -273,27 +289,27 @@ module _ {s : List ℕ} {at : ℕ} {list : List ℕ} {from : ℕ} (r : Readable 
 
     module _ (z : k ≡ 0 → ⊥) where
       pub wrong-kind : (k ≡ heldKind (columnKind (getD s at 0)) → ⊥) → Answer.Refused (WrongKind i) ≡ payloadIn i s at list from area
-      wrong-kind w =
-          let e : matches t v ≡ false = rw (value-body r, kind-of list (from + 1) k (omega (arith, z)) known) (ne-eqb k (valueKind t) (λ f. w (f ∙ sym (told s at (read-at r .type-is) .0)))) in
+      wrong-kind y =
+          let e : matches t v ≡ false = rw (value-body r, kind-of w list (from + 1) k (omega (arith, z)) known) (ne-eqb k (valueKind t) (λ f. y (f ∙ sym (told s at (read-at r .type-is) .0)))) in
           size-refused i t v area (cell-wrong i t v area (is-value z) e)
 
       module _ (h : k ≡ heldKind (columnKind (getD s at 0))) where
         held : k ≡ valueKind t
         held = h ∙ told s at (read-at r .type-is) .0
 
-        held-value : v ≡ valueAt (valueKind t) list (from + 1)
-        held-value = value-body r ∙ ap (λ (m : ℕ). valueAt m list (from + 1)) held
+        held-value : v ≡ valueAt w (valueKind t) list (from + 1)
+        held-value = value-body r ∙ ap (λ (m : ℕ). valueAt w m list (from + 1)) held
 
         held-matches : matches t v ≡ true
         held-matches = rw held-value (by-type .match)
 
-        held-suits : suitsAt q k n list (from + 1) area ≡ accepted t v area
-        held-suits = ap (λ (m : ℕ). suitsAt q m n list (from + 1) area) held ∙ by-type .suited area ∙ ap (λ (u : DataValue). accepted t u area) (sym held-value)
+        held-suits : suitsAt q w k n list (from + 1) area ≡ accepted t v area
+        held-suits = ap (λ (m : ℕ). suitsAt q w m n list (from + 1) area) held ∙ by-type .suited area ∙ ap (λ (u : DataValue). accepted t u area) (sym held-value)
 
-        held-size : payloadLength k list (from + 1) ≡ cond (isVarlen t) (rangeOf v .length) 0
-        held-size = ap (λ (m : ℕ). payloadLength m list (from + 1)) held ∙ by-type .payload ∙ ap (λ (u : DataValue). cond (isVarlen t) (rangeOf u .length) 0) (sym held-value)
+        held-size : payloadLength w k list (from + 1) ≡ cond (isVarlen t) (rangeOf v .length) 0
+        held-size = ap (λ (m : ℕ). payloadLength w m list (from + 1)) held ∙ by-type .payload ∙ ap (λ (u : DataValue). cond (isVarlen t) (rangeOf u .length) 0) (sym held-value)
 
-        of-declared : n ≤ 65535 → Testable k n list (from + 1)
+        of-declared : n ≤ 65535 → Testable (isLongKind given) k n list (from + 1)
         of-declared w =
             record {
               inside = body-within r;
@@ -301,33 +317,33 @@ module _ {s : List ℕ} {at : ℕ} {list : List ℕ} {from : ℕ} (r : Readable 
               digits = λ e. rw (digits-declared t n (told s at (read-at r .type-is) .1) (sym held ∙ e)) (few-digits s at (read-at r .type-is));
             }
 
-        pub testable : {m : ℕ} → m ≡ n → m ≤ 65535 → Testable k m list (from + 1)
-        testable {m} d w = subst (λ (j : ℕ). Testable k j list (from + 1)) (sym d) (of-declared (rw d at w))
+        pub testable : {m : ℕ} → m ≡ n → m ≤ 65535 → Testable (isLongKind given) k m list (from + 1)
+        testable {m} d w = subst (λ (j : ℕ). Testable (isLongKind given) k j list (from + 1)) (sym d) (of-declared (rw d at w))
 
         -- what the test told
         points-held : eqb (getD s at 0) 16 ≡ q
         points-held = points-told s at (read-at r .type-is)
 
-        told-suits : {m : ℕ} {b c : Bool} → m ≡ n → b ≡ suitsAt (eqb (getD s at 0) 16) k m list (from + 1) area → b ≡ c → accepted t v area ≡ c
+        told-suits : {m : ℕ} {b c : Bool} → m ≡ n → b ≡ suitsAt (eqb (getD s at 0) 16) w k m list (from + 1) area → b ≡ c → accepted t v area ≡ c
         told-suits {m} d f e =
-            sym held-suits ∙ ap (λ (j : ℕ). suitsAt q k j list (from + 1) area) (sym d)
-            ∙ ap (λ (b : Bool). suitsAt b k m list (from + 1) area) (sym points-held) ∙ sym f ∙ e
+            sym held-suits ∙ ap (λ (j : ℕ). suitsAt q w k j list (from + 1) area) (sym d)
+            ∙ ap (λ (b : Bool). suitsAt b w k m list (from + 1) area) (sym points-held) ∙ sym f ∙ e
 
-        pub unsuitable : {m : ℕ} {b : Bool} → m ≡ n → b ≡ suitsAt (eqb (getD s at 0) 16) k m list (from + 1) area → b ≡ false → Answer.Refused (Unsuitable i) ≡ payloadIn i s at list from area
+        pub unsuitable : {m : ℕ} {b : Bool} → m ≡ n → b ≡ suitsAt (eqb (getD s at 0) 16) w k m list (from + 1) area → b ≡ false → Answer.Refused (Unsuitable i) ≡ payloadIn i s at list from area
         unsuitable d f e = size-refused i t v area (cell-unsuited i t v area (is-value z) held-matches (told-suits d f e))
 
-        module _ {m : ℕ} {b : Bool} (d : m ≡ n) (f : b ≡ suitsAt (eqb (getD s at 0) 16) k m list (from + 1) area) (e : b ≡ true) where
+        module _ {m : ℕ} {b : Bool} (d : m ≡ n) (f : b ≡ suitsAt (eqb (getD s at 0) 16) w k m list (from + 1) area) (e : b ≡ true) where
           suited : accepted t v area ≡ true
           suited = told-suits d f e
 
-          pub found-payload : Answer.Done (payloadLength k list (from + 1)) ≡ payloadIn i s at list from area
+          pub found-payload : Answer.Done (payloadLength w k list (from + 1)) ≡ payloadIn i s at list from area
           found-payload = rw held-size (by-shape (isVarlen t) refl)
             where
               by-shape : (o : Bool) → isVarlen t ≡ o → Answer.Done (cond o (rangeOf v .length) 0) ≡ payloadIn i s at list from area
               by-shape true g = size-varchar i t v area (is-value z) held-matches suited g
               by-shape false g = size-fixed i t v area (is-value z) held-matches suited g
 
-          pub found-short : length area ≤ 1048576 → payloadLength k list (from + 1) ≤ 1048576
+          pub found-short : length area ≤ 1048576 → payloadLength w k list (from + 1) ≤ 1048576
           found-short l = rw held-size (by-shape (isVarlen t))
             where
               by-shape : (o : Bool) → cond o (rangeOf v .length) 0 ≤ 1048576
@@ -338,10 +354,14 @@ module _ {s : List ℕ} {at : ℕ} {list : List ℕ} {from : ℕ} (r : Readable 
 
   module _ (m : matches t v ≡ true) where
     pub kind-is : k ≡ valueKind t
-    kind-is = matched-kind list (from + 1) t k (rw (value-body r) at m)
+    kind-is = matched-kind w list (from + 1) t k (rw (value-body r) at m)
 
-    value-is : v ≡ valueAt (valueKind t) list (from + 1)
-    value-is = value-body r ∙ ap (λ (j : ℕ). valueAt j list (from + 1)) kind-is
+    -- the column's kind tells it too
+    pub held-found : {j : ℕ} → j ≡ heldKind (columnKind (getD s at 0)) → j ≡ k
+    held-found e = e ∙ told s at (read-at r .type-is) .0 ∙ sym kind-is
+
+    value-is : v ≡ valueAt w (valueKind t) list (from + 1)
+    value-is = value-body r ∙ ap (λ (j : ℕ). valueAt w j list (from + 1)) kind-is
 
     pub is-varlen : k ≡ 9 → isVarlen t ≡ true
     is-varlen e = varlen-kind t ∙ eq-eqb (valueKind t) 9 (sym kind-is ∙ e)
@@ -349,30 +369,30 @@ module _ {s : List ℕ} {at : ℕ} {list : List ℕ} {from : ℕ} (r : Readable 
     pub is-fixed : (k ≡ 9 → ⊥) → isVarlen t ≡ false
     is-fixed z = varlen-kind t ∙ ne-eqb (valueKind t) 9 (λ e. z (kind-is ∙ e))
 
-    pub range-is : k ≡ 9 → rangeOf v ≡ rangeAt list (from + 1)
+    pub range-is : k ≡ 9 → rangeOf v ≡ rangeAt w list (from + 1)
     range-is e = rw (value-body r, e) refl
 
-    pub varchar-form : k ≡ 9 → (area : List ℕ) → part area (rangeAt list (from + 1)) ≡ formIn s at list from area
+    pub varchar-form : k ≡ 9 → (area : List ℕ) → part area (rangeAt w list (from + 1)) ≡ formIn s at list from area
     varchar-form e area = rw (value-body r, e) refl
 
   module _ {area : List ℕ} (u : Suited t v area) where
-    kind-suits : suitsAt q k n list (from + 1) area ≡ true
+    kind-suits : suitsAt q w k n list (from + 1) area ≡ true
     kind-suits =
-        ap (λ (j : ℕ). suitsAt q j n list (from + 1) area) (kind-is (u .match)) ∙ by-type .suited area
+        ap (λ (j : ℕ). suitsAt q w j n list (from + 1) area) (kind-is (u .match)) ∙ by-type .suited area
         ∙ ap (λ (w : DataValue). accepted t w area) (sym (value-is (u .match))) ∙ u .suited
 
     -- by the kind that was found
-    pub suits-as : (j : ℕ) → k ≡ j → suitsAt q j n list (from + 1) area ≡ true
-    suits-as j e = ap (λ (m : ℕ). suitsAt q m n list (from + 1) area) (sym e) ∙ kind-suits
+    pub suits-as : (j : ℕ) → k ≡ j → suitsAt q w j n list (from + 1) area ≡ true
+    suits-as j e = ap (λ (m : ℕ). suitsAt q w m n list (from + 1) area) (sym e) ∙ kind-suits
 
   module _ (m : matches t v ≡ true) (f : isVarlen t ≡ false) (area : List ℕ) where
-    fixed-form : slotStored k n list (from + 1) area ≡ formIn s at list from area
+    fixed-form : slotStored w k n list (from + 1) area ≡ formIn s at list from area
     fixed-form =
-        ap (λ (j : ℕ). slotStored j n list (from + 1) area) (kind-is m) ∙ by-type .form f area
+        ap (λ (j : ℕ). slotStored w j n list (from + 1) area) (kind-is m) ∙ by-type .form f area
         ∙ ap (λ (u : DataValue). storedForm t u (textOf area u)) (sym (value-is m))
 
-    pub form-as : (j : ℕ) → k ≡ j → slotStored j n list (from + 1) area ≡ formIn s at list from area
-    form-as j e = ap (λ (m : ℕ). slotStored m n list (from + 1) area) (sym e) ∙ fixed-form
+    pub form-as : (j : ℕ) → k ≡ j → slotStored w j n list (from + 1) area ≡ formIn s at list from area
+    form-as j e = ap (λ (m : ℕ). slotStored w m n list (from + 1) area) (sym e) ∙ fixed-form
 
   module _ {area : List ℕ} {slot room : ℕ} (p : SlotReady t v area slot room) where
     slot-suited : Suited t v area
@@ -383,10 +403,10 @@ module _ {s : List ℕ} {at : ℕ} {list : List ℕ} {from : ℕ} (r : Readable 
 
     -- the same by the kind that was found
     module _ (j : ℕ) (e : k ≡ j) where
-      pub form-at : slotStored j n list (from + 1) area ≡ formIn s at list from area
+      pub form-at : slotStored w j n list (from + 1) area ≡ formIn s at list from area
       form-at = form-as (p .match) (p .fixed) area j e
 
-      pub suits-at : suitsAt q j n list (from + 1) area ≡ true
+      pub suits-at : suitsAt q w j n list (from + 1) area ≡ true
       suits-at = suits-as slot-suited j e
 
       pub room-at : slot + slotSize j n ≤ room
@@ -401,4 +421,4 @@ module _ {s : List ℕ} {at : ℕ} {list : List ℕ} {from : ℕ} (r : Readable 
         }
 
     pub body-stored : (k ≡ 6 → ⊥) → (k ≡ 8 → ⊥) → (k ≡ 12 → ⊥) → bodyStored k list (from + 1) ≡ formIn s at list from area
-    body-stored a b c = plain-stored k n list (from + 1) area a b c ∙ fixed-form (p .match) (p .fixed) area
+    body-stored a b c = plain-stored k n w list (from + 1) area a b c ∙ fixed-form (p .match) (p .fixed) area

@@ -4,7 +4,7 @@ use mathlib.Core.Path.{_≡_, refl, sym, ap, _∙_}
 use mathlib.Core.Bool.{Bool, true, false, cond, _&&_}
 use mathlib.Core.List.{List}
 use native.Mathlib.Omega.{arith}
-use borrow.Author.Tests.{eqb-true, eqb-false, le-leb, lt-leb, leb-true, ltb-false, lt-ltb, le-ltb}
+use borrow.Author.Tests.{eqb-true, eqb-false, ne-eqb, le-leb, lt-leb, leb-true, ltb-false, lt-ltb, le-ltb}
 use lib.Dec.{eqb, leb, ltb}
 use lib.ListN.{length, getD, take, drop}
 use Rattle.error.specs.declared.Refusal.the-variants.{BadRecord, BadSchema, BadValueList}
@@ -21,16 +21,27 @@ use Rattle.datatype.specs.InnerSteps.{plainSize, typeIn}
 use Rattle.datatype.proofs.KindTable.{Bodied, no, word, pair, bodied}
 use Rattle.datatype.proofs.Plain.{plain-record}
 use Rattle.value.specs.declared.TextRange.{TextRange}
-use Rattle.value.specs.Kinds.{valueKind}
+use Rattle.value.specs.Kinds.{valueKind, plainKind, isLongKind, isValueKind}
 use Rattle.value.specs.InnerKinds.{heldKind}
 use Rattle.value_list.specs.declared.ValueRecord.{ValueRecord}
 use Rattle.value_list.specs.declared.ValueRecord.the-variants as Value
-use Rattle.value_list.specs.Records.{bodyLength, numberAt, valueAt, recordAt as valueRecordAt}
-use Rattle.value_list.specs.InnerSizes.{sizeAt}
+use Rattle.value_list.specs.Records.{bodyLength, numberAt, recordAt as valueRecordAt}
+use Rattle.value_list.specs.InnerSizes.{bodyIn, sizeAt}
 use Rattle.value_list.proofs.Records.{Given, given}
-use Rattle.value_list.proofs.Sizes.{Whole, size-none, size-some}
+use Rattle.value_list.proofs.Sizes.{bodyValue, Whole, size-none, size-some}
+use Rattle.value_list.proofs.LongKinds.{kind-cases, body-in}
 use Rattle.record_slot.specs.InnerSteps.{lengthAt, HasType, Readable, ReadAt, valueIn, afterColumn, givenAt, declaredAt, textSuits, bitsSuit}
 use Rattle.record_slot.proofs.Tests.{length-part}
+
+-- ---- a kind of record beside the kind of its values
+
+pub short-plain : (k : ℕ) → k < 17 → plainKind k ≡ k
+short-plain k h = rw (ne-eqb k 17 (λ e. omega arith), ne-eqb k 18 (λ e. omega arith), ne-eqb k 19 (λ e. omega arith))
+
+pub null-plain : (k : ℕ) → plainKind k ≡ 0 → k ≡ 0
+null-plain k z =
+    kind-cases k (λ e. let y = rw e at z in absurd (omega (arith, y))) (λ e. let y = rw e at z in absurd (omega (arith, y)))
+    (λ e. let y = rw e at z in absurd (omega (arith, y))) (λ e. sym e ∙ z)
 
 -- ---- the records at two places
 
@@ -90,11 +101,14 @@ module _ {s : List ℕ} {at : ℕ} {list : List ℕ} {from : ℕ} (r : Readable 
   body-given = given list from (read-at .value-is)
 
   -- the value is that of its body, which lies in the list
-  pub value-body : valueIn (valueRecordAt list from) ≡ valueAt (getD list from 0) list (from + 1)
+  pub value-body : valueIn (valueRecordAt list from) ≡ bodyValue (getD list from 0) list (from + 1)
   value-body = body-given .value
 
-  pub body-within : from + 1 + bodyLength (getD list from 0) ≤ length list
-  body-within = body-given .within
+  pub body-within : from + 1 + bodyIn (isLongKind (getD list from 0)) (plainKind (getD list from 0)) ≤ length list
+  body-within = rw (body-in (getD list from 0)) (body-given .within)
+
+  pub kind-known : isValueKind (getD list from 0) ≡ true
+  kind-known = body-given .known
 
 -- ---- a column's kind tells the kind of its values, and the two bytes after it what it was declared with
 

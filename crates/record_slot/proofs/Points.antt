@@ -14,9 +14,9 @@ use Rattle.datatype.specs.Schema.{columnRecordAt}
 use Rattle.datatype.specs.InnerSteps.{typeIn}
 use Rattle.value.specs.declared.TextRange.{TextRange}
 use Rattle.value.specs.declared.DataValue.{DataValue}
-use Rattle.value.specs.Kinds.{isTextKind}
+use Rattle.value.specs.Kinds.{isTextKind, plainKind}
 use Rattle.value.specs.Ranges.{part}
-use Rattle.value_list.specs.Records.{rangeAt, recordAt as valueRecordAt}
+use Rattle.value_list.specs.Records.{rangeAt, rangeWidth, recordAt as valueRecordAt}
 use Rattle.record_slot.specs.Stored.{isNull}
 use Rattle.record_slot.specs.InnerSteps.{Readable, valueIn, declaredAt, textSuits, suitsAt, formIn, blankFilled, TextThere, Suited, pointsStored}
 use Rattle.record_slot.proofs.Tests.{length-part}
@@ -50,7 +50,10 @@ module _ {s : List ℕ} {at : ℕ} {list : List ℕ} {from : ℕ} (r : Readable 
   v = valueIn (valueRecordAt list from)
 
   abbrev k : ℕ
-  k = getD list from 0
+  k = plainKind (getD list from 0)
+
+  abbrev w : ℕ
+  w = rangeWidth (getD list from 0)
 
   module _ {area : List ℕ} (q : isNull v ≡ false → Suited t v area) where
     abbrev form : List ℕ
@@ -64,18 +67,18 @@ module _ {s : List ℕ} {at : ℕ} {list : List ℕ} {from : ℕ} (r : Readable 
       some-value : isNull v ≡ false
       some-value = is-value r (λ z. let y = sym e ∙ z in omega (arith, h, y))
 
-      pub text-ready : suitsAt (countsPoints t) j (declaredAt s at) list (from + 1) area ≡ true
+      pub text-ready : suitsAt (countsPoints t) w j (declaredAt s at) list (from + 1) area ≡ true
       text-ready = suits-as r (q some-value) j e
 
       of-kind : isTextKind j ≡ true → points form ≡ pointsStored s at list from area
       of-kind y = ap (λ (b : Bool). cond b (points form) 0) (sym (ap isTextKind e ∙ y)) ∙ by-kind some-value
 
-    pub char-counted : k ≡ 8 → points (blankFilled (declaredAt s at) (part area (rangeAt list (from + 1)))) ≡ pointsStored s at list from area
+    pub char-counted : k ≡ 8 → points (blankFilled (declaredAt s at) (part area (rangeAt w list (from + 1)))) ≡ pointsStored s at list from area
     char-counted e =
         let m = q (some-value 8 e (omega arith)) .match in
         ap points (form-as r m (is-fixed r m (λ z. let y = sym e ∙ z in omega (arith, y))) area 8 e) ∙ of-kind 8 e (omega arith) refl
 
-    pub varchar-counted : k ≡ 9 → points (part area (rangeAt list (from + 1))) ≡ pointsStored s at list from area
+    pub varchar-counted : k ≡ 9 → points (part area (rangeAt w list (from + 1))) ≡ pointsStored s at list from area
     varchar-counted e = ap points (varchar-form r (q (some-value 9 e (omega arith)) .match) e area) ∙ of-kind 9 e (omega arith) refl
 
     pub none-counted : (k ≡ 8 → ⊥) → (k ≡ 9 → ⊥) → 0 ≡ pointsStored s at list from area

@@ -23,6 +23,13 @@ use Rattle.stored_form.proofs.Lengths.{length-stored, accepted-inside, accepted
 use Rattle.record_slot.specs.Stored.{isNull, cellIn}
 use Rattle.record_slot.specs.InnerSteps.{payloadAnswer}
 
+-- the numbers of equal ranges
+pub start-is : {r q : TextRange} → r ≡ q → r .start ≡ q .start
+start-is e = ap (λ (x : TextRange). x .start) e
+
+pub length-is : {r q : TextRange} → r ≡ q → r .length ≡ q .length
+length-is e = ap (λ (x : TextRange). x .length) e
+
 -- a range of the area
 pub length-part : (area : List ℕ) (r : TextRange) → r .start + r .length ≤ length area → length (part area r) ≡ r .length
 length-part area r h = length-take-le (r .length) (drop (r .start) area) (rw length-drop (omega arith))

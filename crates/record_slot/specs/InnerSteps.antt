@@ -33,7 +33,7 @@ use Rattle.value.specs.Kinds.{matches}
 use Rattle.value.specs.Ranges.{inArea, part, textOf}
 use Rattle.value_list.specs.declared.ValueRecord.{ValueRecord}
 use Rattle.value_list.specs.declared.ValueRecord.the-variants as Value
-use Rattle.value_list.specs.InnerSizes.{sizeAt}
+use Rattle.value_list.specs.InnerSizes.{bodyIn, sizeAt}
 use Rattle.value_list.specs.Records.{bodyLength, numberAt, numericAt, rangeAt, recordAt as valueRecordAt}
 use Rattle.stored_form.specs.Number.{isNegative, magnitude}
 use Rattle.stored_form.specs.Write.{fitsDigits, accepted as holds, storedForm}
@@ -103,28 +103,28 @@ bitsSuit n r area = cond (inArea (length area) r) (eqb (length (part area r)) (b
 abbrev pub numberSuits : ℕ → NumericValue → Bool
 numberSuits n x = fitsDigits (T.Numeric (n % 256) (n / 256)) (x .scale) (magnitude (x .high) (x .low))
 
--- whether a value of kind k, whose body stands at a place of the list, suits a type of that kind which was declared
--- with n, which counts bytes or code points of a Varchar
-abbrev pub suitsAt : Bool → ℕ → ℕ → List ℕ → ℕ → List ℕ → Bool
-suitsAt byPoints k n list at area =
+-- whether a value of kind k of 01's, whose body stands at a place of the list, ranges of w bytes each, suits a type of
+-- that kind which was declared with n, which counts bytes or code points of a Varchar
+abbrev pub suitsAt : Bool → ℕ → ℕ → ℕ → List ℕ → ℕ → List ℕ → Bool
+suitsAt byPoints w k n list at area =
     cond (eqb k 6) (numberSuits n (numericAt list at))
     (cond (eqb k 7) (leb (getD list at 0) 1)
-    (cond (eqb k 8) (textSuits false n (rangeAt list at) area)
-    (cond (eqb k 9) (textSuits byPoints n (rangeAt list at) area)
+    (cond (eqb k 8) (textSuits false n (rangeAt w list at) area)
+    (cond (eqb k 9) (textSuits byPoints n (rangeAt w list at) area)
     (cond (eqb k 10) (isDate (toZ w32 (numberAt 4 list at)))
     (cond (eqb k 11) (isTime (toZ w64 (numberAt 8 list at)))
-    (cond (eqb k 12) (bitsSuit n (rangeAt list at) area)
+    (cond (eqb k 12) (bitsSuit n (rangeAt w list at) area)
     (cond (eqb k 13) (isTimestamp (toZ w64 (numberAt 8 list at)))
     true)))))))
 
 -- a body that can be tested
-pub record Testable (k n : ℕ) (list : List ℕ) (at : ℕ) : Type 0 where
-  pub inside : at + bodyLength k ≤ length list
+pub record Testable (t : Bool) (k n : ℕ) (list : List ℕ) (at : ℕ) : Type 0 where
+  pub inside : at + bodyIn t k ≤ length list
   pub word : n ≤ 65535
   pub digits : k ≡ 6 → n % 256 ≤ 38
 
-abbrev pub payloadLength : ℕ → List ℕ → ℕ → ℕ
-payloadLength k list at = cond (eqb k 9) (numberAt 2 list (at + 2)) 0
+abbrev pub payloadLength : ℕ → ℕ → List ℕ → ℕ → ℕ
+payloadLength w k list at = cond (eqb k 9) (rangeAt w list at .length) 0
 
 -- ---- what a column adds to the row's length
 
@@ -187,11 +187,11 @@ abbrev pub bitsStored : ℕ → List ℕ → List ℕ
 bitsStored n x = packBits n (unpackBits n x)
 
 -- that of any value but a Varchar
-abbrev pub slotStored : ℕ → ℕ → List ℕ → ℕ → List ℕ → List ℕ
-slotStored k n list at area =
+abbrev pub slotStored : ℕ → ℕ → ℕ → List ℕ → ℕ → List ℕ → List ℕ
+slotStored w k n list at area =
     cond (eqb k 6) (numberStored (n % 256) (numericAt list at))
-    (cond (eqb k 8) (blankFilled n (part area (rangeAt list at)))
-    (cond (eqb k 12) (bitsStored n (part area (rangeAt list at)))
+    (cond (eqb k 8) (blankFilled n (part area (rangeAt w list at)))
+    (cond (eqb k 12) (bitsStored n (part area (rangeAt w list at)))
     (bodyStored k list at)))
 
 -- a value that is stored in a slot, of n bytes

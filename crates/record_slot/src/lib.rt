@@ -5,7 +5,7 @@ use error::Answer;
 use error::Refusal;
 use value::value_kinds;
 ghost use mathlib.Core.Path.{_≡_};
-ghost use Prim.Native.Nat.{_+_, _%_, _≤_, _<_};
+ghost use Prim.Native.Nat.{_+_, _*_, _%_, _≤_, _<_};
 ghost use mathlib.Core.Bool.{true, false, cond};
 ghost use lib.Dec.{eqb};
 ghost use lib.ListN.{length};
@@ -16,9 +16,11 @@ ghost use Rattle.bit_utils.specs.Bits.{bytesFor};
 ghost use Rattle.datatype.specs.Types.{sizeOf};
 ghost use Rattle.datatype.specs.Schema.{columnRecordAt};
 ghost use Rattle.datatype.specs.InnerSteps.{typeIn};
+ghost use Rattle.value.specs.Kinds.{plainKind};
 ghost use Rattle.value.specs.Ranges.{part};
 ghost use Rattle.record_slot.specs.Stored.{isNull};
-ghost use Rattle.value_list.specs.Records.{bodyLength, numericAt, rangeAt, recordAt as valueRecordAt};
+ghost use Rattle.value_list.specs.Records.{numericAt, rangeAt, recordAt as valueRecordAt};
+ghost use Rattle.value_list.specs.InnerSizes.{bodyIn};
 ghost use Rattle.record_slot.specs.InnerSteps.{lengthAt, HasType, Readable, declaredAt, afterColumn, textSuits, bitsSuit, numberSuits, suitsAt, Testable, payloadLength, payloadIn, Short, valueIn, formIn, blankFilled, numberStored, bitsStored, SlotReady, NumberReady, TextThere, Suited, pointsStored};
 
 // The two bytes after the kind of a column, a length or precision and scale; 0 where the record is too short for them.
@@ -51,7 +53,7 @@ pub fn record_length(values: &[u8], from: usize) -> usize
         return 0;
     }
     let kind = values[from];
-    if value_kinds::TIMESTAMP < kind {
+    if !value::is_value_kind(kind) {
         return 0;
     }
     let body = value_list::body_length(kind);
@@ -61,13 +63,24 @@ pub fn record_length(values: &[u8], from: usize) -> usize
     1 + body
 }
 
-// Whether the range at a place of the list is a text of at most n bytes or code points.
-fn text_suits(values: &[u8], body: usize, by_points: bool, n: usize, text: &[u8]) -> bool
-    requires { ⌜ body + 4 ≤ length (now values) ⌝ }
-    ensures { λ r. ⌜ r ≡ textSuits «by_points» n (rangeAt (now (values .entry)) body) (now (text .entry)) ⌝ }
+// Whether the range at a place of the list, its numbers of four bytes or of two, is a text of at most n bytes or code
+// points.
+fn text_suits(
+    values: &[u8],
+    is_long: bool,
+    body: usize,
+    by_points: bool,
+    n: usize,
+    text: &[u8],
+) -> bool
+    requires { ⌜ body + 2 * offsetWidth «is_long» ≤ length (now values) ⌝ }
+    ensures { λ r. ⌜ r
+        ≡ textSuits «by_points» n (rangeAt (offsetWidth «is_long») (now (values .entry)) body)
+        (now (text .entry)) ⌝ }
 {
-    let start = endian::read_u16(values, body) as usize;
-    let length = endian::read_u16(values, body + 2) as usize;
+    let range = value_list::range_at(values, is_long, body);
+    let start = range.start;
+    let length = range.length;
     if text.len() < start + length {
         return false;
     }
@@ -75,12 +88,14 @@ fn text_suits(values: &[u8], body: usize, by_points: bool, n: usize, text: &[u8]
 }
 
 // Whether the range at a place of the list is a bit string of as many bytes as n bits fill.
-fn bits_suit(values: &[u8], body: usize, n: usize, text: &[u8]) -> bool
-    requires { ⌜ (body + 4 ≤ length (now values)) × (n ≤ 65535) ⌝ }
-    ensures { λ r. ⌜ r ≡ bitsSuit n (rangeAt (now (values .entry)) body) (now (text .entry)) ⌝ }
+fn bits_suit(values: &[u8], is_long: bool, body: usize, n: usize, text: &[u8]) -> bool
+    requires { ⌜ (body + 2 * offsetWidth «is_long» ≤ length (now values)) × (n ≤ 65535) ⌝ }
+    ensures { λ r. ⌜ r
+        ≡ bitsSuit n (rangeAt (offsetWidth «is_long») (now (values .entry)) body) (now (text .entry)) ⌝ }
 {
-    let start = endian::read_u16(values, body) as usize;
-    let length = endian::read_u16(values, body + 2) as usize;
+    let range = value_list::range_at(values, is_long, body);
+    let start = range.start;
+    let length = range.length;
     if text.len() < start + length {
         return false;
     }
@@ -103,32 +118,52 @@ fn number_suits(values: &[u8], body: usize, n: usize) -> bool
 
 // Whether a column that was declared with n holds a value of its kind, whose body stands at a place of the list; of a
 // Varchar n counts bytes or code points.
-fn suits_at(by_points: bool, kind: u8, n: usize, values: &[u8], body: usize, text: &[u8]) -> bool
-    requires { ⌜ Testable kind n (now values) body ⌝ }
-    ensures { λ r. ⌜ r ≡ suitsAt «by_points» kind n (now (values .entry)) body (now (text .entry)) ⌝ }
+fn suits_at(
+    by_points: bool,
+    is_long: bool,
+    kind: u8,
+    n: usize,
+    values: &[u8],
+    body: usize,
+    text: &[u8],
+) -> bool
+    requires { ⌜ Testable «is_long» kind n (now values) body ⌝ }
+    ensures { λ r. ⌜ r
+        ≡ suitsAt «by_points» (offsetWidth «is_long») kind n (now (values .entry)) body (now (text .entry)) ⌝ }
 {
     match kind {
         value_kinds::NUMERIC => number_suits(values, body, n),
         value_kinds::BOOL => values[body] <= 1,
-        value_kinds::CHAR => text_suits(values, body, false, n, text),
-        value_kinds::VARCHAR => text_suits(values, body, by_points, n, text),
+        value_kinds::CHAR => text_suits(values, is_long, body, false, n, text),
+        value_kinds::VARCHAR => text_suits(values, is_long, body, by_points, n, text),
         value_kinds::DATE => temporal::is_date(endian::read_i32(values, body)),
         value_kinds::TIME => temporal::is_time(endian::read_i64(values, body)),
-        value_kinds::BIT => bits_suit(values, body, n, text),
+        value_kinds::BIT => bits_suit(values, is_long, body, n, text),
         value_kinds::TIMESTAMP => temporal::is_timestamp(endian::read_i64(values, body)),
         _ => true,
     }
 }
 
 // The payload of a value whose body stands at a place of the list.
-fn payload_length(kind: u8, values: &[u8], body: usize) -> usize
-    requires { ⌜ body + bodyLength kind ≤ length (now values) ⌝ }
-    ensures { λ r. ⌜ r ≡ payloadLength kind (now (values .entry)) body ⌝ }
+fn payload_length(kind: u8, is_long: bool, values: &[u8], body: usize) -> usize
+    requires { ⌜ body + bodyIn «is_long» kind ≤ length (now values) ⌝ }
+    ensures { λ r. ⌜ r ≡ payloadLength (offsetWidth «is_long») kind (now (values .entry)) body ⌝ }
 {
     if kind == value_kinds::VARCHAR {
-        return endian::read_u16(values, body + 2) as usize;
+        let range = value_list::range_at(values, is_long, body);
+        return range.length;
     }
     0
+}
+
+// Whether a record has values of a kind. Most have the kind itself: that is tested first.
+fn is_of_kind(given: u8, kind: u8) -> bool
+    ensures { λ r. ⌜ r ≡ eqb (plainKind given) kind ⌝ }
+{
+    if given < value_kinds::LONG_CHAR {
+        return given == kind;
+    }
+    value::plain_kind(given) == kind
 }
 
 // The bytes that a column adds to the row's minimum, or why its value is refused.
@@ -144,24 +179,27 @@ pub fn payload_at(
     ensures { λ r. ⌜ (r ≡ payloadIn column (now (schema .entry)) at (now (values .entry)) from (now (text .entry)))
         × Short r ⌝ }
 {
-    let kind = values[from];
-    if kind == value_kinds::NULL {
+    let given = values[from];
+    if given == value_kinds::NULL {
         return Answer::Done(0);
     }
     let column_kind = schema[at];
-    if kind != value::held_kind(column_kind) {
+    let kind = value::held_kind(column_kind);
+    if !is_of_kind(given, kind) {
         return Answer::Refused(Refusal::WrongKind(column));
     }
+    let is_long = value::is_long_kind(given);
     let by_points = column_kind == schema_kinds::VARCHAR_CHARS;
     if suits_at(
         by_points,
+        is_long,
         kind,
         declared_length(schema, at),
         values,
         from + 1,
         text,
     ) {
-        return Answer::Done(payload_length(kind, values, from + 1));
+        return Answer::Done(payload_length(kind, is_long, values, from + 1));
     }
     Answer::Refused(Refusal::Unsuitable(column))
 }
@@ -196,15 +234,25 @@ pub fn entry_size(kind: u8, is_long: bool) -> usize
 }
 
 // A Char's text, whose range stands at a place of the list, and blanks up to n bytes.
-fn write_char(out: &mut [u8], slot: usize, n: usize, values: &[u8], body: usize, text: &[u8])
-    requires { ⌜ (body + 4 ≤ length (now values))
-        × ((slot + n ≤ length (now out)) × (textSuits false n (rangeAt (now values) body) (now text) ≡ true)) ⌝ }
+fn write_char(
+    out: &mut [u8],
+    slot: usize,
+    n: usize,
+    values: &[u8],
+    is_long: bool,
+    body: usize,
+    text: &[u8],
+)
+    requires { ⌜ (body + 2 * offsetWidth «is_long» ≤ length (now values))
+        × ((slot + n ≤ length (now out))
+        × (textSuits false n (rangeAt (offsetWidth «is_long») (now values) body) (now text) ≡ true)) ⌝ }
     ensures { λ _. ⌜ now (out .exit)
         ≡ sets (now (out .entry)) slot
-        (blankFilled n (part (now (text .entry)) (rangeAt (now (values .entry)) body))) ⌝ }
+        (blankFilled n (part (now (text .entry)) (rangeAt (offsetWidth «is_long») (now (values .entry)) body))) ⌝ }
 {
-    let start = endian::read_u16(values, body) as usize;
-    let length = endian::read_u16(values, body + 2) as usize;
+    let range = value_list::range_at(values, is_long, body);
+    let start = range.start;
+    let length = range.length;
     value_encode::write_char(out, slot, &text[start..start + length], n);
 }
 
@@ -225,20 +273,29 @@ fn write_number(out: &mut [u8], slot: usize, p: usize, values: &[u8], body: usiz
 }
 
 // The n bits whose range stands at a place of the list.
-fn write_bits(out: &mut [u8], slot: usize, n: usize, values: &[u8], body: usize, text: &[u8])
-    requires { ⌜ (body + 4 ≤ length (now values))
+fn write_bits(
+    out: &mut [u8],
+    slot: usize,
+    n: usize,
+    values: &[u8],
+    is_long: bool,
+    body: usize,
+    text: &[u8],
+)
+    requires { ⌜ (body + 2 * offsetWidth «is_long» ≤ length (now values))
         × ((slot + bytesFor n ≤ length (now out))
-        × (bitsSuit n (rangeAt (now values) body) (now text) ≡ true)) ⌝ }
+        × (bitsSuit n (rangeAt (offsetWidth «is_long») (now values) body) (now text) ≡ true)) ⌝ }
     ensures { λ _. ⌜ now (out .exit)
         ≡ sets (now (out .entry)) slot
-        (bitsStored n (part (now (text .entry)) (rangeAt (now (values .entry)) body))) ⌝ }
+        (bitsStored n (part (now (text .entry)) (rangeAt (offsetWidth «is_long») (now (values .entry)) body))) ⌝ }
 {
-    let start = endian::read_u16(values, body) as usize;
-    let length = endian::read_u16(values, body + 2) as usize;
+    let range = value_list::range_at(values, is_long, body);
+    let start = range.start;
+    let length = range.length;
     value_encode::write_bits(out, slot, &text[start..start + length], n);
 }
 
-// The stored form of a column's value, in its slot.
+// The stored form of a column's value, in its slot. The value suits the column, so that its kind is the column's.
 pub fn write_slot(
     schema: &[u8],
     at: usize,
@@ -255,7 +312,9 @@ pub fn write_slot(
         ≡ sets (now (out .entry)) slot
         (formIn (now (schema .entry)) at (now (values .entry)) from (now (text .entry))) ⌝ }
 {
-    let kind = values[from];
+    let given = values[from];
+    let kind = value::held_kind(schema[at]);
+    let is_long = value::is_long_kind(given);
     let body = from + 1;
     let n = declared_length(schema, at);
     match kind {
@@ -270,35 +329,41 @@ pub fn write_slot(
         ),
         value_kinds::NUMERIC => write_number(out, slot, n % 256, values, body),
         value_kinds::BOOL => out[slot] = values[body],
-        value_kinds::CHAR => write_char(out, slot, n, values, body, text),
+        value_kinds::CHAR => write_char(out, slot, n, values, is_long, body, text),
         value_kinds::DATE => endian::write_u32(out, slot, endian::read_u32(values, body)),
         value_kinds::TIME => endian::write_u64(out, slot, endian::read_u64(values, body)),
-        value_kinds::BIT => write_bits(out, slot, n, values, body, text),
+        value_kinds::BIT => write_bits(out, slot, n, values, is_long, body, text),
         value_kinds::TIMESTAMP => endian::write_u64(out, slot, endian::read_u64(values, body)),
         _ => {}
     }
 }
 
 // The code points of the text whose range stands at a place of the list.
-fn text_points(values: &[u8], body: usize, text: &[u8]) -> usize
-    requires { ⌜ (body + 4 ≤ length (now values)) × TextThere (rangeAt (now values) body) (now text) ⌝ }
-    ensures { λ r. ⌜ (r ≡ points (part (now (text .entry)) (rangeAt (now (values .entry)) body)))
-        × (r ≤ 65535) ⌝ }
+fn text_points(values: &[u8], is_long: bool, body: usize, text: &[u8]) -> usize
+    requires { ⌜ (body + 2 * offsetWidth «is_long» ≤ length (now values))
+        × TextThere (rangeAt (offsetWidth «is_long») (now values) body) (now text) ⌝ }
+    ensures { λ r. ⌜ (r
+        ≡ points (part (now (text .entry)) (rangeAt (offsetWidth «is_long») (now (values .entry)) body)))
+        × (r < 4294967296) ⌝ }
 {
-    let start = endian::read_u16(values, body) as usize;
-    let length = endian::read_u16(values, body + 2) as usize;
+    let range = value_list::range_at(values, is_long, body);
+    let start = range.start;
+    let length = range.length;
     text::count_points(&text[start..start + length])
 }
 
 // With the blanks up to n bytes, each of which is one.
-fn char_points(values: &[u8], body: usize, n: usize, text: &[u8]) -> usize
-    requires { ⌜ (body + 4 ≤ length (now values))
-        × ((n ≤ 65535) × (textSuits false n (rangeAt (now values) body) (now text) ≡ true)) ⌝ }
-    ensures { λ r. ⌜ (r ≡ points (blankFilled n (part (now (text .entry)) (rangeAt (now (values .entry)) body))))
+fn char_points(values: &[u8], is_long: bool, body: usize, n: usize, text: &[u8]) -> usize
+    requires { ⌜ (body + 2 * offsetWidth «is_long» ≤ length (now values))
+        × ((n ≤ 65535)
+        × (textSuits false n (rangeAt (offsetWidth «is_long») (now values) body) (now text) ≡ true)) ⌝ }
+    ensures { λ r. ⌜ (r
+        ≡ points (blankFilled n
+        (part (now (text .entry)) (rangeAt (offsetWidth «is_long») (now (values .entry)) body))))
         × (r ≤ n) ⌝ }
 {
-    let length = endian::read_u16(values, body + 2) as usize;
-    text_points(values, body, text) + (n - length)
+    let range = value_list::range_at(values, is_long, body);
+    text_points(values, is_long, body, text) + (n - range.length)
 }
 
 // The code points of a column's text, as stored; 0 for a null and where the value is no text.
@@ -310,10 +375,18 @@ pub fn points_at(schema: &[u8], at: usize, values: &[u8], from: usize, text: &[u
     ensures { λ r. ⌜ r
         ≡ pointsStored (now (schema .entry)) at (now (values .entry)) from (now (text .entry)) ⌝ }
 {
+    let given = values[from];
+    if given == value_kinds::NULL {
+        return 0;
+    }
+    let kind = value::held_kind(schema[at]);
+    let is_long = value::is_long_kind(given);
     let body = from + 1;
-    match values[from] {
-        value_kinds::CHAR => char_points(values, body, declared_length(schema, at), text) as u32,
-        value_kinds::VARCHAR => text_points(values, body, text) as u32,
+    match kind {
+        value_kinds::CHAR => {
+            char_points(values, is_long, body, declared_length(schema, at), text) as u32
+        }
+        value_kinds::VARCHAR => text_points(values, is_long, body, text) as u32,
         _ => 0,
     }
 }

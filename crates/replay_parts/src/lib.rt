@@ -85,7 +85,7 @@ fn same_null_flag(row: &[u8], column: &[u8], answer: &[u8]) -> bool {
     }
     let outcome = answer[0];
     let flag = answer[1];
-    match null_bitmap::is_column_null_in_row(row, false, endian::read_u64(column, 0) as usize) {
+    match null_bitmap::is_column_null_in_row(row, endian::read_u64(column, 0) as usize) {
         Flag::Is(null) => outcome == 0 && flag == null as u8,
         Flag::Refused(r) => outcome == variant(r.number()) && flag == 0,
     }

@@ -7,4 +7,4 @@ abbrev pub versionNumber : ℕ → ℕ → ℕ → ℕ
 versionNumber major minor patch = 65536 * major + 256 * minor + patch
 
 abbrev pub version : ℕ
-version = versionNumber 0 3 2
+version = versionNumber 0 4 0

@@ -7,7 +7,6 @@ use row_handle::RowHandle;
 use row_text::ColumnText;
 use text::TextCheck;
 ghost use mathlib.Core.Path.{_≡_};
-ghost use mathlib.Core.Bool.{false};
 ghost use Rattle.null_bitmap.specs.Bitmap.{nullFlag};
 ghost use Rattle.occupation_list.specs.Print.{printCall};
 ghost use Rattle.row_build.specs.Build.{freshCall, buildCall};
@@ -84,20 +83,21 @@ fn flag_answer(answer: Flag) -> FlagAnswer
     }
 }
 
-// A row of nulls at the front of `out`; `length` is its length.
+// A row of nulls at the front of `out`, long or short as the caller chooses; `length` is its length.
 #[no_mangle]
-pub extern "C" fn rook_row_fresh(schema: &[u8], out: &mut [u8]) -> RowAnswer
+pub extern "C" fn rook_row_fresh(schema: &[u8], is_long: bool, out: &mut [u8]) -> RowAnswer
     ensures { λ r. ⌜ (r, now (out .exit))
-        ≡ rowOutcome 0 (freshCall false (now (schema .entry)) (now (out .entry))) ⌝ }
+        ≡ rowOutcome 0 (freshCall «is_long» (now (schema .entry)) (now (out .entry))) ⌝ }
 {
-    row_answer(row_build::fresh(schema, false, out), 0)
+    row_answer(row_build::fresh(schema, is_long, out), 0)
 }
 
-// The row of a value list at the front of `out`; `length` is its length. The list's ranges lie in `text`. The code
-// points of each column's text, as stored, go to `counts`.
+// The row of a value list at the front of `out`, long or short as the caller chooses; `length` is its length. The
+// list's ranges lie in `text`. The code points of each column's text, as stored, go to `counts`.
 #[no_mangle]
 pub extern "C" fn rook_row_build(
     schema: &[u8],
+    is_long: bool,
     values: &[u8],
     text: &[u8],
     out: &mut [u8],
@@ -105,11 +105,11 @@ pub extern "C" fn rook_row_build(
 ) -> RowAnswer
     ensures { λ r. ⌜ (r, (now (out .exit), now (counts .exit)))
         ≡ countedOutcome 0
-        (buildCall false (now (schema .entry)) (now (values .entry)) (now (text .entry))
+        (buildCall «is_long» (now (schema .entry)) (now (values .entry)) (now (text .entry))
         (now (out .entry)) (now (counts .entry))) ⌝ }
 {
     row_answer(
-        row_build::serialize_nullable_typed_row(schema, false, values, text, out, counts),
+        row_build::serialize_nullable_typed_row(schema, is_long, values, text, out, counts),
         0,
     )
 }
@@ -126,7 +126,7 @@ pub extern "C" fn rook_row_read(
 ) -> RowAnswer
     ensures { λ r. ⌜ (r, (now (out .exit), now (counts .exit)))
         ≡ countedOutcome 0
-        (readCall false (now (schema .entry)) (now (row .entry)) (now (wanted .entry))
+        (readCall (now (schema .entry)) (now (row .entry)) (now (wanted .entry))
         (now (out .entry)) (now (counts .entry))) ⌝ }
 {
     row_answer(row_decode::decode(schema, row, wanted, out, counts), 0)
@@ -145,7 +145,7 @@ pub extern "C" fn rook_row_set(
 ) -> RowAnswer
     ensures { λ r. ⌜ (r, now (buf .exit))
         ≡ rowOutcome «row_length»
-        (setCall false (now (schema .entry)) (now (buf .entry)) «row_length» column
+        (setCall (now (schema .entry)) (now (buf .entry)) «row_length» column
         (now (values .entry)) (now (text .entry))) ⌝ }
 {
     row_answer(
@@ -164,7 +164,7 @@ pub extern "C" fn rook_row_set_null(
 ) -> RowAnswer
     ensures { λ r. ⌜ (r, now (buf .exit))
         ≡ rowOutcome «row_length»
-        (setNullCall false (now (schema .entry)) (now (buf .entry)) «row_length» column) ⌝ }
+        (setNullCall (now (schema .entry)) (now (buf .entry)) «row_length» column) ⌝ }
 {
     row_answer(
         row_edit::set_null(schema, buf, row_length, column),
@@ -188,7 +188,7 @@ fn handle_value(
 ) -> HandleAnswer
     ensures { λ r. ⌜ (r .answer, (now (buf .exit), r .handle))
         ≡ handleOutcome (handle .length)
-        (handleSet false (now (schema .entry)) (now (buf .entry)) handle column
+        (handleSet (now (schema .entry)) (now (buf .entry)) handle column
         (now (values .entry)) (now (text .entry))) ⌝ }
 {
     let edited = row_handle::with_value(schema, buf, handle, column, values, text);
@@ -203,7 +203,7 @@ fn handle_value(
 fn handle_null(schema: &[u8], buf: &mut [u8], handle: RowHandle, column: usize) -> HandleAnswer
     ensures { λ r. ⌜ (r .answer, (now (buf .exit), r .handle))
         ≡ handleOutcome (handle .length)
-        (handleSetNull false (now (schema .entry)) (now (buf .entry)) handle column) ⌝ }
+        (handleSetNull (now (schema .entry)) (now (buf .entry)) handle column) ⌝ }
 {
     let edited = row_handle::with_null(schema, buf, handle, column);
     let answer = edited.answer;
@@ -227,7 +227,7 @@ pub extern "C" fn rook_row_handle_set(
 ) -> RowAnswer
     ensures { λ r. ⌜ (r, (now (buf .exit), now (handle .exit)))
         ≡ handleOutcome (now (handle .entry) .length)
-        (handleSet false (now (schema .entry)) (now (buf .entry)) (now (handle .entry))
+        (handleSet (now (schema .entry)) (now (buf .entry)) (now (handle .entry))
         column (now (values .entry)) (now (text .entry))) ⌝ }
 {
     let before = *handle;
@@ -246,7 +246,7 @@ pub extern "C" fn rook_row_handle_set_null(
 ) -> RowAnswer
     ensures { λ r. ⌜ (r, (now (buf .exit), now (handle .exit)))
         ≡ handleOutcome (now (handle .entry) .length)
-        (handleSetNull false (now (schema .entry)) (now (buf .entry)) (now (handle .entry))
+        (handleSetNull (now (schema .entry)) (now (buf .entry)) (now (handle .entry))
         column) ⌝ }
 {
     let before = *handle;
@@ -258,7 +258,7 @@ pub extern "C" fn rook_row_handle_set_null(
 // The text of a column: where it stands in the row. A null has number 0 and an empty range at 0.
 #[no_mangle]
 pub extern "C" fn rook_row_text(schema: &[u8], row: &[u8], column: usize) -> TextAnswer
-    ensures { λ r. ⌜ r ≡ textAnswer (textCall false (now (schema .entry)) (now (row .entry)) column) ⌝ }
+    ensures { λ r. ⌜ r ≡ textAnswer (textCall (now (schema .entry)) (now (row .entry)) column) ⌝ }
 {
     match row_text::column_text(schema, row, column) {
         ColumnText::Part(part) => TextAnswer {
@@ -280,7 +280,7 @@ pub extern "C" fn rook_row_text(schema: &[u8], row: &[u8], column: usize) -> Tex
 #[no_mangle]
 pub extern "C" fn rook_row_same_content(schema: &[u8], a: &[u8], b: &[u8]) -> FlagAnswer
     ensures { λ r. ⌜ r
-        ≡ flagAnswer (sameCall false (now (schema .entry)) (now (a .entry)) (now (b .entry))) ⌝ }
+        ≡ flagAnswer (sameCall (now (schema .entry)) (now (a .entry)) (now (b .entry))) ⌝ }
 {
     flag_answer(row_same::same_content(schema, a, b))
 }
@@ -288,9 +288,9 @@ pub extern "C" fn rook_row_same_content(schema: &[u8], a: &[u8], b: &[u8]) -> Fl
 // Whether a column of a row is null: 1 or 0 in `flag`.
 #[no_mangle]
 pub extern "C" fn rook_row_is_null(row: &[u8], column: usize) -> FlagAnswer
-    ensures { λ r. ⌜ r ≡ flagAnswer (nullFlag false (now (row .entry)) column) ⌝ }
+    ensures { λ r. ⌜ r ≡ flagAnswer (nullFlag (now (row .entry)) column) ⌝ }
 {
-    flag_answer(null_bitmap::is_column_null_in_row(row, false, column))
+    flag_answer(null_bitmap::is_column_null_in_row(row, column))
 }
 
 // Whether bytes are text, 1 or 0, and how many code points it has.
@@ -315,17 +315,17 @@ pub extern "C" fn rook_occupations_print(list: &[u8], out: &mut [u8]) -> RowAnsw
     row_answer(occupation_list::print(list, out), 0)
 }
 
-// The version of this interface, 0.3.2, with a byte for each of its numbers.
+// The version of this interface, 0.4.0, with a byte for each of its numbers.
 #[no_mangle]
 pub extern "C" fn rook_row_version() -> u32
     ensures { λ r. ⌜ r ≡ version ⌝ }
 {
-    0x000302
+    0x000400
 }
 
 // The same, by a name that says the series: what is made for another one does not link.
 #[no_mangle]
-pub extern "C" fn rook_row_0_3() -> u32
+pub extern "C" fn rook_row_0_4() -> u32
     ensures { λ r. ⌜ r ≡ version ⌝ }
 {
     rook_row_version()

@@ -16,13 +16,14 @@ use Rattle.row_column.specs.declared.Frame.{Frame}
 use Rattle.row_column.specs.Frame.{onFrame}
 use Rattle.row_column.specs.Column.{columnValue}
 use Rattle.row_text.specs.declared.ColumnText.the-variants.{Part, Refused}
-use Rattle.row_text.specs.Text.{textRead, textCall, textPart}
+use Rattle.row_text.specs.Text.{textRead, textInRow, textCall, textPart}
 use Rattle.record_slot.specs.Stored.{isNull}
 use Rattle.row_build.specs.Built.{Built}
 use Rattle.record_slot.proofs.Tests.{CellIs, null, stored}
 use Rattle.row_build.proofs.Cells.{cell-at}
 use Rattle.round_trip.specs.ReadBack.{row, givenValue, givenBack, givenForm, ReadsBack}
 use Rattle.round_trip.specs.Text.{TextBack, BuiltTextBack}
+use Rattle.round_trip.proofs.Sorts.{built-sort}
 use Rattle.round_trip.proofs.ReadBack.{taken, read-built}
 use Rattle.round_trip.proofs.Text.{text-in-row}
 
@@ -49,9 +50,10 @@ module _ {sort : Bool} {schema list area out : List ℕ} {n : ℕ} {after : List
   abbrev v : DataValue
   v = givenValue b i
 
-  answer-is : textCall sort schema (row b) i ≡ Part (rangeOf (givenBack b i))
+  answer-is : textCall schema (row b) i ≡ Part (rangeOf (givenBack b i))
   answer-is =
-      text-in-row sort schema (row b) i (b .columns) (b .schema-good) h t
+      text-in-row schema (row b) i (b .columns) (rw (built-sort b) (b .schema-good)) h t
+      ∙ ap (λ (k : Bool). textInRow k (b .columns) (row b) i) (built-sort b)
       ∙ ap (λ (f : Frame). onFrame f Refused (λ p. textRead (columnValue (offsetWidth sort) p (b .columns) i (row b)))) (q .frame)
       ∙ ap textRead (q .column i h)
 

@@ -54,7 +54,7 @@ abbrev IfRead : DataType → List ℕ → ColumnRead → Type 0
 IfRead t r (Value v) = Read t r v
 IfRead t r (Refused e) = Unit {0}
 
-module _ (t : DataType) (r : List ℕ) (octets : AllBytes r) (short : length r ≤ 65535) (digits : precisionOf t ≤ 38)
+module _ (t : DataType) (r : List ℕ) (octets : AllBytes r) (short : length r ≤ 1048576) (digits : precisionOf t ≤ 38)
     (scale : scaleOf t ≤ 38) where
   null-read : IfRead t r (Value Null)
   null-read =
@@ -93,7 +93,7 @@ inside w table v k r =
     (λ x. by-cond (Inside r) (ltb (length r) e) Range.Outside _ (λ y. tt)
     (λ y. (ltb-false e a x, ltb-false (length r) e y))))
 
-module _ (w : ℕ) (p : Bool) (ts : List DataType) (r : List ℕ) (octets : AllBytes r) (short : length r ≤ 65535)
+module _ (w : ℕ) (p : Bool) (ts : List DataType) (r : List ℕ) (octets : AllBytes r) (short : length r ≤ 1048576)
     (long : minimum w p (map shapeOf ts) ≤ length r) (i : ℕ) (h : i < length ts)
     (digits : precisionOf (typeAt ts i) ≤ 38) (scale : scaleOf (typeAt ts i) ≤ 38) where
   abbrev t : DataType

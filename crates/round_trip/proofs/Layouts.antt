@@ -4,7 +4,6 @@ use mathlib.Core.Path.{_≡_, refl, sym, ap, _∙_}
 use mathlib.Core.Bool.{Bool, false≢true}
 use mathlib.Core.List.{List, [], _∷_, map}
 use mathlib.Core.Option.{some}
-use lib.ListN.{length}
 use Rattle.row_format.specs.Places.{offsetWidth}
 use Rattle.error.specs.Result.{ok}
 use Rattle.row_format.specs.declared.Shape.{Shape}
@@ -15,7 +14,6 @@ use Rattle.datatype.specs.declared.DataType.the-variants.{Varchar}
 use Rattle.datatype.specs.Types.{shapeOf}
 use Rattle.value.specs.declared.DataValue.{DataValue}
 use Rattle.value.specs.Ranges.{textOf}
-use Rattle.value_list.proofs.Lists.{checked-taken}
 use Rattle.stored_form.specs.Write.{storedForm}
 use Rattle.stored_form.proofs.Matched.{Matched, varchar, matched}
 use Rattle.record_slot.specs.Stored.{cellIn}
@@ -24,6 +22,7 @@ use Rattle.row_build.specs.Cells.{cellsFrom}
 use Rattle.row_build.specs.Built.{Built}
 use Rattle.row_build.specs.InnerSteps.{valuesGiven, cellsGiven}
 use Rattle.row_build.proofs.Cells.{first-cell}
+use Rattle.round_trip.proofs.ReadBack.{taken}
 use Rattle.round_trip.specs.Layouts.{Alike, same, varchars, AllAlike, none as no-columns, more, OneLayout}
 
 shape-same : {t u : DataType} → Alike t u → shapeOf t ≡ shapeOf u
@@ -63,15 +62,14 @@ module _ (area : List ℕ) where
 
 -- ---- the rows
 
+-- of whatever schemas and sorts, the values are those of the list
+pub same-values : {sort sort' : Bool} {schema list area out : List ℕ} {n : ℕ} {after : List ℕ} (b : Built sort schema list area out n after)
+    {schema' out' : List ℕ} {n' : ℕ} {after' : List ℕ} (b' : Built sort' schema' list area out' n' after') → b .given ≡ b' .given
+same-values b b' = ap valuesGiven (sym (taken b .all) ∙ taken b' .all)
+
 module _ {sort : Bool} {schema list area out : List ℕ} {n : ℕ} {after : List ℕ} (b : Built sort schema list area out n after)
     {schema' out' : List ℕ} {n' : ℕ} {after' : List ℕ} (b' : Built sort schema' list area out' n' after') where
-  same-values : b .given ≡ b' .given
-  same-values =
-      let x = checked-taken sort (length (b .columns)) (length area) list (b .list-good) in
-      let y = checked-taken sort (length (b' .columns)) (length area) list (b' .list-good) in
-      ap valuesGiven (sym (x .all) ∙ y .all)
-
   pub one-layout : OneLayout b b'
   one-layout a =
-      let cells = cells-same area 0 a (b .given) (b .cells-good) (ap (λ (vs : List DataValue). cellsFrom 0 (b' .columns) vs area) same-values ∙ b' .cells-good) in
+      let cells = cells-same area 0 a (b .given) (b .cells-good) (ap (λ (vs : List DataValue). cellsFrom 0 (b' .columns) vs area) (same-values b b') ∙ b' .cells-good) in
       b .row ∙ ap (λ (ss : List Shape). builtRow (offsetWidth sort) (packedMarks sort) ss (b .cells)) (shapes-same a) ∙ ap (builtRow (offsetWidth sort) (packedMarks sort) (map shapeOf (b' .columns))) cells ∙ sym (b' .row)

@@ -1,3 +1,4 @@
+pub mod Sorts
 pub mod ReadBuilt
 pub mod Counts
 pub mod ReadBack
@@ -8,5 +9,7 @@ pub mod ReadAll
 pub mod Same
 pub mod Types
 pub mod Columns
+pub mod BuiltReads
 pub mod SameBuilt
 pub mod Layouts
+pub mod Twins

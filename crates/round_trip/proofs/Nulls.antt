@@ -11,6 +11,7 @@ use Rattle.null_bitmap.specs.Bitmap.{columnFlag, nullFlag}
 use Rattle.row_build.specs.Built.{Built}
 use Rattle.round_trip.specs.ReadBack.{row}
 use Rattle.round_trip.specs.Nulls.{NullsBack}
+use Rattle.round_trip.proofs.Sorts.{built-sort}
 use Rattle.round_trip.proofs.ReadBuilt.{row-length, count-is, null-built}
 use Rattle.round_trip.proofs.ReadBack.{cellsRow, taken, few, short}
 use mathlib.Core.Bool.{Bool}
@@ -27,9 +28,10 @@ module _ {sort : Bool} {schema list area out : List ℕ} {n : ℕ} {after : List
       )
 
   -- behind 4 and 3
-  flag-is : (i : ℕ) → nullFlag sort (row b) i ≡ columnFlag (length (b .columns)) (cellsRow b) i
+  flag-is : (i : ℕ) → nullFlag (row b) i ≡ columnFlag (length (b .columns)) (cellsRow b) i
   flag-is i =
       rw (
+        built-sort b,
         b .row,
         le-ltb (rowLimit sort) (length (cellsRow b)) (short b),
         le-ltb (length (cellsRow b)) 4 (omega (arith, long)),

@@ -7,6 +7,7 @@ use native.Mathlib.Nat.{add-zero}
 use native.Mathlib.Omega.{arith}
 use lib.ListN.{length, getD}
 use Rattle.row_format.specs.Places.{offsetWidth}
+use Rattle.row_format.specs.Header.{isLong}
 use Rattle.error.specs.declared.Answer.the-variants as Answer
 use Rattle.error.specs.Answer.{unchangedBoth}
 use Rattle.error.specs.Result.{ok, refused, onResult}
@@ -24,6 +25,7 @@ use Rattle.row_column.specs.Frame.{frameOf, onFrame}
 use Rattle.row_column.specs.Column.{columnValue}
 use Rattle.row_decode.specs.Read.{isWanted, wantedValue, onColumn, readFrom, handOut, readRow}
 use Rattle.row_same.specs.Rows.{allColumns}
+use Rattle.row_same.proofs.Read.{ReadsAs}
 use Rattle.row_build.specs.InnerSteps.{valuesGiven}
 use Rattle.row_build.proofs.Built.{IsDone, placed-both-done}
 use Rattle.round_trip.specs.Same.{FullRead, listRead}
@@ -81,18 +83,21 @@ module _ (w : ℕ) (p : Bool) (ts : List DataType) (r : List ℕ) where
 
 -- ---- the call
 
-pub record All {sort : Bool} {schema r : List ℕ} (q : FullRead sort schema r) : Type 0 where
+pub record All {schema r : List ℕ} (q : FullRead schema r) : Type 0 where
   pub columns : List DataType
-  pub schema-good : schemaOf sort schema ≡ ok columns
+  pub schema-good : schemaOf (isLong r) schema ≡ ok columns
   pub packed : Bool
-  pub frame : frameOf sort columns r ≡ Frame.Good packed
+  pub frame : frameOf (isLong r) columns r ≡ Frame.Good packed
   pub read : List DataValue
-  pub all-read : allColumns sort columns r ≡ ok read
+  pub all-read : allColumns (isLong r) columns r ≡ ok read
   pub count : length read ≡ length columns
-  pub each : (k : ℕ) → k < length columns → columnValue (offsetWidth sort) packed columns k r ≡ Column.Value (getD read k Null)
-  pub list-is : listRead q ≡ listOf sort read
+  pub each : (k : ℕ) → k < length columns → columnValue (offsetWidth (isLong r)) packed columns k r ≡ Column.Value (getD read k Null)
+  pub list-is : listRead q ≡ listOf (isLong r) read
 
-module _ {sort : Bool} {schema r : List ℕ} (q : FullRead sort schema r) where
+module _ {schema r : List ℕ} (q : FullRead schema r) where
+  abbrev sort : Bool
+  sort = isLong r
+
   of-values : (ts : List DataType) → schemaOf sort schema ≡ ok ts → (p : Bool)
       → frameOf sort ts r ≡ Frame.Good p
       → (u : Values) → readFrom (offsetWidth sort) p ts (isWanted (q .wanted)) r 0 (length ts) ≡ u
@@ -129,3 +134,6 @@ module _ {sort : Bool} {schema r : List ℕ} (q : FullRead sort schema r) where
 
   pub all-of : All q
   all-of = of-schema (schemaOf sort schema) refl (q .done)
+
+  pub reads-as : ReadsAs schema r (all-of .columns) (all-of .read)
+  reads-as = record { sort = isLong r; marked = refl; schema-good = all-of .schema-good; all-read = all-of .all-read }

@@ -11,7 +11,7 @@ use Rattle.error.specs.Answer.{unchangedBoth, placedBoth}
 use Rattle.error.specs.Result.{ok, onResult}
 use Rattle.row_format.specs.Row.{builtRow, packedMarks}
 use Rattle.datatype.specs.Types.{shapeOf}
-use Rattle.datatype.specs.Schema.{Parsed}
+use Rattle.datatype.specs.Schema.{Parsed, schemaOf}
 use Rattle.value.specs.Ranges.{textOf}
 use Rattle.value_list.specs.Lists.{listOf}
 use Rattle.stored_form.specs.ReadBack.{hasText}
@@ -25,6 +25,7 @@ use Rattle.row_build.specs.Built.{Built}
 use Rattle.row_build.proofs.Counting.{many-cells, many-points}
 use Rattle.row_build.proofs.Schemas.{schema-few}
 use Rattle.round_trip.specs.ReadBack.{valuesBack, wantedPoints, row, givenValue, givenBack, givenForm, countsPut, ReadsBack, BuiltReadsBack}
+use Rattle.round_trip.proofs.Sorts.{built-sort}
 use Rattle.round_trip.proofs.Counts.{counts-back, all-wanted}
 use Rattle.round_trip.proofs.ReadBuilt.{frame-built, column-built, text-built, columns-built}
 
@@ -64,10 +65,11 @@ module _ {sort : Bool} {schema list area out : List ℕ} {n : ℕ} {after : List
     cells-many = many-cells (b .columns) (b .given) area (b .cells-good) (taken .count)
 
     read-back : (ws o counts : List ℕ)
-        → readCall sort schema (row b) ws o counts ≡ placedBoth o counts
+        → readCall schema (row b) ws o counts ≡ placedBoth o counts
         (listOf sort (valuesBack (offsetWidth sort) (b .columns) (isWanted ws) area (row b) 0 (b .given))) (wantedPoints (isWanted ws) 0 (countsPut b))
     read-back ws o counts =
-        ap (λ (p : Parsed). onResult p (unchangedBoth o counts) (λ ts. readRow sort ts (row b) ws o counts)) (b .schema-good)
+        ap (λ (k : Bool). onResult (schemaOf k schema) (unchangedBoth o counts) (λ ts. readRow k ts (row b) ws o counts)) (built-sort b)
+        ∙ ap (λ (p : Parsed). onResult p (unchangedBoth o counts) (λ ts. readRow sort ts (row b) ws o counts)) (b .schema-good)
         ∙ ap (λ (q : Frame). onFrame q (unchangedBoth o counts)
         (λ p. handOut sort o counts (row b) (readFrom (offsetWidth sort) p (b .columns) (isWanted ws) (row b) 0 (length (b .columns))))) frame-back
         ∙ ap (handOut sort o counts (row b)) (columns-back (isWanted ws))

@@ -46,7 +46,8 @@ use Rattle.stored_form.proofs.ReadBack.{read-stored, text-stored}
 use Rattle.row_column.specs.declared.Frame.the-variants.{Good}
 use Rattle.row_column.specs.declared.ColumnRead.{ColumnRead}
 use Rattle.row_column.specs.declared.ColumnRead.the-variants.{Value}
-use Rattle.row_column.specs.Frame.{columnCount, varlenField, frameOf}
+use Rattle.row_format.specs.Header.{columnCount, varlenField}
+use Rattle.row_column.specs.Frame.{frameOf}
 use Rattle.row_column.specs.Column.{slotValue, readBytes, varlenValue, columnValue}
 use Rattle.row_decode.specs.Read.{wantedValue, onColumn, readFrom}
 use Rattle.record_slot.specs.Stored.{isNull}

@@ -8,6 +8,7 @@ use borrow.Author.Tests.{le-ltb, eq-eqb, ne-eqb, lt-leb, leb-false}
 use lib.Dec.{leb}
 use lib.ListN.{length, set, replicate}
 use Rattle.row_format.specs.Places.{offsetWidth}
+use Rattle.row_format.specs.Header.{isLong}
 use Rattle.error.specs.declared.Refusal.{Refusal}
 use Rattle.error.specs.declared.Refusal.the-variants.{NoRoom, NoSuchColumn, WrongKind}
 use Rattle.error.specs.declared.Answer.the-variants as Answer
@@ -87,18 +88,21 @@ module _ (w : ℕ) (p : Bool) (ts : List DataType) (r : List ℕ) (i : ℕ) wher
 
 -- ---- both calls
 
-module _ (sort : Bool) (schema r : List ℕ) (i : ℕ) where
+module _ (schema r : List ℕ) (i : ℕ) where
+  abbrev sort : Bool
+  sort = isLong r
+
   data Both : Type 0 where
-    refuse : (e : Refusal) → textCall sort schema r i ≡ Refused e
-        → ((out counts : List ℕ) → readColumn sort schema r i out counts ≡ unchangedBoth out counts e) → Both
-    answer : (x : TextRange) → textCall sort schema r i ≡ Part x → Names sort schema r i x → Both
+    refuse : (e : Refusal) → textCall schema r i ≡ Refused e
+        → ((out counts : List ℕ) → readColumn schema r i out counts ≡ unchangedBoth out counts e) → Both
+    answer : (x : TextRange) → textCall schema r i ≡ Part x → Names schema r i x → Both
 
   of-schema : (q : Parsed) → schemaOf sort schema ≡ q
-      → textCall sort schema r i ≡ onResult q Refused (λ ts. textOfColumn sort ts r i)
+      → textCall schema r i ≡ onResult q Refused (λ ts. textOfColumn sort ts r i)
   of-schema q e = ap (λ (p : Parsed). onResult p Refused (λ ts. textOfColumn sort ts r i)) e
 
   read-schema : (q : Parsed) → schemaOf sort schema ≡ q → (out counts : List ℕ)
-      → readColumn sort schema r i out counts
+      → readColumn schema r i out counts
       ≡ onResult q (unchangedBoth out counts) (λ ts. readRow sort ts r (i ∷ []) out counts)
   read-schema q e out counts =
       ap (λ (p : Parsed). onResult p (unchangedBoth out counts) (λ ts. readRow sort ts r (i ∷ []) out counts)) e
@@ -106,7 +110,7 @@ module _ (sort : Bool) (schema r : List ℕ) (i : ℕ) where
   -- behind 9 and 11
   pub text-in-row : (ts : List DataType) → schemaOf sort schema ≡ ok ts → i < length ts
       → holdsText (typeAt ts i) ≡ true
-      → textCall sort schema r i ≡ textInRow sort ts r i
+      → textCall schema r i ≡ textInRow sort ts r i
   text-in-row ts e h t =
       of-schema (ok ts) e
       ∙ ap (λ (x : Bool). cond x (Refused NoSuchColumn)
@@ -114,13 +118,13 @@ module _ (sort : Bool) (schema r : List ℕ) (i : ℕ) where
       ∙ ap (λ (x : Bool). cond x (textInRow sort ts r i) (Refused (WrongKind i))) t
 
   module _ (ts : List DataType) (e : schemaOf sort schema ≡ ok ts) (h : i < length ts)
-      (text : textCall sort schema r i ≡ textInRow sort ts r i) where
+      (text : textCall schema r i ≡ textInRow sort ts r i) where
     of-frame : (f : Frame) → frameOf sort ts r ≡ f
-        → textCall sort schema r i ≡ onFrame f Refused (λ p. textRead (columnValue (offsetWidth sort) p ts i r))
+        → textCall schema r i ≡ onFrame f Refused (λ p. textRead (columnValue (offsetWidth sort) p ts i r))
     of-frame f g = text ∙ ap (λ (q : Frame). onFrame q Refused (λ p. textRead (columnValue (offsetWidth sort) p ts i r))) g
 
     read-frame : (f : Frame) → frameOf sort ts r ≡ f → (out counts : List ℕ)
-        → readColumn sort schema r i out counts ≡ onFrame f (unchangedBoth out counts)
+        → readColumn schema r i out counts ≡ onFrame f (unchangedBoth out counts)
         (λ p. handOut sort out counts r (readFrom (offsetWidth sort) p ts (isWanted (i ∷ [])) r 0 (length ts)))
     read-frame f g out counts =
         read-schema (ok ts) e out counts
@@ -130,16 +134,16 @@ module _ (sort : Bool) (schema r : List ℕ) (i : ℕ) where
     by-column : (p : Bool) → frameOf sort ts r ≡ Frame.Good p → (c : ColumnRead) → columnValue (offsetWidth sort) p ts i r ≡ c → Both
     by-column p g c k = of-read c said read
       where
-        said : textCall sort schema r i ≡ textRead c
+        said : textCall schema r i ≡ textRead c
         said = of-frame (Frame.Good p) g ∙ ap textRead k
 
-        read : (out counts : List ℕ) → readColumn sort schema r i out counts ≡ handOut sort out counts r (alone c (length ts) i)
+        read : (out counts : List ℕ) → readColumn schema r i out counts ≡ handOut sort out counts r (alone c (length ts) i)
         read out counts =
             read-frame (Frame.Good p) g out counts
             ∙ ap (handOut sort out counts r) (read-alone (offsetWidth sort) p ts r i h ∙ ap (λ (d : ColumnRead). alone d (length ts) i) k)
 
-        of-read : (d : ColumnRead) → textCall sort schema r i ≡ textRead d
-            → ((out counts : List ℕ) → readColumn sort schema r i out counts ≡ handOut sort out counts r (alone d (length ts) i)) → Both
+        of-read : (d : ColumnRead) → textCall schema r i ≡ textRead d
+            → ((out counts : List ℕ) → readColumn schema r i out counts ≡ handOut sort out counts r (alone d (length ts) i)) → Both
         of-read (Column.Refused u) s f = refuse u s f
         of-read (Column.Value v) s f =
             answer (rangeOf v) s
@@ -158,11 +162,11 @@ module _ (sort : Bool) (schema r : List ℕ) (i : ℕ) where
     by-frame (Frame.Refused u) g = refuse u (of-frame (Frame.Refused u) g) (read-frame (Frame.Refused u) g)
     by-frame (Frame.Good p) g = by-column p g (columnValue (offsetWidth sort) p ts i r) refl
 
-  module _ (is-column : textCall sort schema r i ≡ Refused NoSuchColumn → ⊥)
-      (is-text : textCall sort schema r i ≡ Refused (WrongKind i) → ⊥) where
+  module _ (is-column : textCall schema r i ≡ Refused NoSuchColumn → ⊥)
+      (is-text : textCall schema r i ≡ Refused (WrongKind i) → ⊥) where
     by-tests : (ts : List DataType) → schemaOf sort schema ≡ ok ts → (x y : Bool) → leb (length ts) i ≡ x
         → holdsText (typeAt ts i) ≡ y
-        → textCall sort schema r i ≡ cond x (Refused NoSuchColumn)
+        → textCall schema r i ≡ cond x (Refused NoSuchColumn)
         (cond y (textInRow sort ts r i) (Refused (WrongKind i))) → Both
     by-tests ts e true y l t s = absurd (is-column s)
     by-tests ts e false false l t s = absurd (is-text s)
@@ -183,18 +187,18 @@ module _ (sort : Bool) (schema r : List ℕ) (i : ℕ) where
   IsRefused (Answer.Refused e, after) = Unit {0}
   IsRefused (Answer.Done n, after) = ⊥
 
-  apart : {x : TextRange} {e : Refusal} → textCall sort schema r i ≡ Part x
-      → textCall sort schema r i ≡ Refused e → ⊥
+  apart : {x : TextRange} {e : Refusal} → textCall schema r i ≡ Part x
+      → textCall schema r i ≡ Refused e → ⊥
   apart p q = let z : _≡_ {A = ℕ} 0 1 = cc in omega arith
 
-  refused-there : Both → (e : Refusal) → textCall sort schema r i ≡ Refused e → (out counts : List ℕ)
-      → readColumn sort schema r i out counts ≡ unchangedBoth out counts e
+  refused-there : Both → (e : Refusal) → textCall schema r i ≡ Refused e → (out counts : List ℕ)
+      → readColumn schema r i out counts ≡ unchangedBoth out counts e
   refused-there (refuse u s f) e t out counts =
       let same : u ≡ e = cc in f out counts ∙ ap (unchangedBoth out counts) same
   refused-there (answer x s n) e t out counts = absurd (apart s t)
 
-  refused-here : Both → (e : Refusal) → ((out counts : List ℕ) → readColumn sort schema r i out counts ≡ unchangedBoth out counts e)
-      → textCall sort schema r i ≡ Refused e
+  refused-here : Both → (e : Refusal) → ((out counts : List ℕ) → readColumn schema r i out counts ≡ unchangedBoth out counts e)
+      → textCall schema r i ≡ Refused e
   refused-here (refuse u s f) e t = s ∙ ap Refused (ap refusedWith (sym (f [] []) ∙ t [] []))
   refused-here (answer x s n) e t =
       let l : List ℕ = listOf sort (set (replicate (n .columns) Null) i (n .value)) in
@@ -202,11 +206,11 @@ module _ (sort : Bool) (schema r : List ℕ) (i : ℕ) where
       let full = rw (le-ltb (length l) (length l) (omega arith), le-ltb (length m) (length m) (omega arith)) at (n .read l m) in
       absurd (subst IsRefused (sym (t l m) ∙ full) tt)
 
-  named : Both → (x : TextRange) → textCall sort schema r i ≡ Part x → Names sort schema r i x
+  named : Both → (x : TextRange) → textCall schema r i ≡ Part x → Names schema r i x
   named (refuse u s f) x t = absurd (apart t s)
-  named (answer y s n) x t = let same : y ≡ x = cc in subst (Names sort schema r i) same n
+  named (answer y s n) x t = let same : y ≡ x = cc in subst (Names schema r i) same n
 
-  pub text-as-read : TextAsRead sort schema r i
+  pub text-as-read : TextAsRead schema r i
   text-as-read is-column is-text =
       let b = by-schema is-column is-text (schemaOf sort schema) refl in
       record { refuses = λ e. (refused-there b e, refused-here b e); names = named b }

@@ -87,7 +87,7 @@ module _ {sort : Bool} {schema list area out : List ℕ} {n : ℕ} {after : List
         → textOf row (givenBack i) ≡ givenForm i
     -- the whole call, for any output, any list of counts and any list of wanted columns: "unknown column numbers
     -- ignored; null for an unwanted column"
-    pub read : (ws o counts : List ℕ) → readCall sort schema row ws o counts
+    pub read : (ws o counts : List ℕ) → readCall schema row ws o counts
         ≡ placedBoth o counts
         (listOf sort (valuesBack (offsetWidth sort) (b .columns) (isWanted ws) area row 0 (b .given)))
         (wantedPoints (isWanted ws) 0 countsPut)

@@ -11,6 +11,7 @@ use mir.Val.{Fits}
 use Rattle.error.specs.declared.Refusal.{Refusal}
 use Rattle.error.specs.declared.Refusal.the-variants.{NoSuchColumn, WrongKind}
 use Rattle.error.specs.Answer.{Counted, unchangedBoth, placedBoth}
+use Rattle.row_format.specs.Header.{isLong}
 use Rattle.datatype.specs.Check.{typeAt}
 use Rattle.value.specs.declared.TextRange.{TextRange}
 use Rattle.value.specs.declared.DataValue.{DataValue}
@@ -27,10 +28,10 @@ use Rattle.round_trip.specs.ReadBack.{row, givenBack, givenForm}
 
 -- ---- "It refuses as a read of that column"
 
-module _ (sort : Bool) (schema r : List ℕ) (i : ℕ) where
+module _ (schema r : List ℕ) (i : ℕ) where
   -- a read of column i alone
   abbrev pub readColumn : List ℕ → List ℕ → Counted
-  readColumn out counts = readCall sort schema r (i ∷ []) out counts
+  readColumn out counts = readCall schema r (i ∷ []) out counts
 
   -- Such a read answers with `value` for that column, "null for an unwanted column", and with its count, "0 for all
   -- other columns"; the value has the range x. "A null [..] gives the empty part".
@@ -40,22 +41,22 @@ module _ (sort : Bool) (schema r : List ℕ) (i : ℕ) where
     pub value : DataValue
     pub range : rangeOf value ≡ x
     pub read : (out counts : List ℕ) → readColumn out counts
-        ≡ placedBoth out counts (listOf sort (set (replicate columns Null) i value))
+        ≡ placedBoth out counts (listOf (isLong r) (set (replicate columns Null) i value))
         (set (replicate columns 0) i (pointsIn r value))
     pub null-empty : value ≡ Null → textPart r (Part x) ≡ []
 
   -- both refuse alike, whatever room the read has; else the part is the range that the read's record names
   pub record AsRead : Type 0 where
     pub refuses : (e : Refusal)
-        → (textCall sort schema r i ≡ Refused e)
+        → (textCall schema r i ≡ Refused e)
         ↔ ((out counts : List ℕ) → readColumn out counts ≡ unchangedBoth out counts e)
-    pub names : (x : TextRange) → textCall sort schema r i ≡ Part x → Names x
+    pub names : (x : TextRange) → textCall schema r i ≡ Part x → Names x
 
   -- "9 and 11 (not Char, Character or Varchar) come after 2": where the text call answers neither of them
   abbrev pub TextAsRead : Type 0
   TextAsRead =
-      (textCall sort schema r i ≡ Refused NoSuchColumn → ⊥)
-      → (textCall sort schema r i ≡ Refused (WrongKind i) → ⊥)
+      (textCall schema r i ≡ Refused NoSuchColumn → ⊥)
+      → (textCall schema r i ≡ Refused (WrongKind i) → ⊥)
       → AsRead
 
 -- ---- a build that answered Done
@@ -64,8 +65,8 @@ module _ {sort : Bool} {schema list area out : List ℕ} {n : ℕ} {after : List
     (b : Built sort schema list area out n after) where
   -- a column that holds text: no refusal, and the part is the stored form of what was given, which is empty for a null
   pub record TextBack (i : ℕ) : Type 0 where
-    pub answer : textCall sort schema (row b) i ≡ Part (rangeOf (givenBack b i))
-    pub text : textPart (row b) (textCall sort schema (row b) i) ≡ givenForm b i
+    pub answer : textCall schema (row b) i ≡ Part (rangeOf (givenBack b i))
+    pub text : textPart (row b) (textCall schema (row b) i) ≡ givenForm b i
 
   -- where the value list is a list of bytes
   abbrev pub BuiltTextBack : Type 0

@@ -19,7 +19,7 @@ use Rattle.datatype.specs.Schema.{Parsed}
 use Rattle.value.specs.declared.DataValue.the-variants.{Null}
 use Rattle.value_list.specs.Lists.{Values, checked, listOf}
 use Rattle.value_list.proofs.Lists.{list-checked}
-use Rattle.value_list.specs.InnerLists.{AllSized}
+use Rattle.value_list.specs.InnerLists.{AllSized, AllNarrow}
 use Rattle.row_build.specs.Cells.{cellsFrom}
 use Rattle.row_build.specs.Build.{rowPlacedBoth, cellsPoints, buildValues, buildRow, freshRow}
 use Rattle.row_build.specs.Built.{FreshIsBuilt}
@@ -36,8 +36,12 @@ nulls-sized : (n : ℕ) → AllSized (replicate n Null)
 nulls-sized zero = tt
 nulls-sized (suc n) = (tt, nulls-sized n)
 
+nulls-narrow : (n : ℕ) → AllNarrow false (replicate n Null)
+nulls-narrow zero = tt
+nulls-narrow (suc n) = (tt, nulls-narrow n)
+
 nulls-checked : (k : Bool) (n : ℕ) → checked k n 0 (replicate n 0) ≡ ok (replicate n Null)
-nulls-checked k n = rw (← nulls-listed n) (list-checked k n 0 (replicate n Null) (nulls-sized n) (length-replicate n Null) (omega arith))
+nulls-checked k n = rw (← nulls-listed n) (list-checked k false n 0 (replicate n Null) (nulls-sized n) (nulls-narrow n) (length-replicate n Null) (omega arith))
 
 null-cells : (i : ℕ) (ts : List DataType) (area : List ℕ) → cellsFrom i ts (replicate (length ts) Null) area ≡ ok (replicate (length ts) none)
 null-cells i [] area = refl

@@ -4,6 +4,7 @@ use datatype::SchemaCheck;
 use error::Answer;
 use error::Refusal;
 use row_layout::RowLayout;
+use value::TextRange;
 use value::value_kinds;
 use value_list::ListCheck;
 ghost use mathlib.Core.Path.{_≡_};
@@ -23,7 +24,7 @@ ghost use Rattle.datatype.specs.InnerSteps.{typeIn};
 ghost use Rattle.datatype.specs.Check.{typesIn};
 ghost use Rattle.datatype.specs.InnerCheck.{Accepted};
 ghost use Rattle.value.specs.Ranges.{part};
-ghost use Rattle.value_list.specs.Records.{rangeAt, recordAt as valueRecordAt};
+ghost use Rattle.value_list.specs.Records.{recordAt as valueRecordAt};
 ghost use Rattle.record_slot.specs.Stored.{isNull};
 ghost use Rattle.row_build.specs.Cells.{cellsFrom};
 ghost use Rattle.row_build.specs.Build.{buildValues, buildRow, buildCall, freshCall};
@@ -152,11 +153,9 @@ fn write_fixed(
     clear_bit(out, columns, column);
 }
 
-// A payload at the row's end, with its offset and the column's bit; the new end. The payload's range stands at a
-// place of the list.
+// A payload at the row's end, with its offset and the column's bit; the new end.
 fn write_varchar(
-    values: &[u8],
-    body: usize,
+    range: TextRange,
     text: &[u8],
     out: &mut [u8],
     is_long: bool,
@@ -165,16 +164,14 @@ fn write_varchar(
     entry: usize,
     end: usize,
 ) -> usize
-    requires { ⌜ (body + 4 ≤ length (now values))
-        × (PayloadReady «is_long» (rangeAt (now values) body) (now text) entry end (length (now out))
-        × BitReady columns column (length (now out))) ⌝ }
-    ensures { λ r. ⌜ (r ≡ end + rangeAt (now (values .entry)) body .length)
+    requires { ⌜ PayloadReady «is_long» range (now text) entry end (length (now out))
+        × BitReady columns column (length (now out)) ⌝ }
+    ensures { λ r. ⌜ (r ≡ end + range .length)
         × (now (out .exit)
-        ≡ varlenStored «is_long» column entry (part (now (text .entry)) (rangeAt (now (values .entry)) body)) end
-        (now (out .entry))) ⌝ }
+        ≡ varlenStored «is_long» column entry (part (now (text .entry)) range) end (now (out .entry))) ⌝ }
 {
-    let start = endian::read_u16(values, body) as usize;
-    let length = endian::read_u16(values, body + 2) as usize;
+    let start = range.start;
+    let length = range.length;
     row_layout::write_offset(out, is_long, entry, end);
     endian::copy(out, end, &text[start..start + length]);
     clear_bit(out, columns, column);
@@ -206,22 +203,13 @@ fn write_column(
         (formIn (now (schema .entry)) at (now (values .entry)) from (now (text .entry))) end
         (now (out .entry)) ⌝ }
 {
-    let kind = values[from];
-    if kind == value_kinds::NULL {
+    let given = values[from];
+    if given == value_kinds::NULL {
         return end;
     }
-    if kind == value_kinds::VARCHAR {
-        return write_varchar(
-            values,
-            from + 1,
-            text,
-            out,
-            is_long,
-            columns,
-            column,
-            entry,
-            end,
-        );
+    if value::held_kind(schema[at]) == value_kinds::VARCHAR {
+        let range = value_list::range_at(values, value::is_long_kind(given), from + 1);
+        return write_varchar(range, text, out, is_long, columns, column, entry, end);
     }
     write_fixed(schema, at, values, from, text, out, columns, column, slot);
     end

@@ -31,7 +31,8 @@ use Rattle.stored_form.specs.Read.{readSlot}
 use Rattle.stored_form.proofs.Within.{OfRange, slot-range}
 use Rattle.row_column.specs.declared.ColumnRead.{ColumnRead}
 use Rattle.row_column.specs.declared.ColumnRead.the-variants as Read
-use Rattle.row_column.specs.Frame.{columnCount, varlenField, isPacked, frameOf}
+use Rattle.row_format.specs.Header.{columnCount, varlenField, isPacked}
+use Rattle.row_column.specs.Frame.{frameOf}
 use Rattle.row_column.specs.Column.{slotValue, varlenValue, columnValue}
 use Rattle.row_column.specs.Depends.{Zeros, bitOfColumn, SameRange, SameVarchar, SameFor, InOffset, LookedAtVarchar, own, higher, range, LookedAt, bit, slot, varchar}
 use Rattle.row_column.proofs.Walk.{same-cond}

@@ -18,7 +18,8 @@ use Rattle.datatype.specs.Check.{layoutFor}
 use Rattle.datatype.specs.InnerCheck.{Accepted}
 use Rattle.row_column.specs.declared.Frame.{Frame}
 use Rattle.row_column.specs.declared.Frame.the-variants.{Good, Refused}
-use Rattle.row_column.specs.Frame.{columnCount, varlenField, isPacked, frameWith, frameOf, onFrame}
+use Rattle.row_format.specs.Header.{columnCount, varlenField, isPacked}
+use Rattle.row_column.specs.Frame.{frameWith, frameOf, onFrame}
 use Rattle.row_column.specs.InnerWalk.{walkedFrame, Framed}
 use Rattle.row_column.proofs.Walk.{frame-walked}
 

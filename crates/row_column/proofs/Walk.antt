@@ -22,7 +22,8 @@ use Rattle.datatype.specs.declared.DataType.the-variants.{Varchar}
 use Rattle.datatype.specs.Types.{sizeOf, alignmentOf, isVarlen, shapeOf}
 use Rattle.datatype.specs.Check.{typeAt, layoutFor}
 use Rattle.datatype.specs.InnerCheck.{layoutBefore}
-use Rattle.row_column.specs.Frame.{isPacked, frameWith, frameOf}
+use Rattle.row_format.specs.Header.{isPacked}
+use Rattle.row_column.specs.Frame.{frameWith, frameOf}
 use Rattle.row_column.specs.Column.{readBytes, varlenValue, columnWith, columnValue}
 use Rattle.row_column.specs.InnerWalk.{walkedFrame, walkedPlace, walkedColumn}
 

@@ -2,31 +2,22 @@
 use Prim.Native.Nat.{ℕ, _%_}
 use mathlib.Core.Bool.{Bool, cond}
 use mathlib.Core.List.{List, map}
-use lib.Dec.{eqb, leb, ltb}
-use lib.ListN.{length, take, drop}
+use lib.Dec.{eqb, ltb}
+use lib.ListN.{length}
 use Rattle.error.specs.declared.Refusal.{Refusal}
 use Rattle.error.specs.declared.Refusal.the-variants.{RowTooShort, RowTooLong, WrongColumnCount, WrongVarlenCount}
-use Rattle.laws.specs.Bytes.{fromLe}
 use Rattle.row_format.specs.Places.{varlens, minimum, offsetWidth, rowLimit}
-use Rattle.row_format.specs.Row.{packedFlag, leastMark}
+use Rattle.row_format.specs.Row.{leastMark}
+use Rattle.row_format.specs.Header.{columnCount, varlenField, isPacked}
 use Rattle.datatype.specs.declared.DataType.{DataType}
 use Rattle.datatype.specs.Types.{shapeOf}
 use Rattle.row_column.specs.declared.Frame.{Frame}
 use Rattle.row_column.specs.declared.Frame.the-variants.{Good, Refused}
 
--- "Column count (2 bytes); Varchar count with 0x8000 for packed (2)"
-abbrev pub columnCount : List ℕ → ℕ
-columnCount r = fromLe (take 2 r)
-
-abbrev pub varlenField : List ℕ → ℕ
-varlenField r = fromLe (take 2 (drop 2 r))
-
-abbrev pub isPacked : List ℕ → Bool
-isPacked r = leb packedFlag (varlenField r)
-
 -- A row that is taken as of sort k. "header's column count is not the schema's", which is n; "header's Varchar count,
 -- flag masked off, is not the schema's", which is v; "row [..] under the layout's minimum", which is `least` of the
--- row's own flag
+-- row's own flag. Both marks are masked off: "the row's own mark tells the sort" (02, request 5), so that a row taken
+-- as short has the packed mark at most
 abbrev pub frameWith : Bool → ℕ → ℕ → (Bool → ℕ) → List ℕ → Frame
 frameWith k n v least r =
     cond (ltb (rowLimit k) (length r)) (Refused RowTooLong)

@@ -7,6 +7,7 @@ use mathlib.Core.List.{List, [], _∷_, map}
 use lib.Dec.{eqb}
 use lib.ListN.{length}
 use Rattle.row_format.specs.Places.{offsetWidth}
+use Rattle.row_format.specs.Header.{isLong}
 use Rattle.error.specs.Answer.{Counted, unchangedBoth, placedBoth}
 use Rattle.error.specs.Result.{ok, refused, onResult, before}
 use Rattle.datatype.specs.declared.DataType.{DataType}
@@ -52,6 +53,7 @@ readRow k ts r ws out counts =
     onFrame (frameOf k ts r) (unchangedBoth out counts)
     (λ p. handOut k out counts r (readFrom (offsetWidth k) p ts (isWanted ws) r 0 (length ts)))
 
-abbrev pub readCall : Bool → List ℕ → List ℕ → List ℕ → List ℕ → List ℕ → Counted
-readCall k schema r ws out counts =
-    onResult (schemaOf k schema) (unchangedBoth out counts) (λ ts. readRow k ts r ws out counts)
+-- 02, request 5: "On a read or edit the row's own mark tells the sort", also the sort by whose limit 2 is judged
+abbrev pub readCall : List ℕ → List ℕ → List ℕ → List ℕ → List ℕ → Counted
+readCall schema r ws out counts =
+    onResult (schemaOf (isLong r) schema) (unchangedBoth out counts) (λ ts. readRow (isLong r) ts r ws out counts)

@@ -8,7 +8,6 @@ use row_column::Frame;
 use row_layout::RowLayout;
 use slot_record::Recorded;
 ghost use mathlib.Core.Path.{_≡_};
-ghost use mathlib.Core.Bool.{false};
 ghost use Prim.Native.Nat.{_≤_};
 ghost use lib.ListN.{length, set};
 ghost use lib.Seq.{sets};
@@ -266,7 +265,7 @@ fn decode_row(
 }
 
 // The wanted columns of a row, by their numbers in any order; unknown numbers are ignored, and the other columns read
-// as null. A count for each column: the code points of a wanted text, else 0.
+// as null. A count for each column: the code points of a wanted text, else 0. The row's own mark tells its sort.
 pub fn decode(
     schema: &[u8],
     row: &[u8],
@@ -275,13 +274,14 @@ pub fn decode(
     counts: &mut [u32],
 ) -> Answer
     ensures { λ r. ⌜ (r, (now (out .exit), now (counts .exit)))
-        ≡ readCall false (now (schema .entry)) (now (row .entry)) (now (wanted .entry))
+        ≡ readCall (now (schema .entry)) (now (row .entry)) (now (wanted .entry))
         (now (out .entry)) (now (counts .entry)) ⌝ }
 {
-    match datatype::check_schema(schema, false) {
+    let is_long = row_layout::is_long(row);
+    match datatype::check_schema(schema, is_long) {
         SchemaCheck::Refused(e) => Answer::Refused(e),
         SchemaCheck::Good(layout) => {
-            decode_row(schema, layout.of_sort(false), row, wanted, out, counts)
+            decode_row(schema, layout.of_sort(is_long), row, wanted, out, counts)
         }
     }
 }

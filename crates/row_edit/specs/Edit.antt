@@ -1,5 +1,6 @@
 -- 01, "What each call hands back": Set: "1, 2, 14 (row length), 15, 9, 10 (exactly one record), 11, 12, 13, 14. Set
--- null: 1, 2, 14, 15, 9." The row is the first n bytes of the lent buffer, of sort k. FORMAT 8.4, 8.5.
+-- null: 1, 2, 14, 15, 9." The row is the first n bytes of the lent buffer, of sort k; 02, request 5: "On a read or edit
+-- the row's own mark tells the sort, and a row under four bytes or past its buffer counts as short." FORMAT 8.4, 8.5.
 use Prim.Native.Nat.{ℕ}
 use mathlib.Core.Bool.{Bool, cond}
 use mathlib.Core.List.{List, map}
@@ -13,6 +14,7 @@ use Rattle.error.specs.Answer.{Outcome, unchanged}
 use Rattle.error.specs.Result.{Result, refused, onResult}
 use Rattle.row_format.specs.Places.{offsetWidth}
 use Rattle.row_format.specs.Table.{Cell}
+use Rattle.row_format.specs.Header.{sortIn}
 use Rattle.row_format.specs.Edit.{editedRow}
 use Rattle.datatype.specs.declared.DataType.{DataType}
 use Rattle.datatype.specs.Types.{shapeOf}
@@ -66,11 +68,14 @@ abbrev pub written : Bool → List DataType → Bool → List ℕ → ℕ → �
 written k ts p buf n i form =
     onResult form (unchanged buf) (λ b. rowPlaced k buf (edited (offsetWidth k) ts p buf n i (some b)))
 
-abbrev pub setCall : Bool → List ℕ → List ℕ → ℕ → ℕ → List ℕ → List ℕ → Outcome
-setCall k schema buf n i list area =
-    opened k schema buf n i (λ ts p. written k ts p buf n i (given k (typeAt ts i) i list area))
+-- the sort is looked at before the schema: 2, 10 and 13 go by it
+abbrev pub setCall : List ℕ → List ℕ → ℕ → ℕ → List ℕ → List ℕ → Outcome
+setCall schema buf n i list area =
+    opened (sortIn buf n) schema buf n i
+    (λ ts p. written (sortIn buf n) ts p buf n i (given (sortIn buf n) (typeAt ts i) i list area))
 
 -- a null takes no room
-abbrev pub setNullCall : Bool → List ℕ → List ℕ → ℕ → ℕ → Outcome
-setNullCall k schema buf n i =
-    opened k schema buf n i (λ ts p. rowStored buf (edited (offsetWidth k) ts p buf n i none))
+abbrev pub setNullCall : List ℕ → List ℕ → ℕ → ℕ → Outcome
+setNullCall schema buf n i =
+    opened (sortIn buf n) schema buf n i
+    (λ ts p. rowStored buf (edited (offsetWidth (sortIn buf n)) ts p buf n i none))

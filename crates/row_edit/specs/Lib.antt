@@ -1,2 +1,3 @@
 pub mod Edit
 pub mod InnerOpened
+pub mod Marks

@@ -1,5 +1,5 @@
-// row.rs, `set_value` and `set_null`, on the row in the first bytes of a lent buffer. All tests come before the first
-// store.
+// row.rs, `set_value` and `set_null`, on the row in the first bytes of a lent buffer. The row's own mark tells its
+// sort. All tests come before the first store.
 use datatype::SchemaCheck;
 use error::Answer;
 use error::Refusal;
@@ -334,10 +334,11 @@ pub fn set_value(
     text: &[u8],
 ) -> Answer
     ensures { λ r. ⌜ (r, now (buf .exit))
-        ≡ setCall false (now (schema .entry)) (now (buf .entry)) «row_length» column
+        ≡ setCall (now (schema .entry)) (now (buf .entry)) «row_length» column
         (now (values .entry)) (now (text .entry)) ⌝ }
 {
-    match datatype::check_schema(schema, false) {
+    let is_long = row_layout::sort_in(buf, row_length);
+    match datatype::check_schema(schema, is_long) {
         SchemaCheck::Refused(e) => Answer::Refused(e),
         SchemaCheck::Good(layout) => {
             set_checked(schema, layout, buf, row_length, column, values, text)
@@ -348,9 +349,10 @@ pub fn set_value(
 // The column set to null. The slot of a fixed column stays as it is.
 pub fn set_null(schema: &[u8], buf: &mut [u8], row_length: usize, column: usize) -> Answer
     ensures { λ r. ⌜ (r, now (buf .exit))
-        ≡ setNullCall false (now (schema .entry)) (now (buf .entry)) «row_length» column ⌝ }
+        ≡ setNullCall (now (schema .entry)) (now (buf .entry)) «row_length» column ⌝ }
 {
-    match datatype::check_schema(schema, false) {
+    let is_long = row_layout::sort_in(buf, row_length);
+    match datatype::check_schema(schema, is_long) {
         SchemaCheck::Refused(e) => Answer::Refused(e),
         SchemaCheck::Good(layout) => null_checked(schema, layout, buf, row_length, column),
     }

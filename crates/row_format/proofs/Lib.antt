@@ -12,3 +12,5 @@ pub mod Cells
 pub mod Rising
 pub mod Sizes
 pub mod Sorts
+pub mod Header
+pub mod Front

@@ -3,10 +3,10 @@ use Prim.Native.Nat.{ℕ, _+_, _*_, _%_, _^_, _≤_, _<_}
 use mathlib.Core.Path.{_≡_}
 use mathlib.Core.Bool.{Bool, true, false}
 use native.Mathlib.Omega.{arith}
-use borrow.Author.Tests.{le-leb}
+use borrow.Author.Tests.{le-leb, lt-leb}
 use lib.Dec.{leb}
 use Rattle.row_format.specs.Places.{offsetWidth, rowLimit}
-use Rattle.row_format.specs.Row.{packedFlag, packedMarks, leastMark}
+use Rattle.row_format.specs.Row.{packedFlag, longFlag, packedMarks, leastMark}
 
 pub width-le : (k : Bool) → offsetWidth k ≤ 4
 width-le false = omega arith
@@ -48,3 +48,7 @@ marks-count true h = omega arith
 pub marks-packed : (k : Bool) (v : ℕ) → leb packedFlag (v + packedMarks k) ≡ true
 marks-packed false v = le-leb packedFlag (v + packedMarks false) (omega arith)
 marks-packed true v = le-leb packedFlag (v + packedMarks true) (omega arith)
+
+pub marks-long : (k : Bool) {v : ℕ} → v < 16384 → leb longFlag ((v + packedMarks k) % packedFlag) ≡ k
+marks-long false {v} h = lt-leb longFlag ((v + packedMarks false) % packedFlag) (omega arith)
+marks-long true {v} h = le-leb longFlag ((v + packedMarks true) % packedFlag) (omega arith)

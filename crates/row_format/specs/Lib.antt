@@ -2,6 +2,7 @@ pub mod Places
 pub mod InnerAligned
 pub mod Table
 pub mod Row
+pub mod Header
 pub mod Edit
 pub mod Zeroed
 pub mod InnerRising

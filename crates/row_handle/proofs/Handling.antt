@@ -13,7 +13,7 @@ use Rattle.error.specs.declared.Answer.{Answer}
 use Rattle.error.specs.Answer.{Outcome}
 use Rattle.row_format.specs.Row.{packedFlag}
 use Rattle.row_layout.specs.declared.RowLayout.{RowLayout}
-use Rattle.row_column.specs.Frame.{isPacked, varlenField}
+use Rattle.row_format.specs.Header.{isPacked, varlenField}
 use Rattle.row_handle.specs.declared.RowHandle.{RowHandle}
 use Rattle.row_handle.specs.Handle.{geometry, handleAfter, handled}
 

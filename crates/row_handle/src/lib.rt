@@ -1,24 +1,24 @@
 // row.rs, `&mut self` of `Row`: a handle of a row's length and layout. Here it goes in and comes back by value, with
 // all the branches; the two functions over a lent handle (rook_row) call these. The row is the buffer's first
-// `length` bytes. The layout that comes in is never read.
+// `length` bytes, and its own mark tells its sort. The layout that comes in is never read.
 use datatype::SchemaCheck;
 use error::Answer;
 use row_layout::RowLayout;
 ghost use mathlib.Core.Path.{_≡_};
-ghost use mathlib.Core.Bool.{false};
 ghost use Rattle.row_layout.specs.Layout.{sizeIn};
-ghost use Rattle.row_column.specs.Frame.{isPacked};
+ghost use Rattle.row_format.specs.Header.{isPacked};
 ghost use Rattle.row_handle.specs.Handle.{geometry, handleAfter, handleSet, handleSetNull};
 
 // The geometry of a row of a schema: how many columns, how many Varchars, the bytes of the fixed columns, packed or
-// padded as the row's flag says, and that flag, 1 for packed and 0 for padded. It is a `usize`, since a lent struct
-// has no padding: no contract would say what a call leaves there.
+// padded as the row's flag says, and both marks, 1 for packed and 0 for padded, 1 for long and 0 for short. Each is a
+// `usize`, since a lent struct has no padding: no contract would say what a call leaves there.
 #[repr(C)]
 pub struct HandleLayout {
     pub num_columns: usize,
     pub num_varlen_cols: usize,
     pub fixed_size: usize,
     pub packed: usize,
+    pub is_long: usize,
 }
 
 #[repr(C)]
@@ -61,6 +61,7 @@ fn geometry_of(layout: RowLayout, packed: bool) -> HandleLayout
         num_varlen_cols: layout.num_varlen_cols,
         fixed_size: fixed_size(layout, packed),
         packed: packed as usize,
+        is_long: layout.is_long as usize,
     }
 }
 
@@ -87,10 +88,11 @@ pub fn with_value(
     text: &[u8],
 ) -> Edited
     ensures { λ r. ⌜ (r .answer, (now (buf .exit), r .handle))
-        ≡ handleSet false (now (schema .entry)) (now (buf .entry)) handle column
+        ≡ handleSet (now (schema .entry)) (now (buf .entry)) handle column
         (now (values .entry)) (now (text .entry)) ⌝ }
 {
-    match datatype::check_schema(schema, false) {
+    let is_long = row_layout::sort_in(buf, handle.length);
+    match datatype::check_schema(schema, is_long) {
         SchemaCheck::Refused(e) => Edited {
             answer: Answer::Refused(e),
             handle,
@@ -107,9 +109,10 @@ pub fn with_value(
 // The column set to null.
 pub fn with_null(schema: &[u8], buf: &mut [u8], handle: RowHandle, column: usize) -> Edited
     ensures { λ r. ⌜ (r .answer, (now (buf .exit), r .handle))
-        ≡ handleSetNull false (now (schema .entry)) (now (buf .entry)) handle column ⌝ }
+        ≡ handleSetNull (now (schema .entry)) (now (buf .entry)) handle column ⌝ }
 {
-    match datatype::check_schema(schema, false) {
+    let is_long = row_layout::sort_in(buf, handle.length);
+    match datatype::check_schema(schema, is_long) {
         SchemaCheck::Refused(e) => Edited {
             answer: Answer::Refused(e),
             handle,

@@ -6,6 +6,7 @@ ghost use lib.ListN.{length};
 ghost use lib.Seq.{sets};
 ghost use Rattle.row_format.specs.Places.{roundUp, startAt, bitmapStart, tableStart, fixedStart, offsetWidth, rowLimit};
 ghost use Rattle.row_format.specs.Row.{packedMarks, leastMark};
+ghost use Rattle.row_format.specs.Header.{isLong, sortIn};
 ghost use Rattle.row_format.specs.Table.{rangeEnd};
 ghost use Rattle.laws.specs.Bytes.{toLe, entryAt};
 ghost use Rattle.row_layout.specs.Layout.{sizeIn};
@@ -66,6 +67,27 @@ pub fn packed_marks(is_long: bool) -> u16
     ensures { λ r. ⌜ (r ≡ packedMarks «is_long») × (r ≤ 0xC000) ⌝ }
 {
     if is_long { 0xC000 } else { 0x8000 }
+}
+
+// The sort that a row's own mark tells.
+pub fn is_long(row: &[u8]) -> bool
+    ensures { λ r. ⌜ r ≡ isLong (now (row .entry)) ⌝ }
+{
+    if row.len() < 4 {
+        return false;
+    }
+    let field = endian::read_u16(row, 2);
+    RowLayout::LONG_LAYOUT_FLAG <= field % RowLayout::PACKED_LAYOUT_FLAG
+}
+
+// The same of the row in the first n bytes of a buffer; one past its end counts as short.
+pub fn sort_in(buf: &[u8], n: usize) -> bool
+    ensures { λ r. ⌜ r ≡ sortIn (now (buf .entry)) n ⌝ }
+{
+    if buf.len() < n {
+        return false;
+    }
+    is_long(&buf[..n])
 }
 
 impl RowLayout {

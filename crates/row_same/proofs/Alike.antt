@@ -11,7 +11,7 @@ use lib.Seq.{length-take-le, drop-drop}
 use Rattle.laws.proofs.Same.{same-eq}
 use Rattle.laws.proofs.Lent.{drop-take}
 use Rattle.error.specs.declared.Flag.the-variants.{Is}
-use Rattle.row_format.specs.Places.{tableStart, fixedStart, startAt, offsetWidth}
+use Rattle.row_format.specs.Places.{tableStart, startAt, offsetWidth}
 use Rattle.row_format.proofs.Places.{all-at, start-ge}
 use Rattle.row_layout.specs.declared.RowLayout.{RowLayout}
 use Rattle.row_layout.specs.declared.VarlenRange.{VarlenRange}
@@ -36,8 +36,8 @@ use Rattle.row_sound.specs.Sound.{reads}
 use Rattle.row_sound.proofs.Slots.{so-many}
 use Rattle.row_reads.proofs.Reading.{range-inside}
 use Rattle.row_same.specs.InnerWalk.{compared}
-use Rattle.row_same.specs.InnerStored.{alikeRanges, fixedPart, rangeIn, isMarked, presentAlike, storedAlike}
-use Rattle.row_same.specs.InnerStored.{Beside}
+use Rattle.row_same.specs.InnerStored.{alikeRanges, rangeIn, fixedIn, fixedPart, isMarked}
+use Rattle.row_same.specs.InnerStored.{presentAlike, storedAlike, Beside}
 
 module _ (t : DataType) (i : ℕ) (a b : List ℕ) where
   abbrev Same : ColumnRead → ColumnRead → Type 0
@@ -105,19 +105,16 @@ module _ (base sx st z : ℕ) (r : List ℕ) (h : sx ≤ st) (k : base + st + z 
   part-length =
       length-take-le (base + (st + z) - (base + sx)) (drop (base + sx) r) (rw length-drop (omega arith)) ∙ omega arith
 
--- the column of type t after those of layout x, in rows with layout l
-module _ (l x : RowLayout) (t : DataType) where
-  abbrev base : ℕ
-  base = fixedStart (offsetWidth (l .«is_long»)) (l .«num_columns») (l .«num_varlen_cols»)
-
+-- the column of type t after those of layout x
+module _ (x : RowLayout) (t : DataType) where
   abbrev start : Bool → ℕ
   start p = startAt p (alignmentOf t) (sizeIn x p)
 
-  pub beside : {p : Bool} {r : List ℕ} {y : RowLayout} → Reachable l p x t r → y ≡ withColumn x (shapeOf t)
-      → Beside l x y p r
-  beside {p} {r} {y} h e = of (isVarlen t) refl
+  pub beside : {l : RowLayout} {p : Bool} {r : List ℕ} {y : RowLayout} → Reachable l p x t r
+      → y ≡ withColumn x (shapeOf t) → Beside x y l p r
+  beside {l} {p} {r} {y} h e = of (isVarlen t) refl
     where
-      of : (v : Bool) → isVarlen t ≡ v → Beside l x y p r
+      of : (v : Bool) → isVarlen t ≡ v → Beside x y l p r
       of true v =
           let n : y .«num_varlen_cols» ≡ x .«num_varlen_cols» + 1 = rw (e, v) in
           record {
@@ -140,7 +137,8 @@ module _ (l x : RowLayout) (t : DataType) where
             slot = λ k. omega (arith, z, h .slot v);
           }
 
-  module _ (p : Bool) (a : List ℕ) (q : Bool) (b : List ℕ) (h : Reachable l p x t a) (k : Reachable l q x t b) where
+  module _ {l : RowLayout} {p : Bool} {a : List ℕ} {m : RowLayout} {q : Bool} {b : List ℕ} (h : Reachable l p x t a)
+      (k : Reachable m q x t b) where
     abbrev y : RowLayout
     y = withColumn x (shapeOf t)
 
@@ -148,47 +146,50 @@ module _ (l x : RowLayout) (t : DataType) where
     i = x .«num_columns»
 
     -- the part that ends with the slot, by the place of the slot
-    abbrev partTo : Bool → List ℕ → List ℕ
-    partTo o r = take (base + (start o + sizeOf t) - (base + sizeIn x o)) (drop (base + sizeIn x o) r)
+    abbrev partTo : RowLayout → Bool → List ℕ → List ℕ
+    partTo n o r = take (fixedIn n + (start o + sizeOf t) - (fixedIn n + sizeIn x o)) (drop (fixedIn n + sizeIn x o) r)
 
-    slots-alike : isVarlen t ≡ false → fixedPart l x y p a ≡ fixedPart l x y q b
-        → take (sizeOf t) (drop (walkedPlace l p x t) a) ≡ take (sizeOf t) (drop (walkedPlace l q x t) b)
+    slots-alike : isVarlen t ≡ false → fixedPart x y l p a ≡ fixedPart x y m q b
+        → take (sizeOf t) (drop (walkedPlace l p x t) a) ≡ take (sizeOf t) (drop (walkedPlace m q x t) b)
     slots-alike v e =
         let z : ℕ = sizeOf t in
         let f : sizeIn x p ≤ start p = starts-ge x t p v in
         let g : sizeIn x q ≤ start q = starts-ge x t q v in
-        let m : partTo p a ≡ partTo q b = rw (size-with x t p v, size-with x t q v) at e in
-        let u = part-length base (sizeIn x p) (start p) z a f (h .slot v) in
-        let w = part-length base (sizeIn x q) (start q) z b g (k .slot v) in
-        let d : start p - sizeIn x p ≡ start q - sizeIn x q = omega (arith, sym u ∙ ap length m ∙ w) in
-        sym (slot-part base (sizeIn x p) (start p) z a f (h .slot v))
-        ∙ rw (d, m) (slot-part base (sizeIn x q) (start q) z b g (k .slot v))
+        let n : partTo l p a ≡ partTo m q b = rw (size-with x t p v, size-with x t q v) at e in
+        let u = part-length (fixedIn l) (sizeIn x p) (start p) z a f (h .slot v) in
+        let w = part-length (fixedIn m) (sizeIn x q) (start q) z b g (k .slot v) in
+        let d : start p - sizeIn x p ≡ start q - sizeIn x q = omega (arith, sym u ∙ ap length n ∙ w) in
+        sym (slot-part (fixedIn l) (sizeIn x p) (start p) z a f (h .slot v))
+        ∙ rw (d, n) (slot-part (fixedIn m) (sizeIn x q) (start q) z b g (k .slot v))
 
-    abbrev present : Bool → Bool → List ℕ → ColumnRead
-    present v o r =
-        cond v (varlenValue t i r (rangeIn l x r))
-        (readBytes t i r (walkedPlace l o x t) (walkedPlace l o x t + sizeOf t))
+    abbrev present : Bool → RowLayout → Bool → List ℕ → ColumnRead
+    present v n o r =
+        cond v (varlenValue t i r (rangeIn (x .«num_varlen_cols») n r))
+        (readBytes t i r (walkedPlace n o x t) (walkedPlace n o x t + sizeOf t))
 
-    present-alike : (v : Bool) → isVarlen t ≡ v → presentAlike l x y p a q b ≡ true
-        → Same t i a b (present v p a) (present v q b)
+    inside : (n : RowLayout) (r : List ℕ) → Inside r (rangeIn (x .«num_varlen_cols») n r)
+    inside n r =
+        range-inside (offsetWidth (n .«is_long»)) (tableStart (n .«num_columns»)) (n .«num_varlen_cols»)
+        (x .«num_varlen_cols») r
+
+    present-alike : (v : Bool) → isVarlen t ≡ v → presentAlike x y l p a m q b ≡ true
+        → Same t i a b (present v l p a) (present v m q b)
     present-alike true v e =
-        let table : ℕ = tableStart (l .«num_columns») in
         let rank : ℕ = x .«num_varlen_cols» in
         let n : ltb rank (y .«num_varlen_cols») ≡ true = lt-ltb rank (y .«num_varlen_cols») (rw v (omega arith)) in
-        ranges-alike t i a b (rangeIn l x a) (rangeIn l x b) (range-inside (offsetWidth (l .«is_long»)) table (l .«num_varlen_cols») rank a)
-        (range-inside (offsetWidth (l .«is_long»)) table (l .«num_varlen_cols») rank b) (rw n at e)
+        ranges-alike t i a b (rangeIn rank l a) (rangeIn rank m b) (inside l a) (inside m b) (rw n at e)
     present-alike false v e =
         let z : ℕ = sizeOf t in
         let s : ℕ = walkedPlace l p x t in
-        let u : ℕ = walkedPlace l q x t in
+        let u : ℕ = walkedPlace m q x t in
         let rank : ℕ = x .«num_varlen_cols» in
         let n : ltb rank (y .«num_varlen_cols») ≡ false = le-ltb rank (y .«num_varlen_cols») (rw v (omega arith)) in
-        let m = same-eq (fixedPart l x y p a) (fixedPart l x y q b) (rw n at e) in
+        let f = same-eq (fixedPart x y l p a) (fixedPart x y m q b) (rw n at e) in
         bytes-alike t i a b s (s + z) u (u + z) (omega arith) (h .slot v) (omega arith) (k .slot v)
-        (rw (so-many s z, so-many u z) (slots-alike v m))
+        (rw (so-many s z, so-many u z) (slots-alike v f))
 
-    pub stored-alike : storedAlike l x y p a q b ≡ true → reads (walkedColumn l p x t a) ≡ true
-        → compared t a (walkedColumn l p x t a) b (walkedColumn l q x t b) ≡ Is true
+    pub stored-alike : storedAlike x y l p a m q b ≡ true → reads (walkedColumn l p x t a) ≡ true
+        → compared t a (walkedColumn l p x t a) b (walkedColumn m q x t b) ≡ Is true
     stored-alike =
-        marked-alike t i a b (isMarked x a) (isMarked x b) (presentAlike l x y p a q b) _ _
+        marked-alike t i a b (isMarked x a) (isMarked x b) (presentAlike x y l p a m q b) _ _
         (present-alike (isVarlen t) refl)

@@ -1,25 +1,32 @@
 -- The walk over both rows gives what reading both and comparing their values gives.
 use Prim.Native.Nat.{ℕ}
 use mathlib.Core.Path.{_≡_, refl, sym, ap, ap₂, _∙_, subst}
-use mathlib.Core.Bool.{Bool, true, false}
-use mathlib.Core.List.{List, _∷_}
+use mathlib.Core.Bool.{Bool, true, false, cond}
+use mathlib.Core.List.{List, _∷_, map}
 use native.Mathlib.Omega.{arith}
+use lib.Dec.{ltb}
 use lib.ListN.{length}
 use Rattle.error.specs.declared.Refusal.{Refusal}
+use Rattle.error.specs.declared.Refusal.the-variants.{BadSchema}
 use Rattle.error.specs.declared.Flag.{Flag}
 use Rattle.error.specs.declared.Flag.the-variants.{Is, Refused}
-use Rattle.error.specs.Result.{ok, refused}
-use Rattle.row_format.specs.Places.{offsetWidth}
+use Rattle.error.specs.Result.{ok, refused, onResult}
+use Rattle.row_format.specs.Places.{offsetWidth, rowLimit, minimum}
+use Rattle.row_format.specs.Header.{isLong}
 use Rattle.row_layout.specs.declared.RowLayout.{RowLayout}
+use Rattle.row_layout.specs.InnerLayout.{Bounded, ofSort}
 use Rattle.datatype.specs.declared.DataType.{DataType}
-use Rattle.datatype.specs.Types.{lengthOf}
-use Rattle.datatype.specs.Check.{layoutFor}
+use Rattle.datatype.specs.declared.SchemaCheck.the-variants as Check
+use Rattle.datatype.specs.Types.{lengthOf, shapeOf}
+use Rattle.datatype.specs.Schema.{Parsed, limited, schemaOf}
+use Rattle.datatype.specs.Check.{layoutFor, typesIn}
+use Rattle.datatype.specs.InnerCheck.{Accepted, checkedSchema, finished}
+use Rattle.datatype.proofs.Accept.{accepted, on-good, on-refused}
 use Rattle.value.specs.declared.DataValue.{DataValue}
 use Rattle.value.specs.Ranges.{textOf}
 use Rattle.value_list.specs.Lists.{Values}
 use Rattle.value_same.specs.Same.{sameContent}
 use Rattle.row_column.specs.declared.Frame.{Frame}
-use Rattle.row_column.specs.declared.Frame.the-variants as Frame
 use Rattle.row_column.specs.declared.ColumnRead.{ColumnRead}
 use Rattle.row_column.specs.declared.ColumnRead.the-variants as Column
 use Rattle.row_column.specs.Frame.{onFrame}
@@ -30,33 +37,68 @@ use Rattle.row_decode.specs.Read.{onColumn, readFrom}
 use Rattle.row_decode.proofs.Walk.{read-walked}
 use Rattle.row_sound.specs.Sound.{reads}
 use Rattle.row_reads.specs.InnerReads.{readAll}
-use Rattle.row_same.specs.Rows.{allColumns, sameValues, onValues, sameRows}
-use Rattle.row_same.specs.InnerWalk.{compared, walkedAll, bothRead, AllRead}
+use Rattle.row_same.specs.Rows.{allColumns, sameValues, onValues, valuesRead, sameCall}
+use Rattle.row_same.specs.InnerWalk.{compared, walkedRow, onLimit, limitedRow, bothRead, AllRead}
 
 -- ---- the headers, where the layout of the columns ts is known as l
 
-module _ (ts : List DataType) {l : RowLayout} (e : layoutFor (l .«is_long») ts ≡ l) where
-  abbrev behind : List ℕ → Frame → Values
-  behind r g = onFrame g refused (walkedAll ts l r)
+all-walked : (ts : List DataType) {l : RowLayout} → layoutFor (l .«is_long») ts ≡ l → (r : List ℕ)
+    → walkedRow ts l r ≡ allColumns (l .«is_long») ts r
+all-walked ts {l} e r =
+    same-good (walkedFrame l r) refused (λ p g. read-walked (l .«is_long») p ts (λ i. true) r e)
+    ∙ ap (λ (f : Frame). onFrame f refused (λ p. readFrom (offsetWidth (l .«is_long»)) p ts (λ i. true) r 0 (length ts)))
+    (sym (frame-walked ts r e))
 
-  all-walked : (r : List ℕ) → behind r (walkedFrame l r) ≡ allColumns (l .«is_long») ts r
-  all-walked r =
-      same-good (walkedFrame l r) refused (λ p g. read-walked (l .«is_long») p ts (λ i. true) r e)
-      ∙ ap (λ (f : Frame). onFrame f refused (λ p. readFrom (offsetWidth (l .«is_long»)) p ts (λ i. true) r 0 (length ts)))
-      (sym (frame-walked ts r e))
+-- ---- a schema that was accepted for rows of one sort: for every other only the limit is left
 
-  module _ (a b : List ℕ) where
-    known : {g : Frame} → walkedFrame l a ≡ g
-        → bothRead ts a (behind a g) b (behind b (walkedFrame l b)) ≡ sameRows (l .«is_long») ts a b
-    known f = ap₂ (λ (x y : Values). bothRead ts a x b y) (ap (behind a) (sym f) ∙ all-walked a) (all-walked b)
+pub accepted-sort : {s : List ℕ} {l : RowLayout} (k : Bool) → Accepted s l → Accepted s (ofSort k l)
+accepted-sort k h =
+    let b = h .bounded in
+    record {
+      schema = h .schema;
+      layout = ap (ofSort k) (h .layout);
+      bounded = record { few = b .few; ranked = b .ranked; tight = b .tight; wide = b .wide };
+    }
 
-    pub rows-good : {p : Bool} → walkedFrame l a ≡ Frame.Good p
-        → bothRead ts a (walkedAll ts l a p) b (behind b (walkedFrame l b)) ≡ sameRows (l .«is_long») ts a b
-    rows-good f = known f
+on-limit : (t : Bool) (e : Refusal) (l : RowLayout) (ts : List DataType) (f : List DataType → Values)
+    → onLimit (cond t (Check.Refused e) (Check.Good l)) (f ts) ≡ onResult (cond t (refused e) (ok ts)) refused f
+on-limit true e l ts f = refl
+on-limit false e l ts f = refl
 
-    pub rows-refused : {r : Refusal} → walkedFrame l a ≡ Frame.Refused r
-        → Refused r ≡ sameRows (l .«is_long») ts a b
-    rows-refused f = known f
+limited-read : {s : List ℕ} {l : RowLayout} → Accepted s l → (f : List DataType → Values)
+    → onLimit (finished (length s) l) (f (typesIn s)) ≡ onResult (schemaOf (l .«is_long») s) refused f
+unfolding schemaOf
+limited-read {s} {l} h f =
+    let k : Bool = l .«is_long» in
+    let ts : List DataType = typesIn s in
+    ap (λ (x : RowLayout). onLimit (finished (length s) x) (f ts)) (sym (h .layout))
+    ∙ on-limit (ltb (rowLimit k) (minimum (offsetWidth k) false (map shapeOf ts))) (BadSchema (length s))
+    (layoutFor k ts) ts f
+    ∙ ap (λ (p : Parsed). onResult (limited k (length s) p) refused f) (sym (h .schema))
+
+-- both rows, each with the layout of its own sort
+pub both-walked : (s a b : List ℕ) {l : RowLayout} → checkedSchema (isLong a) (schemaOf (isLong a) s) ≡ Check.Good l
+    → Bounded l
+    → bothRead (typesIn s) a (walkedRow (typesIn s) (ofSort (isLong a) l) a) b (limitedRow s (ofSort (isLong b) l) b)
+    ≡ sameCall s a b
+both-walked s a b {l} good small =
+    ap₂ (λ (x y : Values). bothRead (typesIn s) a x b y) (walked a ∙ on-good (isLong a) s good refused (columns a))
+    (ap (onLimit (finished (length s) (ofSort (isLong b) l))) (walked b) ∙ limited-read (known (isLong b)) (columns b))
+  where
+    known : (k : Bool) → Accepted s (ofSort k l)
+    known k = accepted-sort k (accepted (isLong a) s good small)
+
+    columns : List ℕ → List DataType → Values
+    columns r ts = allColumns (isLong r) ts r
+
+    walked : (r : List ℕ) → walkedRow (typesIn s) (ofSort (isLong r) l) r ≡ columns r (typesIn s)
+    walked r = all-walked (typesIn s) (known (isLong r) .layout) r
+
+pub schema-refused : (s a b : List ℕ) {e : Refusal} → checkedSchema (isLong a) (schemaOf (isLong a) s) ≡ Check.Refused e
+    → Refused e ≡ sameCall s a b
+schema-refused s a b f =
+    ap (λ (x : Values). bothRead (typesIn s) a x b (valuesRead s b))
+    (on-refused (isLong a) (schemaOf (isLong a) s) refused _ f)
 
 -- ---- a row that is refused as a whole
 

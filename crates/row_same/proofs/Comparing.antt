@@ -1,6 +1,6 @@
 -- The walk that compares two rows: the columns that are left decide, while all were the same so far.
 use Prim.Native.Nat.{ℕ, _+_, _≤_, _<_}
-use mathlib.Core.Path.{_≡_, refl, sym, ap, _∙_, subst}
+use mathlib.Core.Path.{_≡_, refl, sym, ap, _∙_}
 use mathlib.Core.Bool.{Bool, true, false}
 use mathlib.Core.List.{List, [], _∷_}
 use native.Mathlib.Omega.{arith}
@@ -25,46 +25,45 @@ use Rattle.row_column.specs.InnerWalk.{Framed, walkedColumn, Reachable}
 use Rattle.row_column.proofs.Reach.{reach-next}
 use Rattle.row_decode.specs.Read.{onColumn}
 use Rattle.row_decode.specs.InnerWalk.{walkedRead}
-use Rattle.row_sound.specs.Sound.{reads}
 use Rattle.row_reads.specs.InnerReads.{readAll}
 use Rattle.row_same.specs.Rows.{sameValues, onValues}
 use Rattle.row_same.specs.InnerWalk.{compared, walkedAll, bothRead, AllRead}
 use Rattle.row_same.specs.InnerStored.{storedAlike, Beside}
 use Rattle.row_same.proofs.Alike.{beside, stored-alike}
-use Rattle.row_same.proofs.Compared.{reads-first, Later, column-refused, column-other, column-same}
+use Rattle.row_same.proofs.Compared.{reads-first, column-refused, column-other, column-same}
 
-module _ (s : List ℕ) (l : RowLayout) where
-  -- the columns of a row r that come after those of layout x, and the whole answer
-  abbrev pub left : Bool → List ℕ → RowLayout → Values
-  left p r x = walkedRead l p (λ i. true) r x (drop (x .«num_columns») (typesIn s))
+module _ (s : List ℕ) where
+  -- the columns of a row r with layout l that come after those of layout x, and the whole answer
+  abbrev pub left : RowLayout → Bool → List ℕ → RowLayout → Values
+  left l p r x = walkedRead l p (λ i. true) r x (drop (x .«num_columns») (typesIn s))
 
-  abbrev pub whole : Bool → List ℕ → Bool → List ℕ → Flag
-  whole p a q b = bothRead (typesIn s) a (walkedAll (typesIn s) l a p) b (walkedAll (typesIn s) l b q)
+  abbrev pub whole : RowLayout → Bool → List ℕ → RowLayout → Bool → List ℕ → Flag
+  whole l p a m q b = bothRead (typesIn s) a (walkedAll (typesIn s) l a p) b (walkedAll (typesIn s) m b q)
 
-pub record Comparing (s : List ℕ) (l : RowLayout) (p : Bool) (a : List ℕ) (q : Bool) (b : List ℕ) (x : RowLayout)
-    (at : ℕ) : Type 0 where
+pub record Comparing (s : List ℕ) (l : RowLayout) (p : Bool) (a : List ℕ) (m : RowLayout) (q : Bool) (b : List ℕ)
+    (x : RowLayout) (at : ℕ) : Type 0 where
   pub walk : Ahead s x at
   pub values : List DataValue
   pub firsts : left s l p a x ≡ ok values
-  pub rest : onValues (left s l q b x) (λ us. Is (sameValues (drop (x .«num_columns») (typesIn s)) a values b us))
-      ≡ whole s l p a q b
+  pub rest : onValues (left s m q b x) (λ us. Is (sameValues (drop (x .«num_columns») (typesIn s)) a values b us))
+      ≡ whole s l p a m q b
 
-module _ {s : List ℕ} {l : RowLayout} {p : Bool} {a : List ℕ} {q : Bool} {b : List ℕ} where
-  pub compare-start : Framed s l p a → AllRead (walkedAll (typesIn s) l a p) → Comparing s l p a q b noColumns 0
+module _ {s : List ℕ} {l : RowLayout} {p : Bool} {a : List ℕ} {m : RowLayout} {q : Bool} {b : List ℕ} where
+  pub compare-start : Framed s l p a → AllRead (walkedAll (typesIn s) l a p) → Comparing s l p a m q b noColumns 0
   compare-start d h = of (walkedAll (typesIn s) l a p) refl h
     where
-      of : (ws : Values) → walkedAll (typesIn s) l a p ≡ ws → AllRead ws → Comparing s l p a q b noColumns 0
+      of : (ws : Values) → walkedAll (typesIn s) l a p ≡ ws → AllRead ws → Comparing s l p a m q b noColumns 0
       of (ok vs) e h =
           record {
             walk = ahead-start (d .accepted .schema);
             values = vs;
             firsts = e;
-            rest = sym (ap (λ (ws : Values). bothRead (typesIn s) a ws b (walkedAll (typesIn s) l b q)) e);
+            rest = sym (ap (λ (ws : Values). bothRead (typesIn s) a ws b (walkedAll (typesIn s) m b q)) e);
           }
       of (refused r) e h = absurd h
 
-  module _ {x : RowLayout} {at : ℕ} (k : Comparing s l p a q b x at) where
-    pub compare-end : length s ≤ at → Is true ≡ whole s l p a q b
+  module _ {x : RowLayout} {at : ℕ} (k : Comparing s l p a m q b x at) where
+    pub compare-end : length s ≤ at → Is true ≡ whole s l p a m q b
     compare-end h =
         let n : x .«num_columns» ≡ length (typesIn s) = ahead-end (k .walk) h in
         let none : drop (x .«num_columns») (typesIn s) ≡ [] =
@@ -82,27 +81,27 @@ module _ {s : List ℕ} {l : RowLayout} {p : Bool} {a : List ℕ} {q : Bool} {b 
       abbrev types : List DataType
       types = drop (x .«num_columns» + 1) (typesIn s)
 
-      abbrev later : Bool → List ℕ → Values
-      later o r = walkedRead l o (λ i. true) r next types
+      abbrev later : RowLayout → Bool → List ℕ → Values
+      later n o r = walkedRead n o (λ i. true) r next types
 
       abbrev first : ColumnRead
       first = walkedColumn l p x t a
 
       abbrev second : ColumnRead
-      second = walkedColumn l q x t b
+      second = walkedColumn m q x t b
 
       split : drop (x .«num_columns») (typesIn s) ≡ t ∷ types
       split = let n = ahead-column (k .walk) h in rw (ap typeIn (n .is)) (ahead-split (k .walk) h (n .is))
 
-      firsts : onColumn first (later p a) ≡ ok (k .values)
+      firsts : onColumn first (later l p a) ≡ ok (k .values)
       firsts = rw split at (k .firsts)
 
-      rest : onValues (onColumn second (later q b)) (λ us. Is (sameValues (t ∷ types) a (k .values) b us))
-          ≡ whole s l p a q b
+      rest : onValues (onColumn second (later m q b)) (λ us. Is (sameValues (t ∷ types) a (k .values) b us))
+          ≡ whole s l p a m q b
       rest = rw split at (k .rest)
 
-      pub compare-bad : {e : Refusal} → compared t a first b second ≡ Refused e → Refused e ≡ whole s l p a q b
-      compare-bad c = column-refused t types a b (later q b) first second (later p a) firsts c ∙ rest
+      pub compare-bad : {e : Refusal} → compared t a first b second ≡ Refused e → Refused e ≡ whole s l p a m q b
+      compare-bad c = column-refused t types a b (later m q b) first second (later l p a) firsts c ∙ rest
 
       module _ {y : Step} (e : y ≡ passed at x (columnRecordAt s at)) where
         after-is : y .before ≡ next
@@ -110,34 +109,34 @@ module _ {s : List ℕ} {l : RowLayout} {p : Bool} {a : List ℕ} {q : Bool} {b 
             let n = ahead-column (k .walk) h in
             rw (ap typeIn (n .is)) (ap (λ (z : Step). z .before) (step-is (k .walk) h e))
 
-        left-is : (o : Bool) (r : List ℕ) → left s l o r (y .before) ≡ later o r
-        left-is o r = rw after-is
+        left-is : (n : RowLayout) (o : Bool) (r : List ℕ) → left s n o r (y .before) ≡ later n o r
+        left-is n o r = rw after-is
 
         pub compare-other : compared t a first b second ≡ Is false
-            → readAll false (left s l q b (y .before)) ≡ whole s l p a q b
+            → readAll false (left s m q b (y .before)) ≡ whole s l p a m q b
         compare-other c =
-            ap (readAll false) (left-is q b)
-            ∙ column-other t types a b (later q b) first second (later p a) firsts c ∙ rest
+            ap (readAll false) (left-is m q b)
+            ∙ column-other t types a b (later m q b) first second (later l p a) firsts c ∙ rest
 
         pub compare-more : Bounded (y .before) → compared t a first b second ≡ Is true
-            → Comparing s l p a q b (y .before) (y .at)
+            → Comparing s l p a m q b (y .before) (y .at)
         compare-more small c =
-            let m = column-same t types a b (later q b) first second (later p a) firsts c in
+            let n = column-same t types a b (later m q b) first second (later l p a) firsts c in
             record {
               walk = ahead-step (k .walk) h e small;
-              values = m .values;
-              firsts = left-is p a ∙ m .firsts;
-              rest = rw after-is (m .rest ∙ rest);
+              values = n .values;
+              firsts = left-is l p a ∙ n .firsts;
+              rest = rw after-is (n .rest ∙ rest);
             }
 
-        module _ (f : Framed s l p a) (g : Framed s l q b) where
-          reach : {o : Bool} {r : List ℕ} → Framed s l o r → Reachable l o x t r
+        module _ (f : Framed s l p a) (g : Framed s m q b) where
+          reach : {n : RowLayout} {o : Bool} {r : List ℕ} → Framed s n o r → Reachable n o x t r
           reach d = let n = ahead-column (k .walk) h in rw (ap typeIn (n .is)) (reach-next d (k .walk) h (n .is))
 
-          pub compare-beside : Beside l x (y .before) p a × Beside l x (y .before) q b
-          compare-beside = (beside l x t (reach f) after-is, beside l x t (reach g) after-is)
+          pub compare-beside : Beside x (y .before) l p a × Beside x (y .before) m q b
+          compare-beside = (beside x t (reach f) after-is, beside x t (reach g) after-is)
 
-          pub compare-stored : storedAlike l x (y .before) p a q b ≡ true → compared t a first b second ≡ Is true
+          pub compare-stored : storedAlike x (y .before) l p a m q b ≡ true → compared t a first b second ≡ Is true
           compare-stored c =
-              stored-alike l x t p a q b (reach f) (reach g) (rw after-is at c)
-              (reads-first first (later p a) firsts)
+              stored-alike x t (reach f) (reach g) (rw after-is at c)
+              (reads-first first (later l p a) firsts)

@@ -22,35 +22,43 @@ alikeRanges a (Bytes s e) b Null = false
 alikeRanges a (Bytes s e) b Outside = false
 alikeRanges a (Bytes s e) b (Bytes f t) = sameBytes (take (e - s) (drop s a)) (take (t - f) (drop f b))
 
+-- the Varchar of a rank, in a row r with layout l
+abbrev pub rangeIn : ℕ → RowLayout → List ℕ → VarlenRange
+rangeIn k l r =
+    varlenRange (offsetWidth (l .«is_long»)) (tableStart (l .«num_columns»)) (l .«num_varlen_cols») k r
+
+-- where the fixed columns start
+abbrev pub fixedIn : RowLayout → ℕ
+fixedIn l = fixedStart (offsetWidth (l .«is_long»)) (l .«num_columns») (l .«num_varlen_cols»)
+
 -- the column after those of layout x, in a row r with layout l, packed or padded; y is the layout with it
 abbrev pub fixedPart : RowLayout → RowLayout → RowLayout → Bool → List ℕ → List ℕ
-fixedPart l x y p r =
-    let base : ℕ = fixedStart (offsetWidth (l .«is_long»)) (l .«num_columns») (l .«num_varlen_cols») in
-    take (base + sizeIn y p - (base + sizeIn x p)) (drop (base + sizeIn x p) r)
-
-abbrev pub rangeIn : RowLayout → RowLayout → List ℕ → VarlenRange
-rangeIn l x r =
-    varlenRange (offsetWidth (l .«is_long»)) (tableStart (l .«num_columns»)) (l .«num_varlen_cols»)
-    (x .«num_varlen_cols») r
+fixedPart x y l p r = take (fixedIn l + sizeIn y p - (fixedIn l + sizeIn x p)) (drop (fixedIn l + sizeIn x p) r)
 
 abbrev pub isMarked : RowLayout → List ℕ → Bool
 isMarked x r = eqb (bitAt (x .«num_columns») (drop bitmapStart r)) 1
 
-abbrev pub presentAlike : RowLayout → RowLayout → RowLayout → Bool → List ℕ → Bool → List ℕ → Bool
-presentAlike l x y p a q b =
-    cond (ltb (x .«num_varlen_cols») (y .«num_varlen_cols»)) (alikeRanges a (rangeIn l x a) b (rangeIn l x b))
-    (sameBytes (fixedPart l x y p a) (fixedPart l x y q b))
+-- in a row a with layout l and a row b with layout m
+abbrev pub presentAlike : RowLayout → RowLayout → RowLayout → Bool → List ℕ → RowLayout → Bool → List ℕ → Bool
+presentAlike x y l p a m q b =
+    let k : ℕ = x .«num_varlen_cols» in
+    cond (ltb k (y .«num_varlen_cols»)) (alikeRanges a (rangeIn k l a) b (rangeIn k m b))
+    (sameBytes (fixedPart x y l p a) (fixedPart x y m q b))
 
-abbrev pub storedAlike : RowLayout → RowLayout → RowLayout → Bool → List ℕ → Bool → List ℕ → Bool
-storedAlike l x y p a q b =
-    cond (isMarked x a) (isMarked x b) (cond (isMarked x b) false (presentAlike l x y p a q b))
+abbrev pub storedAlike : RowLayout → RowLayout → RowLayout → Bool → List ℕ → RowLayout → Bool → List ℕ → Bool
+storedAlike x y l p a m q b =
+    cond (isMarked x a) (isMarked x b) (cond (isMarked x b) false (presentAlike x y l p a m q b))
 
 -- the row has all of that
-pub record Beside (l x y : RowLayout) (p : Bool) (r : List ℕ) : Type 0 where
+pub record Ranked (k : ℕ) (l : RowLayout) (r : List ℕ) : Type 0 where
+  pub whole : Bounded l
+  pub table : fixedIn l ≤ length r
+  pub rank : k < l .«num_varlen_cols»
+
+pub record Beside (x y l : RowLayout) (p : Bool) (r : List ℕ) : Type 0 where
   pub whole : Bounded l
   pub column : x .«num_columns» < l .«num_columns»
-  pub table : fixedStart (offsetWidth (l .«is_long»)) (l .«num_columns») (l .«num_varlen_cols») ≤ length r
+  pub table : fixedIn l ≤ length r
   pub rank : x .«num_varlen_cols» < y .«num_varlen_cols» → x .«num_varlen_cols» < l .«num_varlen_cols»
   pub rises : (x .«num_varlen_cols» < y .«num_varlen_cols» → ⊥) → sizeIn x p ≤ sizeIn y p
-  pub slot : (x .«num_varlen_cols» < y .«num_varlen_cols» → ⊥)
-      → fixedStart (offsetWidth (l .«is_long»)) (l .«num_columns») (l .«num_varlen_cols») + sizeIn y p ≤ length r
+  pub slot : (x .«num_varlen_cols» < y .«num_varlen_cols» → ⊥) → fixedIn l + sizeIn y p ≤ length r

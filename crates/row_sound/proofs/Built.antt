@@ -33,7 +33,8 @@ use Rattle.value.specs.Ranges.{textOf}
 use Rattle.stored_form.proofs.Lengths.{accepted-suits, length-stored}
 use Rattle.stored_form.proofs.ReadBack.{read-stored}
 use Rattle.row_column.specs.declared.Frame.the-variants.{Good}
-use Rattle.row_column.specs.Frame.{columnCount, varlenField, isPacked, frameOf}
+use Rattle.row_format.specs.Header.{columnCount, varlenField, isPacked}
+use Rattle.row_column.specs.Frame.{frameOf}
 use Rattle.row_column.proofs.Walk.{shape-at}
 use Rattle.row_sound.specs.Sound.{isSoundIn}
 use Rattle.row_sound.specs.Written.{Writes, null, form}

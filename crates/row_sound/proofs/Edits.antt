@@ -2,12 +2,12 @@
 use Prim.Native.Nat.{ℕ, zero, suc, _+_, _/_, _^_, _≤_, _<_}
 use mathlib.Core.Path.{_≡_, refl, sym, ap, _∙_, subst}
 use mathlib.Core.Bool.{Bool, true, false, false≢true}
-use mathlib.Core.List.{List, [], _∷_, _++_, map, append-assoc}
+use mathlib.Core.List.{List, [], _∷_, _++_, map}
 use mathlib.Core.Option.{none, some}
 use native.Mathlib.Omega.{arith}
 use lib.Dec.{eqb}
 use lib.ListN.{length, getD, take, drop, set, length-append, length-map, length-set}
-use lib.Seq.{take-at, take-take, length-take-le, getD-take, getD-set-same, getD-set-other}
+use lib.Seq.{take-take, length-take-le, getD-take, getD-set-same, getD-set-other}
 use Rattle.laws.specs.Bits.{bitAt, putBitAt}
 use Rattle.laws.specs.Bytes.{splice}
 use Rattle.laws.proofs.Bytes.{same-length-splice, splice-outside}
@@ -213,10 +213,6 @@ module _ {w : ℕ} {p : Bool} {ts : List DataType} {head bits region : List ℕ}
   module _ {r : List ℕ} (e : Edited r) where
     pub edited-long : minimum w p ss ≤ length r
     edited-long = rw (e .row-is, laid-length (e .parts)) (omega arith)
-
-    pub edited-head : take 4 r ≡ head
-    unfolding lay
-    edited-head = rw (e .row-is, append-assoc head) (take-at head _ 4 (q .four))
 
     -- ---- it is sound
 

@@ -19,6 +19,7 @@ use Rattle.row_format.specs.Edit.{rangeStart, editedRow}
 use Rattle.row_format.specs.InnerRising.{heldAt, heldCells, Between}
 use Rattle.row_format.proofs.Places.{rank-inside, slot-inside}
 use Rattle.row_format.proofs.Edit.{length-edited-fixed, length-edited}
+use Rattle.row_format.proofs.Front.{edit-front}
 use Rattle.row_format.proofs.Row.{slots-fit}
 use Rattle.row_format.proofs.Zeroed.{Agree, agree-written}
 use Rattle.row_format.proofs.Rising.{length-held, held-at}
@@ -30,7 +31,8 @@ use Rattle.datatype.specs.Check.{typeAt}
 use Rattle.datatype.proofs.Again.{all-aligned}
 use Rattle.row_column.specs.declared.Frame.{Frame}
 use Rattle.row_column.specs.declared.Frame.the-variants.{Good, Refused}
-use Rattle.row_column.specs.Frame.{isPacked, frameOf, onFrame}
+use Rattle.row_format.specs.Header.{isPacked}
+use Rattle.row_column.specs.Frame.{frameOf, onFrame}
 use Rattle.row_column.proofs.Walk.{shape-at}
 use Rattle.row_column.proofs.Framing.{Fine, fine}
 use Rattle.row_column.proofs.Depends.{frame-depends}
@@ -43,7 +45,7 @@ use Rattle.row_sound.specs.Laid.{Parts, soundPart}
 use Rattle.row_sound.proofs.Columns.{offsetsOf, sound-at, sound-ranges, sound-long, sound-lay}
 use Rattle.row_sound.proofs.Laid.{column-lay, payload-length}
 use Rattle.row_sound.proofs.Built.{writes-fits, fits-all, cells-frame, cells-sound-in}
-use Rattle.row_sound.proofs.Edits.{Edited, edited, edited-long, edited-head, edited-sound, reread}
+use Rattle.row_sound.proofs.Edits.{Edited, edited, edited-long, edited-sound, reread}
 use Rattle.row_sound.specs.InnerSound.{isSound}
 
 -- ---- what the test says
@@ -149,6 +151,10 @@ module _ {k : Bool} {ts : List DataType} {p : Bool} {r : List ℕ} (s : SoundRow
         by-kind true v = rw (varchar-length v none) (omega arith)
         by-kind false v = rw (fixed-length v none null) (omega arith)
 
+    -- an edit keeps the header, whatever is put there
+    pub edit-head : (c : Cell) → take bitmapStart (editedRow w p ss i c r) ≡ take bitmapStart r
+    edit-head c = edit-front w p ss i c r (omega (arith, sound-long w p ts r (s .sound))) λ e. let b = row-ranges (rankOf ss i) (rank-inside ss i below e) in omega (arith, b .past)
+
   module _ (octets : Below 256 r) where
     pub row-cut : r ≡ lay w (head ++ bits) region cells
     row-cut = sound-lay w p ts r (s .sound) octets ∙ ap (λ (front : List ℕ). lay w front region cells) (take-add bitmapStart (bitmapSize (length ss)) r)
@@ -190,7 +196,7 @@ module _ {k : Bool} {ts : List DataType} {p : Bool} {r : List ℕ} (s : SoundRow
       edit-sound =
           record {
             frame = sym (frame-depends k ts r new
-                (sym (edited-head row-parts row-columns i h c put anew)) row-short short
+                (sym (edit-head i h c)) row-short short
                 (rw row-flag (sound-long w p ts r (s .sound)))
                 (rw row-flag (edited-long row-parts row-columns i h c put anew))) ∙ s .frame;
             sound = edited-sound row-parts row-columns i h c put anew;

@@ -5,6 +5,7 @@ use mathlib.Core.List.{List, []}
 use lib.Dec.{leb}
 use lib.ListN.{length}
 use Rattle.row_format.specs.Places.{offsetWidth}
+use Rattle.row_format.specs.Header.{isLong}
 use Rattle.error.specs.declared.Refusal.the-variants.{NoSuchColumn, WrongKind}
 use Rattle.error.specs.Result.{onResult}
 use Rattle.datatype.specs.declared.DataType.{DataType}
@@ -34,8 +35,9 @@ textOfColumn k ts r i =
     cond (leb (length ts) i) (Refused NoSuchColumn)
     (cond (holdsText (typeAt ts i)) (textInRow k ts r i) (Refused (WrongKind i)))
 
-abbrev pub textCall : Bool → List ℕ → List ℕ → ℕ → ColumnText
-textCall k schema r i = onResult (schemaOf k schema) Refused (λ ts. textOfColumn k ts r i)
+-- 02, request 5: "On a read or edit the row's own mark tells the sort", also the sort by whose limit 2 is judged
+abbrev pub textCall : List ℕ → List ℕ → ℕ → ColumnText
+textCall schema r i = onResult (schemaOf (isLong r) schema) Refused (λ ts. textOfColumn (isLong r) ts r i)
 
 -- "handed out as a part of the row"; "A null or a refusal gives the empty part"
 abbrev pub textPart : List ℕ → ColumnText → List ℕ

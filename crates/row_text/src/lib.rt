@@ -8,7 +8,6 @@ use row_layout::RowLayout;
 use value::TextRange;
 use value::value_kinds;
 ghost use mathlib.Core.Path.{_≡_};
-ghost use mathlib.Core.Bool.{false};
 ghost use Prim.Native.Nat.{_<_};
 ghost use lib.ListN.{length};
 ghost use Rattle.datatype.specs.Check.{typesIn};
@@ -82,14 +81,15 @@ fn text_of_column(schema: &[u8], layout: RowLayout, row: &[u8], column: usize) -
     ColumnText::Refused(Refusal::WrongKind(column))
 }
 
-// Where the text of a column stands in the row, or why there is none.
+// Where the text of a column stands in the row, or why there is none. The row's own mark tells its sort.
 pub fn column_text(schema: &[u8], row: &[u8], column: usize) -> ColumnText
-    ensures { λ r. ⌜ (r ≡ textCall false (now (schema .entry)) (now (row .entry)) column)
+    ensures { λ r. ⌜ (r ≡ textCall (now (schema .entry)) (now (row .entry)) column)
         × PartIn (length (now (row .entry))) r ⌝ }
 {
-    match datatype::check_schema(schema, false) {
+    let is_long = row_layout::is_long(row);
+    match datatype::check_schema(schema, is_long) {
         SchemaCheck::Refused(e) => ColumnText::Refused(e),
-        SchemaCheck::Good(layout) => text_of_column(schema, layout.of_sort(false), row, column),
+        SchemaCheck::Good(layout) => text_of_column(schema, layout.of_sort(is_long), row, column),
     }
 }
 
@@ -97,7 +97,7 @@ pub fn column_text(schema: &[u8], row: &[u8], column: usize) -> ColumnText
 pub fn text<'s, 'r>(schema: &'s [u8], row: &'r [u8], column: usize) -> &'r [u8]
     ensures { λ r. ⌜ now r
         ≡ textPart (now (row .entry))
-        (textCall false (now (schema .entry)) (now (row .entry)) column) ⌝ }
+        (textCall (now (schema .entry)) (now (row .entry)) column) ⌝ }
 {
     match column_text(schema, row, column) {
         ColumnText::Refused(_) => &row[0..0],

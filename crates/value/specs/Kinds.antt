@@ -1,7 +1,7 @@
--- 01, "Schema and value bytes": "Value kinds", and `data_value_matches_type`. FORMAT 4.1, 4.4.
+-- 01, "Schema and value bytes": "Value kinds", and `data_value_matches_type`. FORMAT 4.1, 4.4, 4.6.
 use Prim.Native.Nat.{ℕ}
-use mathlib.Core.Bool.{Bool, true, cond}
-use lib.Dec.{eqb}
+use mathlib.Core.Bool.{Bool, true, cond, _&&_, _||_}
+use lib.Dec.{eqb, leb}
 use Rattle.datatype.specs.declared.DataType.{DataType}
 use Rattle.datatype.specs.declared.DataType.the-variants as T
 use Rattle.value.specs.declared.DataValue.{DataValue}
@@ -58,10 +58,20 @@ holdsText t = isTextKind (valueKind t)
 abbrev pub isTextValue : DataValue → Bool
 isTextValue v = isTextKind (kindOf v)
 
--- the kinds whose body is a range, and which of them a long row reads into. 02, request 5: "Value kinds 17, 18 and 19
--- are Char, Varchar and Bit with start and length of four bytes each"
+-- the kinds whose body is a range. 02, request 5: "Value kinds 17, 18 and 19 are Char, Varchar and Bit with start and
+-- length of four bytes each", "they match as 8, 9 and 12 do": which of them stands for which, either way round, and
+-- which have four bytes; 14, 15, 16 and those past 19 are no kinds
 abbrev pub isRangeKind : ℕ → Bool
 isRangeKind k = cond (isTextKind k) true (eqb k 12)
 
 abbrev pub longKind : ℕ → ℕ
 longKind k = cond (eqb k 8) 17 (cond (eqb k 9) 18 19)
+
+abbrev pub plainKind : ℕ → ℕ
+plainKind k = cond (eqb k 17) 8 (cond (eqb k 18) 9 (cond (eqb k 19) 12 k))
+
+abbrev pub isLongKind : ℕ → Bool
+isLongKind k = leb 17 k
+
+abbrev pub isValueKind : ℕ → Bool
+isValueKind k = leb k 13 || (isLongKind k && leb k 19)

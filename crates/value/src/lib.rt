@@ -5,7 +5,7 @@ use datatype::DataType;
 use datatype::schema_kinds;
 ghost use mathlib.Core.Path.{_≡_};
 ghost use Rattle.datatype.specs.Schema.{columnKind};
-ghost use Rattle.value.specs.Kinds.{kindOf, valueKind, matches};
+ghost use Rattle.value.specs.Kinds.{kindOf, valueKind, matches, plainKind, isLongKind, isValueKind};
 ghost use Rattle.value.specs.Ranges.{rangeOf};
 ghost use Rattle.value.specs.InnerKinds.{heldKind};
 
@@ -169,6 +169,35 @@ pub fn held_kind(kind: u8) -> u8
         schema_kinds::TIMESTAMP => value_kinds::TIMESTAMP,
         schema_kinds::VARCHAR_CHARS => value_kinds::VARCHAR,
         _ => value_kinds::NULL,
+    }
+}
+
+// Whether a byte is a kind of value record.
+pub fn is_value_kind(kind: u8) -> bool
+    ensures { λ r. ⌜ r ≡ isValueKind kind ⌝ }
+{
+    if kind <= value_kinds::TIMESTAMP {
+        return true;
+    }
+    (value_kinds::LONG_CHAR <= kind) & (kind <= value_kinds::LONG_BIT)
+}
+
+// Whether its body is a range with four bytes for each number.
+pub fn is_long_kind(kind: u8) -> bool
+    ensures { λ r. ⌜ r ≡ isLongKind kind ⌝ }
+{
+    value_kinds::LONG_CHAR <= kind
+}
+
+// The kind of its values.
+pub fn plain_kind(kind: u8) -> u8
+    ensures { λ r. ⌜ r ≡ plainKind kind ⌝ }
+{
+    match kind {
+        value_kinds::LONG_CHAR => value_kinds::CHAR,
+        value_kinds::LONG_VARCHAR => value_kinds::VARCHAR,
+        value_kinds::LONG_BIT => value_kinds::BIT,
+        _ => kind,
     }
 }
 

@@ -1,3 +1,4 @@
+pub mod LongKinds
 pub mod Sizes
 pub mod Checking
 pub mod Records

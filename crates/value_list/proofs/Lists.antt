@@ -18,35 +18,35 @@ use Rattle.value_list.specs.declared.ValueRecord.{ValueRecord}
 use Rattle.value_list.specs.declared.ValueRecord.the-variants.{Value, Refused}
 use Rattle.value_list.specs.Records.{recordOf, recordAt}
 use Rattle.value_list.specs.Lists.{Values, onRecord, records, valuesOf, judged, checked, listOf}
-use Rattle.value_list.proofs.Records.{length-record, record-read, value-sized}
-use Rattle.value_list.specs.InnerLists.{AllSized}
+use Rattle.value_list.proofs.Records.{record-least, record-read, value-sized}
+use Rattle.value_list.specs.InnerLists.{AllSized, AllNarrow}
 
 -- ---- written, then read
 
-listOf-least : (vs : List DataValue) → length vs ≤ length (listOf false vs)
-listOf-least [] = omega arith
-listOf-least (v ∷ vs) = let ih = listOf-least vs in rw (length-append (recordOf false v) (listOf false vs)) (omega (arith, length-record v))
+listOf-least : (k : Bool) (vs : List DataValue) → length vs ≤ length (listOf k vs)
+listOf-least k [] = omega arith
+listOf-least k (v ∷ vs) = let ih = listOf-least k vs in rw (length-append (recordOf k v) (listOf k vs)) (omega (arith, record-least k v))
 
-records-read : (vs : List DataValue) → AllSized vs → (n : ℕ) → length vs ≤ n → (us : List ℕ) (at : ℕ) → length us ≡ at → records n (us ++ listOf false vs) at ≡ ok vs
-records-read [] f zero h us at e = refl
-records-read [] f (suc n) h us at e = rw (le-ltb at (length (us ++ [])) (rw length-append (omega arith)))
-records-read (v ∷ vs) f zero h us at e = absurd (omega arith)
-records-read (v ∷ vs) f (suc n) h us at e =
-    let s = us ++ (recordOf false v ++ listOf false vs) in
-    let next = at + length (recordOf false v) in
-    let more : at < length s = rw (length-append us (recordOf false v ++ listOf false vs), length-append (recordOf false v) (listOf false vs)) (omega (arith, length-record v)) in
-    let past : length (us ++ recordOf false v) ≡ next = length-append us (recordOf false v) ∙ ap (λ (m : ℕ). m + length (recordOf false v)) e in
+records-read : (k : Bool) (vs : List DataValue) → AllSized vs → AllNarrow k vs → (n : ℕ) → length vs ≤ n → (us : List ℕ) (at : ℕ) → length us ≡ at → records n (us ++ listOf k vs) at ≡ ok vs
+records-read k [] f g zero h us at e = refl
+records-read k [] f g (suc n) h us at e = rw (le-ltb at (length (us ++ [])) (rw length-append (omega arith)))
+records-read k (v ∷ vs) f g zero h us at e = absurd (omega arith)
+records-read k (v ∷ vs) f g (suc n) h us at e =
+    let s = us ++ (recordOf k v ++ listOf k vs) in
+    let next = at + length (recordOf k v) in
+    let more : at < length s = rw (length-append us (recordOf k v ++ listOf k vs), length-append (recordOf k v) (listOf k vs)) (omega (arith, record-least k v)) in
+    let past : length (us ++ recordOf k v) ≡ next = length-append us (recordOf k v) ∙ ap (λ (m : ℕ). m + length (recordOf k v)) e in
     let rest : records n s next ≡ ok vs =
-    ap (λ (l : List ℕ). records n l next) (sym (append-assoc us (recordOf false v) (listOf false vs))) ∙ records-read vs (f .1) n (omega arith) (us ++ recordOf false v) next past in
-    rw (lt-ltb at (length s) more) (ap (λ r. onRecord r (records n s)) (record-read us (listOf false vs) at e v (f .0)) ∙ ap (before v) rest)
+    ap (λ (l : List ℕ). records n l next) (sym (append-assoc us (recordOf k v) (listOf k vs))) ∙ records-read k vs (f .1) (g .1) n (omega arith) (us ++ recordOf k v) next past in
+    rw (lt-ltb at (length s) more) (ap (λ r. onRecord r (records n s)) (record-read us (listOf k vs) at e k v (f .0) (g .0)) ∙ ap (before v) rest)
 
-pub values-read : (vs : List DataValue) → AllSized vs → valuesOf (listOf false vs) ≡ ok vs
+pub values-read : (k : Bool) (vs : List DataValue) → AllSized vs → AllNarrow k vs → valuesOf (listOf k vs) ≡ ok vs
 unfolding valuesOf
-values-read vs f = records-read vs f (length (listOf false vs)) (listOf-least vs) [] 0 refl
+values-read k vs f g = records-read k vs f g (length (listOf k vs)) (listOf-least k vs) [] 0 refl
 
--- so a list of n values is taken beside any text area that is not too long
-pub list-checked : (k : Bool) (n area : ℕ) (vs : List DataValue) → AllSized vs → length vs ≡ n → area ≤ rowLimit k → checked k n area (listOf false vs) ≡ ok vs
-list-checked k n area vs f e h = ap (judged k n area (length (listOf false vs))) (values-read vs f) ∙ rw (eq-eqb (length vs) n e, le-ltb (rowLimit k) area h)
+-- so a list of n values, written for rows of one sort or the other, is taken beside any text area that is not too long
+pub list-checked : (k t : Bool) (n area : ℕ) (vs : List DataValue) → AllSized vs → AllNarrow t vs → length vs ≡ n → area ≤ rowLimit k → checked k n area (listOf t vs) ≡ ok vs
+list-checked k t n area vs f g e h = ap (judged k n area (length (listOf t vs))) (values-read t vs f g) ∙ rw (eq-eqb (length vs) n e, le-ltb (rowLimit k) area h)
 
 -- ---- what a list that is taken says
 

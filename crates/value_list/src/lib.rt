@@ -5,11 +5,12 @@ use value::NumericValue;
 use value::TextRange;
 use value::value_kinds;
 ghost use mathlib.Core.Path.{_≡_};
-ghost use Prim.Native.Nat.{_+_, _<_, _≤_};
+ghost use Prim.Native.Nat.{_+_, _*_, _<_, _≤_};
 ghost use lib.ListN.{length};
-ghost use Rattle.value_list.specs.Records.{bodyLength, numericAt, rangeAt, valueAt, recordAt};
+ghost use Rattle.row_format.specs.Places.{offsetWidth};
+ghost use Rattle.value_list.specs.Records.{bodyLength, numericAt, rangeAt, valueAt, recordAt, NarrowRange};
 ghost use Rattle.value_list.specs.Lists.{checked};
-ghost use Rattle.value_list.specs.InnerSizes.{sizeAt};
+ghost use Rattle.value_list.specs.InnerSizes.{bodyIn, sizeAt};
 ghost use Rattle.value_list.specs.InnerLists.{answer};
 
 // What stands at a place of a value list.
@@ -42,6 +43,9 @@ pub fn body_length(kind: u8) -> usize
         value_kinds::TIME => 8,
         value_kinds::BIT => 4,
         value_kinds::TIMESTAMP => 8,
+        value_kinds::LONG_CHAR => 8,
+        value_kinds::LONG_VARCHAR => 8,
+        value_kinds::LONG_BIT => 8,
         _ => 0,
     }
 }
@@ -53,7 +57,7 @@ fn record_size(list: &[u8], at: usize) -> usize
     ensures { λ r. ⌜ r ≡ sizeAt (now (list .entry)) at ⌝ }
 {
     let kind = list[at];
-    if value_kinds::TIMESTAMP < kind {
+    if !value::is_value_kind(kind) {
         return 0;
     }
     let body = body_length(kind);
@@ -86,19 +90,25 @@ fn numeric_at(list: &[u8], at: usize) -> NumericValue
     NumericValue { high, low, scale }
 }
 
-fn range_at(list: &[u8], at: usize) -> TextRange
-    requires { ⌜ at + 4 ≤ length (now list) ⌝ }
-    ensures { λ r. ⌜ r ≡ rangeAt (now (list .entry)) at ⌝ }
+// A range, its numbers of four bytes or of two.
+pub fn range_at(list: &[u8], is_long: bool, at: usize) -> TextRange
+    requires { ⌜ at + 2 * offsetWidth «is_long» ≤ length (now list) ⌝ }
+    ensures { λ r. ⌜ (r ≡ rangeAt (offsetWidth «is_long») (now (list .entry)) at) × NarrowRange 4 r ⌝ }
 {
+    if is_long {
+        let start = endian::read_u32(list, at) as usize;
+        let length = endian::read_u32(list, at + 4) as usize;
+        return TextRange { start, length };
+    }
     let start = endian::read_u16(list, at) as usize;
     let length = endian::read_u16(list, at + 2) as usize;
     TextRange { start, length }
 }
 
-// The value whose body stands at a place.
-fn value_at(list: &[u8], at: usize, kind: u8) -> DataValue
-    requires { ⌜ at + bodyLength kind ≤ length (now list) ⌝ }
-    ensures { λ r. ⌜ r ≡ valueAt kind (now (list .entry)) at ⌝ }
+// The value whose body stands at a place, of one of document 01's kinds, ranges with numbers of four bytes or of two.
+fn value_at(list: &[u8], is_long: bool, at: usize, kind: u8) -> DataValue
+    requires { ⌜ at + bodyIn «is_long» kind ≤ length (now list) ⌝ }
+    ensures { λ r. ⌜ r ≡ valueAt (offsetWidth «is_long») kind (now (list .entry)) at ⌝ }
 {
     match kind {
         value_kinds::SMALL_INT => DataValue::SmallInt(endian::read_i16(list, at)),
@@ -108,11 +118,11 @@ fn value_at(list: &[u8], at: usize, kind: u8) -> DataValue
         value_kinds::DOUBLE_PRECISION => DataValue::DoublePrecision(endian::read_u64(list, at)),
         value_kinds::NUMERIC => DataValue::Numeric(numeric_at(list, at)),
         value_kinds::BOOL => DataValue::Bool(list[at]),
-        value_kinds::CHAR => DataValue::Char(range_at(list, at)),
-        value_kinds::VARCHAR => DataValue::Varchar(range_at(list, at)),
+        value_kinds::CHAR => DataValue::Char(range_at(list, is_long, at)),
+        value_kinds::VARCHAR => DataValue::Varchar(range_at(list, is_long, at)),
         value_kinds::DATE => DataValue::Date(endian::read_i32(list, at)),
         value_kinds::TIME => DataValue::Time(endian::read_i64(list, at)),
-        value_kinds::BIT => DataValue::Bit(range_at(list, at)),
+        value_kinds::BIT => DataValue::Bit(range_at(list, is_long, at)),
         value_kinds::TIMESTAMP => DataValue::Timestamp(endian::read_i64(list, at)),
         _ => DataValue::Null,
     }
@@ -127,7 +137,11 @@ pub fn value_record_at(list: &[u8], at: usize) -> ValueRecord
         return ValueRecord::Refused(Refusal::BadValueList(at));
     }
     let kind = list[at];
-    ValueRecord::Value(value_at(list, at + 1, kind), at + size)
+    let is_long = value::is_long_kind(kind);
+    ValueRecord::Value(
+        value_at(list, is_long, at + 1, value::plain_kind(kind)),
+        at + size,
+    )
 }
 
 // Whether a list has one record a column, beside a text area of `area` bytes, for rows of a sort. The bodies are not

@@ -164,7 +164,7 @@ module _ (start : ℕ) (bs : List ℕ) (a : AllBytes bs) where
   signed : (w : Width) (n : ℕ) → 2 ^ bits w ≡ 256 ^ n → length bs ≡ n → SFits w (toZ w (fromLe bs))
   signed w n s l = toZ-fits w (fromLe bs) (unsigned w n s l)
 
-  narrow : start + length bs ≤ 65535 → NarrowRange 2 (whole start bs)
+  narrow : start + length bs ≤ 1048576 → NarrowRange 4 (whole start bs)
   narrow h = record { start = omega arith; size = omega arith }
 
   -- a part of at most eight bytes
@@ -182,7 +182,7 @@ module _ (start : ℕ) (bs : List ℕ) (a : AllBytes bs) where
       (λ negative x l. let whole : halves (x / 2 ^ 64) (x % 2 ^ 64) ≡ x = omega arith in
       rw whole (number-sized negative x s l k))
 
-  slot-sized : (t : DataType) → (isVarlen t ≡ false → length bs ≡ sizeOf t) → start + length bs ≤ 65535
+  slot-sized : (t : DataType) → (isVarlen t ≡ false → length bs ≡ sizeOf t) → start + length bs ≤ 1048576
       → precisionOf t ≤ 38 → scaleOf t < 256 → Holds Sized (readSlot t start bs)
   slot-sized T.SmallInt l n p s = signed w16 2 refl (l refl)
   slot-sized T.Int l n p s = signed w32 4 refl (l refl)
@@ -205,7 +205,7 @@ module _ (start : ℕ) (bs : List ℕ) (a : AllBytes bs) where
       if-holds Sized (isTimestamp (toZ w64 (fromLe bs))) (D.Timestamp (toZ w64 (fromLe bs)))
       (signed w64 8 refl (l refl))
 
-  -- bs are the bytes of a column of type t, at `start` of a row that is not too long
+  -- bs are the bytes of a column of type t, at `start` of a row that is not too long, of either sort
   pub read-sized : (t : DataType) (v : DataValue) → (isVarlen t ≡ false → length bs ≡ sizeOf t)
-      → start + length bs ≤ 65535 → precisionOf t ≤ 38 → scaleOf t < 256 → readSlot t start bs ≡ Value v → Sized v
+      → start + length bs ≤ 1048576 → precisionOf t ≤ 38 → scaleOf t < 256 → readSlot t start bs ≡ Value v → Sized v
   read-sized t v l n p s e = read-holds Sized (readSlot t start bs) v (slot-sized t l n p s) e

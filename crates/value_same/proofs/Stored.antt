@@ -19,7 +19,7 @@ use Rattle.value.specs.declared.DataValue.{DataValue}
 use Rattle.value.specs.declared.DataValue.the-variants as D
 use Rattle.value.specs.Kinds.{kindOf}
 use Rattle.value_list.specs.Records.{bodyOf, recordOf, recordAt, Sized}
-use Rattle.value_list.proofs.Records.{record-read}
+use Rattle.value_list.proofs.Records.{record-read, sized-narrow}
 use Rattle.stored_form.specs.Write.{storedForm}
 use Rattle.stored_form.proofs.Matched.{Kinded, kinded}
 use Rattle.value_same.specs.Same.{sameOfKind, sameContent}
@@ -27,10 +27,11 @@ use Rattle.value_same.specs.Stored.{kindFor, SameStored, equal-forms, al
 use Rattle.value_same.proofs.Equivalence.{same-kinds, pattern}
 
 -- values whose records are equal: the record is read back
-record-same : (v w : DataValue) → Sized v → Sized w → recordOf false v ≡ recordOf false w → v ≡ w
+record-same : (v w : DataValue) → Sized v → Sized w → recordOf true v ≡ recordOf true w → v ≡ w
 record-same v w f g e =
     let p =
-    sym (record-read [] [] 0 refl v f) ∙ ap (λ (s : List ℕ). recordAt (s ++ []) 0) e ∙ record-read [] [] 0 refl w g in
+    sym (record-read [] [] 0 refl true v f (sized-narrow v f)) ∙ ap (λ (s : List ℕ). recordAt (s ++ []) 0) e
+    ∙ record-read [] [] 0 refl true w g (sized-narrow w g) in
     cc
 
 module _ (t : DataType) (x y : List ℕ) where

@@ -2,6 +2,7 @@
 use mathlib.Core.Path.{refl}
 use Rattle.row_format.specs.Table.{lay, rangeEnd}
 use Rattle.row_format.specs.Row.{header, rowWith}
+use Rattle.row_format.specs.Header.{isLong, sortIn}
 use Rattle.value_list.specs.Lists.{valuesOf}
 use Rattle.datatype.specs.Schema.{schemaOf}
 use Rattle.text.specs.Rfc3629.{octets}
@@ -10,5 +11,5 @@ use Rattle.worked.specs.Cases.{AllHold}
 use Rattle.worked.specs.Characters.{table}
 
 pub characters : AllHold table
-unfolding table schemaOf rowWith lay rangeEnd valuesOf header octets soundColumn
+unfolding table schemaOf rowWith lay rangeEnd valuesOf header octets soundColumn isLong sortIn
 characters = refl

@@ -1,8 +1,7 @@
 -- 01, "Platform rows worked out": the cases marked (P) and case 11, and RFC 3629's examples (section 7), each as what
--- the definitions compute beside what the paper states. "S is Int, Varchar(5), SmallInt." At the end the layout of long
--- rows, 02, request 5.
+-- the definitions compute beside what the paper states. "S is Int, Varchar(5), SmallInt."
 use Prim.Native.Nat.{ℕ}
-use mathlib.Core.Bool.{Bool, true, false}
+use mathlib.Core.Bool.{true, false}
 use mathlib.Core.List.{List, [], _∷_, _++_, map}
 use mathlib.Core.Option.{Option, none, some}
 use mathlib.Core.Path.{_≡_}
@@ -20,7 +19,6 @@ use Rattle.row_format.specs.Table.{Cell}
 use Rattle.row_format.specs.Row.{packedMarks, builtRow}
 use Rattle.datatype.specs.Types.{shapeOf}
 use Rattle.datatype.specs.Schema.{Parsed, schemaOf}
-use Rattle.datatype.specs.Check.{typesIn}
 use Rattle.text.specs.Rfc3629.{codePoints, isText}
 use lib.IntN.{ℤ, pos, negsuc}
 use mir.Syntax.{w32, w64}
@@ -30,7 +28,7 @@ use Rattle.value.specs.declared.DataValue.the-variants.{Numeric}
 use Rattle.stored_form.specs.Number.{numericOf}
 use Rattle.stored_form.specs.Write.{storedForm}
 use Rattle.row_decode.specs.Read.{readCall}
-use Rattle.row_build.specs.Build.{freshRow, freshCall, buildCall}
+use Rattle.row_build.specs.Build.{freshCall, buildCall}
 use Rattle.row_edit.specs.Edit.{setCall, setNullCall}
 
 pub record Case : Type 0 where
@@ -60,9 +58,6 @@ unfoldable pub row : List Cell → List ℕ
 unfolding S
 row cells = builtRow (offsetWidth false) (packedMarks false) S cells
 
-abbrev pub longRow : List Shape → List Cell → List ℕ
-longRow ss cells = builtRow (offsetWidth true) (packedMarks true) ss cells
-
 abbrev pub one : Cell
 one = some (toLe 4 1)
 
@@ -85,7 +80,7 @@ lent = replicate 10 0xAA
 abbrev pub readColumn : ℕ → List ℕ → List ℕ
 readColumn kind slot =
     withoutCounts
-    (readCall false (8 ∷ kind ∷ []) (2 ∷ 0 ∷ 0 ∷ 0x80 ∷ 0 ∷ 1 ∷ slot) (1 ∷ []) lent (replicate 2 0))
+    (readCall (8 ∷ kind ∷ []) (2 ∷ 0 ∷ 0 ∷ 0x80 ∷ 0 ∷ 1 ∷ slot) (1 ∷ []) lent (replicate 2 0))
 
 abbrev pub time : ℤ → List ℕ
 time z = readColumn 13 (toLe 8 (ofZ w64 z))
@@ -97,15 +92,6 @@ date z = readColumn 12 (toLe 4 (ofZ w32 z))
 abbrev pub listed : Option ℕ → List ℕ
 listed none = []
 listed (some n) = n ∷ []
-
--- 0 and the number of columns, or number and place
-abbrev pub told : Parsed → List ℕ
-told (ok ts) = 0 ∷ length ts ∷ []
-told (refused r) = numberFor r ∷ placeOf r ∷ []
-
--- the schema Char(65535), for rows of a sort
-abbrev pub widest : Bool → List ℕ
-widest k = told (schemaOf k (9 ∷ 0xFF ∷ 0xFF ∷ []))
 
 -- row 2 in a buffer with a byte more
 abbrev pub row2 : List ℕ
@@ -145,7 +131,7 @@ table =
       stated = 3 ∷ 0 ∷ 1 ∷ 0x80 ∷ 4 ∷ 0x0D ∷ 0 ∷ 1 ∷ 0 ∷ 0 ∷ 0 ∷ 0 ∷ 0 ∷ [];
     }
     ∷ record {
-      computed = outcome (setCall false schema row2 15 1 (9 ∷ 0 ∷ 0 ∷ 0 ∷ 0 ∷ []) []);
+      computed = outcome (setCall schema row2 15 1 (9 ∷ 0 ∷ 0 ∷ 0 ∷ 0 ∷ []) []);
       stated = 0 ∷ 13 ∷ 3 ∷ 0 ∷ 1 ∷ 0x80 ∷ 4 ∷ 0x0D ∷ 0 ∷ 1 ∷ 0 ∷ 0 ∷ 0 ∷ 0 ∷ 0 ∷ 0x41 ∷ 0x42 ∷ 0xAA ∷ [];
     }
     -- 4. "Column 1 set null instead: 13 bytes, bitmap 06, offset 00 00."
@@ -154,7 +140,7 @@ table =
       stated = 3 ∷ 0 ∷ 1 ∷ 0x80 ∷ 6 ∷ 0 ∷ 0 ∷ 1 ∷ 0 ∷ 0 ∷ 0 ∷ 0 ∷ 0 ∷ [];
     }
     ∷ record {
-      computed = outcome (setNullCall false schema row2 15 1);
+      computed = outcome (setNullCall schema row2 15 1);
       stated = 0 ∷ 13 ∷ 3 ∷ 0 ∷ 1 ∷ 0x80 ∷ 6 ∷ 0 ∷ 0 ∷ 1 ∷ 0 ∷ 0 ∷ 0 ∷ 0 ∷ 0 ∷ 0x41 ∷ 0x42 ∷ 0xAA ∷ [];
     }
     -- 5. "SmallInt, Int: minimum 11 packed, 13 padded."
@@ -200,11 +186,11 @@ table =
     -- 11, which is not marked. "Row 2 with offset 0 and bitmap 04: column 1 reads as null; an edit gives 15."
     ∷ record {
       computed =
-          withoutCounts (readCall false schema row11 (1 ∷ []) (replicate 4 0xAA) (replicate 3 0));
+          withoutCounts (readCall schema row11 (1 ∷ []) (replicate 4 0xAA) (replicate 3 0));
       stated = 0 ∷ 3 ∷ 0 ∷ 0 ∷ 0 ∷ 0xAA ∷ [];
     }
     ∷ record {
-      computed = outcome (setCall false schema row11 15 1 (9 ∷ 0 ∷ 0 ∷ 0 ∷ 0 ∷ []) []);
+      computed = outcome (setCall schema row11 15 1 (9 ∷ 0 ∷ 0 ∷ 0 ∷ 0 ∷ []) []);
       stated = 15 ∷ 0 ∷ row11;
     }
     -- RFC 3629, section 7: the number of the code points that each example encodes
@@ -228,17 +214,4 @@ table =
       computed = listed (codePoints (0xEF ∷ 0xBB ∷ 0xBF ∷ 0xF0 ∷ 0xA3 ∷ 0x8E ∷ 0xB4 ∷ []));
       stated = 2 ∷ [];
     }
-    -- 02, request 5: examples of the long sort, which the calls do not take yet. S fresh, and S of 1, "AB", null
-    ∷ record {
-      computed = freshRow true (typesIn schema);
-      stated = 3 ∷ 0 ∷ 1 ∷ 0xC0 ∷ 7 ∷ 0 ∷ 0 ∷ 0 ∷ 0 ∷ replicate 6 0;
-    }
-    ∷ record {
-      computed = longRow S (one ∷ some (0x41 ∷ 0x42 ∷ []) ∷ none ∷ []);
-      stated = 3 ∷ 0 ∷ 1 ∷ 0xC0 ∷ 4 ∷ 0x0F ∷ 0 ∷ 0 ∷ 0 ∷ 1 ∷ 0 ∷ 0 ∷ 0 ∷ 0 ∷ 0 ∷ 0x41 ∷ 0x42 ∷ [];
-    }
-    -- no columns; and the greater limit: Char(65535) gives 2 at 3 for short rows and is taken for long ones
-    ∷ record { computed = longRow [] []; stated = 0 ∷ 0 ∷ 0 ∷ 0xC0 ∷ [] }
-    ∷ record { computed = widest false; stated = 2 ∷ 3 ∷ [] }
-    ∷ record { computed = widest true; stated = 0 ∷ 1 ∷ [] }
     ∷ []

@@ -33,7 +33,7 @@ build schema n area =
     counted (buildCall false schema (9 ∷ 0 ∷ 0 ∷ n ∷ 0 ∷ []) area lent (7 ∷ []))
 
 abbrev pub read : List ℕ → List ℕ → List ℕ
-read schema row = counted (readCall false schema row (0 ∷ []) (replicate 5 0xAA) (7 ∷ []))
+read schema row = counted (readCall schema row (0 ∷ []) (replicate 5 0xAA) (7 ∷ []))
 
 unfoldable pub table : List Case
 table =
@@ -52,7 +52,7 @@ table =
       stated = 8 ∷ 0 ∷ replicate 5 0xAA ++ (7 ∷ []);
     }
     ∷ record {
-      computed = outcome (setNullCall false (characters 2) (rowOf (0x41 ∷ 0x42 ∷ 0x43 ∷ [])) 10 0);
+      computed = outcome (setNullCall (characters 2) (rowOf (0x41 ∷ 0x42 ∷ 0x43 ∷ [])) 10 0);
       stated = 15 ∷ 0 ∷ rowOf (0x41 ∷ 0x42 ∷ 0x43 ∷ []);
     }
     ∷ record {

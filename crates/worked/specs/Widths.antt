@@ -54,7 +54,7 @@ build a room count =
     counted (buildCall false schema (values 2) (area a) (lent room) (numbers count))
 
 abbrev pub read : List ℕ → ℕ → List ℕ
-read wanted count = counted (readCall false schema row wanted (lent 16) (numbers count))
+read wanted count = counted (readCall schema row wanted (lent 16) (numbers count))
 
 unfoldable pub table : List Case
 table =

@@ -1,7 +1,9 @@
-// Worked cases that are run and not proved: RFC 3629's own examples, case 10 and limits of schemas from document 01.
+// Worked cases that are run and not proved: RFC 3629's own examples, case 10 and limits of schemas from document 01,
+// and the null flag past the limit of short rows from document 02, request 5.
 // What each gives is written on a line; the file `stdout` has what it must be.
 use datatype::SchemaCheck;
 use error::Answer;
+use error::Flag;
 use error::Refusal;
 use libc::STDOUT_FILENO;
 use text::TextCheck;
@@ -138,9 +140,32 @@ fn schemas() {
     say_schema(b"Char(65531)", b"\x09\xFB\xFF");
 }
 
+fn say_flag(name: &[u8], row: &[u8]) {
+    say(name);
+    match null_bitmap::is_column_null_in_row(row, 0) {
+        Flag::Is(null) => {
+            say(b": null ");
+            io::print_decimal(STDOUT_FILENO, null as u64);
+        }
+        Flag::Refused(r) => say_refusal(r),
+    }
+    say(b"\n");
+}
+
+// Request 5: a row of 65,536 bytes, with the mark of a long row and without.
+fn flags() {
+    let mut row = [0u8; 65536];
+    row[0] = 1;
+    row[3] = 0xC0;
+    say_flag(b"the flag of a long row of 65,536 bytes", &row);
+    row[3] = 0x80;
+    say_flag(b"the flag of a short row of 65,536 bytes", &row);
+}
+
 fn main() {
     rfc3629();
     schemas();
     texts();
     rows();
+    flags();
 }

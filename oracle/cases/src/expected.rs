@@ -1,14 +1,14 @@
 //! What must be answered, from what the Rust answers on 01's domain and from
 //! what 01 says outside it. A disagreement of the two panics. The columns are
-//! such as the Rust knows; of others it tells nothing.
+//! such as the Rust knows and the rows are short; of others it tells nothing.
 
-use crate::LIMIT;
 use crate::column::RustColumns;
 use crate::history::Call;
 use crate::layout::{Layout, Place};
 use crate::row::{is_sound, offset};
 use crate::rust::{self, Outcome};
 use crate::value::{self, Outside, Record, TextRange, ValueList, in_domain, is_value};
+use crate::{LIMIT, RowSort};
 use rookdb::types::datatype::DataType;
 use rookdb::types::value::DataValue;
 
@@ -102,7 +102,7 @@ fn record(value: &Option<DataValue>, row: &[u8], layout: &Layout, place: Place) 
     };
     let start = match place {
         Place::Fixed { start, .. } => start,
-        Place::Varchar { rank } => offset(row, layout, rank).into(),
+        Place::Varchar { rank } => offset(row, layout, rank),
     };
     let record = own.with_range(TextRange { start, ..range });
     assert!(is_value(&record, row, value.as_ref()), "{value:?}");
@@ -169,9 +169,10 @@ pub fn same_content(columns: &RustColumns, a: &[u8], b: &[u8]) -> Result<bool, R
     }))
 }
 
-/// The flag, or the refusal.
+/// The flag, or the refusal. The Rust does not look at the Varchar count here, so it tells
+/// the flags of long rows too.
 pub fn null_flag(row: &[u8], column: usize) -> Result<bool, Refusal> {
-    if row.len() > LIMIT {
+    if row.len() > RowSort::of_row(row).limit() {
         return Err(Refusal::Number(4, 0));
     }
     match rust::is_null(row, column) {

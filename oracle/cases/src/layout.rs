@@ -1,5 +1,6 @@
 //! Where the parts of a row are, from 01's layout rules.
 
+use crate::RowSort;
 use crate::column::ColumnType;
 
 /// Set in the header's second number of a packed row.
@@ -18,6 +19,7 @@ pub enum Place {
 
 #[derive(Debug, Clone, PartialEq, Eq)]
 pub struct Layout {
+    pub sort: RowSort,
     /// Where each column is, in schema order.
     pub places: Vec<Place>,
     pub varchars: usize,
@@ -29,26 +31,35 @@ pub struct Layout {
 
 impl Layout {
     pub fn packed(types: &[ColumnType]) -> Self {
-        Self::new(types, |_| 1)
+        Self::packed_of(types, RowSort::Short)
     }
 
     pub fn padded(types: &[ColumnType]) -> Self {
-        Self::new(types, ColumnType::alignment)
+        Self::padded_of(types, RowSort::Short)
+    }
+
+    pub fn packed_of(types: &[ColumnType], sort: RowSort) -> Self {
+        Self::new(types, sort, |_| 1)
+    }
+
+    pub fn padded_of(types: &[ColumnType], sort: RowSort) -> Self {
+        Self::new(types, sort, ColumnType::alignment)
     }
 
     /// The layout that a row's header names; the row has four bytes or more.
     pub fn of_row(types: &[ColumnType], row: &[u8]) -> Self {
+        let sort = RowSort::of_row(row);
         if is_packed(row) {
-            Self::packed(types)
+            Self::packed_of(types, sort)
         } else {
-            Self::padded(types)
+            Self::padded_of(types, sort)
         }
     }
 
-    fn new(types: &[ColumnType], alignment: impl Fn(&ColumnType) -> usize) -> Self {
+    fn new(types: &[ColumnType], sort: RowSort, alignment: impl Fn(&ColumnType) -> usize) -> Self {
         let varchars = types.iter().filter(|ty| ty.is_variable_length()).count();
         let table = BITMAP + types.len().div_ceil(8);
-        let fixed = table + 2 * varchars;
+        let fixed = table + sort.offset_width() * varchars;
         // The end of the fixed columns so far, counted from the first fixed byte.
         let mut end: usize = 0;
         let mut ranks = 0..varchars;
@@ -66,6 +77,7 @@ impl Layout {
             },
         };
         Layout {
+            sort,
             places: types.iter().map(place).collect(),
             varchars,
             table,

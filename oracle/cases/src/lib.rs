@@ -8,9 +8,10 @@
 //! - `schema`: schema bytes and their columns, refusals 1 and 2;
 //! - `value`: value lists with their text area and `Vec<Option<DataValue>>`,
 //!   refusal 10, and which values lie outside 01's domain;
+//! - `row_sort`: short and long rows;
 //! - `layout`: places in packed and padded rows;
-//! - `row`: the padded form of a row, soundness, null slots zeroed;
-//! - `laid_out`: rows of columns that the Rust does not know;
+//! - `row`: the padded form of a row, its long twin, soundness, null slots zeroed;
+//! - `laid_out`: rows of columns or of the sort that the Rust does not know;
 //! - `history`: a history of edits and what the Rust makes of it;
 //! - `expected`: what each call must answer, from what the Rust answers;
 //! - `printed`: the same for the printed list.
@@ -21,6 +22,9 @@
 //! - `generate`: schemas, texts, values, value lists, rows, pairs of rows, row
 //!   lists, wanted columns and histories, good and bad, each by a sort that the
 //!   caller picks or at random.
+//!
+//! What is made for rows has two functions where it matters: the plain name is for
+//! short rows, the one with `_of` for rows of a sort.
 //!
 //! tests/ checks all of this against the Rust. It also holds the findings about
 //! the Rust (`findings.rs`) and 01's statements about it (`statements.rs`). No
@@ -35,12 +39,15 @@ pub mod layout;
 pub mod printed;
 pub mod rng;
 pub mod row;
+pub mod row_sort;
 pub mod rust;
 pub mod schema;
 pub mod value;
 
-/// The most bytes of a row and of a text area.
+/// The most bytes of a short row and of its text area.
 pub const LIMIT: usize = 65_535;
+
+pub use row_sort::RowSort;
 
 /// The most columns of a schema.
 pub const MAX_COLUMNS: usize = 256;

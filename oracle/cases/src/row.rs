@@ -1,8 +1,9 @@
-//! Row bytes, from 01: the padded form, soundness, null slots zeroed.
+//! Row bytes, from 01: the padded form, the long twin, soundness, null slots zeroed.
 
 use crate::column::{ColumnType, RustColumns};
 use crate::layout::{BITMAP, Layout, PACKED, Place};
-use crate::{LIMIT, rust, value};
+use crate::row_sort::LONG;
+use crate::{LIMIT, RowSort, rust, value};
 
 /// The column's bit in the null bitmap.
 pub fn null_bit(row: &[u8], column: usize) -> bool {
@@ -18,27 +19,33 @@ pub fn set_null_bit(row: &mut [u8], column: usize) {
 }
 
 /// The offset table's number of this rank.
-pub fn offset(row: &[u8], layout: &Layout, rank: usize) -> u16 {
-    let at = layout.table + 2 * rank;
-    u16::from_le_bytes([row[at], row[at + 1]])
+pub fn offset(row: &[u8], layout: &Layout, rank: usize) -> usize {
+    let width = layout.sort.offset_width();
+    let at = layout.table + width * rank;
+    let mut bytes = [0; 8];
+    bytes[..width].copy_from_slice(&row[at..at + width]);
+    usize::from_le_bytes(bytes)
 }
 
-pub fn set_offset(row: &mut [u8], layout: &Layout, rank: usize, offset: u16) {
-    let at = layout.table + 2 * rank;
-    row[at..at + 2].copy_from_slice(&offset.to_le_bytes());
+/// Cuts a number that does not fit.
+pub fn set_offset(row: &mut [u8], layout: &Layout, rank: usize, offset: usize) {
+    let width = layout.sort.offset_width();
+    let at = layout.table + width * rank;
+    row[at..at + width].copy_from_slice(&offset.to_le_bytes()[..width]);
 }
 
 /// The padded form of a sound packed row: the flag clear, each slot at its
 /// aligned start, `filler` between the slots, offsets moved with the payloads.
 /// `None` if it passes the row limit.
 pub fn padded(types: &[ColumnType], row: &[u8], filler: u8) -> Option<Vec<u8>> {
-    let from = Layout::packed(types);
-    let to = Layout::padded(types);
+    let sort = RowSort::of_row(row);
+    let from = Layout::packed_of(types, sort);
+    let to = Layout::padded_of(types, sort);
     let shift = to.minimum - from.minimum;
-    if row.len() + shift > LIMIT {
+    if row.len() + shift > sort.limit() {
         return None;
     }
-    let fixed = from.table + 2 * from.varchars;
+    let fixed = from.table + sort.offset_width() * from.varchars;
     let mut out = row[..fixed].to_vec();
     out.resize(to.minimum, filler);
     out.extend(&row[from.minimum..]);
@@ -46,7 +53,7 @@ pub fn padded(types: &[ColumnType], row: &[u8], filler: u8) -> Option<Vec<u8>> {
     for rank in 0..from.varchars {
         let old = offset(row, &from, rank);
         if old != 0 {
-            set_offset(&mut out, &to, rank, old + shift as u16);
+            set_offset(&mut out, &to, rank, old + shift);
         }
     }
     for (old, new) in from.places.iter().zip(&to.places) {
@@ -57,8 +64,35 @@ pub fn padded(types: &[ColumnType], row: &[u8], filler: u8) -> Option<Vec<u8>> {
     Some(out)
 }
 
-/// Whether a read of all columns gives 0: the Rust reads them, and the row and
-/// its dates are within 01's limits.
+/// The long twin of a short row, packed or padded: the mark set, offsets of four bytes,
+/// moved with what stands behind the table. `None` if the row has another header than
+/// its columns or less than their minimum.
+pub fn long_twin(types: &[ColumnType], row: &[u8]) -> Option<Vec<u8>> {
+    if row.len() < BITMAP || RowSort::of_row(row) == RowSort::Long {
+        return None;
+    }
+    let from = Layout::of_row(types, row);
+    let field = from.varchars as u16 | u16::from_le_bytes([row[2], row[3]]) & PACKED;
+    let header = [types.len() as u16, field].map(u16::to_le_bytes).concat();
+    if row[..BITMAP] != header || row.len() < from.minimum {
+        return None;
+    }
+    let shift = 2 * from.varchars;
+    let behind = from.table + shift;
+    let mut out = row[..from.table].to_vec();
+    out[3] |= (LONG >> 8) as u8;
+    for rank in 0..from.varchars {
+        let old = offset(row, &from, rank);
+        // Of a place before the slots nothing is known but that it is not 0.
+        let moved = if old < behind { old } else { old + shift };
+        out.extend((moved as u32).to_le_bytes());
+    }
+    out.extend(&row[behind..]);
+    Some(out)
+}
+
+/// Whether a read of all columns of a short row gives 0: the Rust reads them, and the
+/// row and its dates are within 01's limits.
 pub fn reads(columns: &RustColumns, row: &[u8]) -> bool {
     row.len() <= LIMIT
         && rust::read_all(&columns.rust, row)
@@ -66,7 +100,7 @@ pub fn reads(columns: &RustColumns, row: &[u8]) -> bool {
             .is_some_and(|values| values.iter().flatten().all(value::in_domain))
 }
 
-/// Whether the row may be edited: all columns read, each Varchar has offset 0
+/// Whether a short row may be edited: all columns read, each Varchar has offset 0
 /// exactly if it is null, and the first other offset, or the row's length if
 /// there is none, is the minimum.
 pub fn is_sound(columns: &RustColumns, row: &[u8]) -> bool {
@@ -83,7 +117,7 @@ pub fn is_sound(columns: &RustColumns, row: &[u8]) -> bool {
             Place::Fixed { .. } => true,
         });
     let first = (0..layout.varchars)
-        .map(|rank| usize::from(offset(row, &layout, rank)))
+        .map(|rank| offset(row, &layout, rank))
         .find(|&offset| offset != 0)
         .unwrap_or(row.len());
     nulls_agree && first == layout.minimum

@@ -3,7 +3,7 @@
 
 use crate::column::ColumnType;
 use crate::layout::Layout;
-use crate::{LIMIT, MAX_COLUMNS, Refusal};
+use crate::{MAX_COLUMNS, Refusal, RowSort};
 
 /// The kinds of Varchars, by bytes and by characters.
 pub const VARCHAR: u8 = 11;
@@ -68,8 +68,13 @@ fn kind(ty: &ColumnType) -> u8 {
 /// The columns of a schema, or refusal 1 or 2. The padded minimum is tested
 /// after all records.
 pub fn read_schema(bytes: &[u8]) -> Result<Vec<ColumnType>, Refusal> {
+    read_schema_of(bytes, RowSort::Short)
+}
+
+/// The same of a schema for rows of a sort.
+pub fn read_schema_of(bytes: &[u8], of: RowSort) -> Result<Vec<ColumnType>, Refusal> {
     let types = read_records(bytes)?;
-    if Layout::padded(&types).minimum > LIMIT {
+    if Layout::padded_of(&types, of).minimum > of.limit() {
         return Err(Refusal::new(2, bytes.len()));
     }
     Ok(types)

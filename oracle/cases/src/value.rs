@@ -1,7 +1,7 @@
 //! Value lists with their text area, from 01, and the Rust's values for them.
 
 use crate::column::ColumnType;
-use crate::{LIMIT, Refusal};
+use crate::{LIMIT, Refusal, RowSort};
 use rookdb::chrono::{Datelike, NaiveDate, NaiveDateTime, NaiveTime, Timelike};
 use rookdb::types::value::{DataValue, NumericValue, OrderedF32, OrderedF64};
 use std::ops::RangeInclusive;
@@ -34,24 +34,35 @@ impl TextRange {
         text.get(self.start..self.end())
     }
 
-    /// Both numbers in two bytes each, as a record of these kinds has them.
-    fn write(self, out: &mut Vec<u8>) {
+    /// Whether two bytes do not hold its numbers.
+    fn is_wide(self) -> bool {
+        self.start.max(self.length) > usize::from(u16::MAX)
+    }
+
+    /// Both numbers in two bytes each, or in four.
+    fn write(self, wide: bool, out: &mut Vec<u8>) {
         for number in [self.start, self.length] {
-            let number = u16::try_from(number).expect("a number of two bytes");
-            out.extend(number.to_le_bytes());
+            let number = u32::try_from(number).expect("a number of four bytes");
+            out.extend(&number.to_le_bytes()[..if wide { 4 } else { 2 }]);
         }
     }
 
+    /// Both numbers of a body of four bytes or of eight.
     fn read(body: &[u8]) -> Self {
-        let number = |bytes: &[u8]| usize::from(u16::from_le_bytes(array(bytes)));
+        let (start, length) = body.split_at(body.len() / 2);
+        let number = |bytes: &[u8]| match bytes.len() {
+            2 => usize::from(u16::from_le_bytes(array(bytes))),
+            _ => u32::from_le_bytes(array(bytes)) as usize,
+        };
         TextRange {
-            start: number(&body[..2]),
-            length: number(&body[2..]),
+            start: number(start),
+            length: number(length),
         }
     }
 }
 
-/// One record of a value list. Floats are their bits.
+/// One record of a value list. Floats are their bits. Of a range two kinds tell, with
+/// numbers of two bytes and of four.
 #[derive(Debug, Clone, Copy, PartialEq, Eq)]
 pub enum Record {
     Null,
@@ -71,6 +82,7 @@ pub enum Record {
 }
 
 impl Record {
+    /// The kind, of a range that with numbers of two bytes.
     pub fn kind(&self) -> u8 {
         match self {
             Record::Null => 0,
@@ -90,8 +102,26 @@ impl Record {
         }
     }
 
+    /// The kind with numbers of four bytes, if the record has a range.
+    pub fn wide_kind(&self) -> Option<u8> {
+        match self {
+            Record::Char(_) => Some(17),
+            Record::Varchar(_) => Some(18),
+            Record::Bit(_) => Some(19),
+            _ => None,
+        }
+    }
+
+    /// Puts the record at the end, with numbers of four bytes where two do not hold
+    /// them.
     pub fn write(&self, out: &mut Vec<u8>) {
-        out.push(self.kind());
+        self.write_as(self.range().is_some_and(TextRange::is_wide), out);
+    }
+
+    /// Puts the record at the end, a range with numbers of four bytes or of two.
+    pub fn write_as(&self, wide: bool, out: &mut Vec<u8>) {
+        let kind = self.wide_kind().filter(|_| wide);
+        out.push(kind.unwrap_or(self.kind()));
         match *self {
             Record::Null => {}
             Record::SmallInt(v) => out.extend(v.to_le_bytes()),
@@ -107,14 +137,14 @@ impl Record {
             }
             Record::Bool(v) => out.push(v),
             Record::Char(range) | Record::Varchar(range) | Record::Bit(range) => {
-                range.write(out);
+                range.write(wide, out);
             }
         }
     }
 
     /// The record that starts `bytes`, with its length; `None` if its kind is
     /// unknown or it is cut.
-    fn read(bytes: &[u8]) -> Option<(Record, usize)> {
+    pub fn read(bytes: &[u8]) -> Option<(Record, usize)> {
         let length = body_length(bytes[0])?;
         let body = bytes.get(1..1 + length)?;
         let record = match bytes[0] {
@@ -129,11 +159,11 @@ impl Record {
                 scale: body[16],
             },
             7 => Record::Bool(body[0]),
-            8 => Record::Char(TextRange::read(body)),
-            9 => Record::Varchar(TextRange::read(body)),
+            8 | 17 => Record::Char(TextRange::read(body)),
+            9 | 18 => Record::Varchar(TextRange::read(body)),
             10 => Record::Date(i32::from_le_bytes(array(body))),
             11 => Record::Time(i64::from_le_bytes(array(body))),
-            12 => Record::Bit(TextRange::read(body)),
+            12 | 19 => Record::Bit(TextRange::read(body)),
             _ => Record::Timestamp(i64::from_le_bytes(array(body))),
         };
         Some((record, 1 + length))
@@ -181,7 +211,10 @@ impl Record {
 /// The body length of a value kind; `None` if the kind is unknown.
 pub fn body_length(kind: u8) -> Option<usize> {
     const LENGTHS: [usize; 14] = [0, 2, 4, 8, 4, 8, 17, 1, 4, 4, 4, 8, 4, 8];
-    LENGTHS.get(usize::from(kind)).copied()
+    match kind {
+        17..=19 => Some(8),
+        _ => LENGTHS.get(usize::from(kind)).copied(),
+    }
 }
 
 fn array<const N: usize>(body: &[u8]) -> [u8; N] {
@@ -210,6 +243,16 @@ impl ValueList {
         let mut bytes = Vec::new();
         for record in records {
             record.write(&mut bytes);
+        }
+        ValueList { bytes, text }
+    }
+
+    /// The list of these records as a row of this sort reads them: kinds 17, 18 and 19
+    /// of a long row.
+    pub fn of_records_of(of: RowSort, records: &[Record], text: Vec<u8>) -> Self {
+        let mut bytes = Vec::new();
+        for record in records {
+            record.write_as(of == RowSort::Long, &mut bytes);
         }
         ValueList { bytes, text }
     }
@@ -243,11 +286,16 @@ impl ValueList {
     /// The records, or refusal 10: the first unknown or cut record, then the
     /// count, then the text area.
     pub fn records(&self, count: usize) -> Result<Vec<Record>, Refusal> {
+        self.records_of(count, RowSort::Short)
+    }
+
+    /// The same of a list for a row of a sort.
+    pub fn records_of(&self, count: usize, of: RowSort) -> Result<Vec<Record>, Refusal> {
         let records = self.all_records()?;
         if records.len() != count {
             return Err(Refusal::new(10, self.bytes.len()));
         }
-        if self.text.len() > LIMIT {
+        if self.text.len() > of.limit() {
             return Err(Refusal::new(10, 0));
         }
         Ok(records)
@@ -421,11 +469,16 @@ fn from_rust(value: &DataValue, text: &mut Vec<u8>) -> Option<Record> {
 
 /// Puts bytes at the end of the text area; `None` if it passes the limit.
 pub fn append(bytes: &[u8], text: &mut Vec<u8>) -> Option<TextRange> {
+    append_up_to(LIMIT, bytes, text)
+}
+
+/// The same with this limit.
+pub fn append_up_to(limit: usize, bytes: &[u8], text: &mut Vec<u8>) -> Option<TextRange> {
     let range = TextRange {
         start: text.len(),
         length: bytes.len(),
     };
-    (range.end() <= LIMIT).then(|| {
+    (range.end() <= limit).then(|| {
         text.extend(bytes);
         range
     })

@@ -1,5 +1,6 @@
 //! The same seed gives the same inputs, another seed others.
 
+use cases::RowSort;
 use cases::generate::kinds::Kinds;
 use cases::generate::{history, list, pair, row, row_list, schema, text, wanted};
 use cases::rng::Rng;
@@ -12,6 +13,19 @@ fn everything(seed: u64) -> String {
         let types = schema::any_types(&mut rng);
         let types = Kinds::All.types(&mut rng, types);
         let fault = rng.pick(&text::Fault::ALL);
+        let list = list::any_list_of(&mut rng, &types, RowSort::Long).1;
+        let calls = history::history_of(&mut rng, &types, RowSort::Long, 5);
+        out += &format!(
+            "{:?}{:?}{:?}{:?}{:?}{:?}{:?}{:?}",
+            Kinds::All.row_sort(&mut rng),
+            Kinds::All.types_of(&mut rng, types.clone(), RowSort::Long),
+            schema::any_schema_of(&mut rng, RowSort::Long),
+            Kinds::All.list(&mut rng, list),
+            row::any_row_of(&mut rng, &types, RowSort::Long),
+            Kinds::All.pair(&mut rng, &types, RowSort::Long),
+            Kinds::All.calls(&mut rng, calls),
+            Kinds::All.row_list(&mut rng),
+        );
         out += &format!(
             "{:?}{:?}{:?}{:?}{:?}{:?}{:?}{:?}{:?}",
             schema::any_schema(&mut rng),

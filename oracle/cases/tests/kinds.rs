@@ -14,7 +14,7 @@ use cases::layout::Layout;
 use cases::rng::Rng;
 use cases::schema::{read_schema, write_schema};
 use cases::value::{Record, ValueList};
-use cases::{LIMIT, laid_out};
+use cases::{LIMIT, RowSort, laid_out};
 use std::collections::{BTreeMap, BTreeSet};
 
 fn is_chars(ty: &ColumnType) -> bool {
@@ -101,10 +101,10 @@ fn laid_out_as_by_the_rust() {
     for _ in 0..2000 {
         let types = any_types(&mut rng);
         assert!(RustColumns::of(&types).is_some());
-        assert_eq!(laid_out::fresh(&types), made::fresh(&types));
+        assert_eq!(laid_out::fresh(&types, RowSort::Short), made::fresh(&types));
         for sort in [list::Sort::Good, list::Sort::Values, list::Sort::RowAtLimit] {
             if let Some(list) = list(&mut rng, &types, sort) {
-                let row = laid_out::built(&types, &list.values);
+                let row = laid_out::built(&types, RowSort::Short, &list.values);
                 assert_eq!(row, made::built(&types, &list.values), "{types:?}");
             }
         }

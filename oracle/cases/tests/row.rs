@@ -274,7 +274,7 @@ fn check_sort(types: &[ColumnType], sort: Sort, row: &[u8]) {
         let columns = layout.places.clone().into_iter().enumerate();
         columns.filter_map(move |(column, place)| match place {
             Place::Varchar { rank } => {
-                let offset = usize::from(offset(row, &layout, rank));
+                let offset = offset(row, &layout, rank);
                 Some((null_bit(row, column), offset, layout.minimum))
             }
             Place::Fixed { .. } => None,

@@ -170,7 +170,11 @@ fn record_bytes() {
         start: 0x0102,
         length: 0x0304,
     };
-    let examples: [(Record, &[u8]); 14] = [
+    let wide = TextRange {
+        start: 0x0102_0304,
+        length: 0x0506_0708,
+    };
+    let examples: [(Record, &[u8]); 17] = [
         (Record::Null, &[0]),
         (Record::SmallInt(-2), &[1, 0xFE, 0xFF]),
         (Record::Int(1), &[2, 1, 0, 0, 0]),
@@ -197,6 +201,9 @@ fn record_bytes() {
         (Record::Time(3), &[11, 3, 0, 0, 0, 0, 0, 0, 0]),
         (Record::Bit(range), &[12, 2, 1, 4, 3]),
         (Record::Timestamp(4), &[13, 4, 0, 0, 0, 0, 0, 0, 0]),
+        (Record::Char(wide), &[17, 4, 3, 2, 1, 8, 7, 6, 5]),
+        (Record::Varchar(wide), &[18, 4, 3, 2, 1, 8, 7, 6, 5]),
+        (Record::Bit(wide), &[19, 4, 3, 2, 1, 8, 7, 6, 5]),
     ];
     for (record, bytes) in examples {
         let values = ValueList::of_records(&[record], vec![]);
@@ -212,15 +219,18 @@ fn record_bytes() {
     }
 }
 
-/// A range is never cut to the two bytes of its record.
+/// A range is never cut to the two bytes of its record: past them it has four, and past
+/// those it is not written.
 #[test]
-fn a_range_past_two_bytes_is_not_written() {
+fn a_range_is_not_cut() {
     let write = |start, length| {
         let record = Record::Varchar(TextRange { start, length });
         rust::guarded(|| ValueList::of_records(&[record], vec![]).bytes)
     };
     assert_eq!(write(65_535, 65_535), Ok(vec![9, 255, 255, 255, 255]));
-    assert!(write(65_536, 0).is_err() && write(0, 65_536).is_err());
+    assert_eq!(write(65_536, 0), Ok(vec![18, 0, 0, 1, 0, 0, 0, 0, 0]));
+    assert_eq!(write(0, 65_536), Ok(vec![18, 0, 0, 0, 0, 0, 0, 1, 0]));
+    assert!(write(1 << 32, 0).is_err() && write(0, 1 << 32).is_err());
 }
 
 #[test]

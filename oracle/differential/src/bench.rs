@@ -3,12 +3,12 @@
 //! that other work on the machine counts little. There are so many rows that the
 //! processor cannot learn them.
 
-use cases::column::ColumnType;
+use cases::column::{ColumnType, of_rust_types};
 use cases::generate::value::points;
-use cases::laid_out;
 use cases::rng::Rng;
 use cases::schema::write_schema;
-use cases::value::{Record, TextRange, ValueList, append};
+use cases::value::{Record, TextRange, ValueList, append, append_up_to};
+use cases::{RowSort, laid_out, rust};
 use rookdb::chrono::{Duration, NaiveDate, NaiveDateTime};
 use rookdb::types::datatype::DataType;
 use rookdb::types::value::{DataValue, NumericValue, OrderedF32, OrderedF64};
@@ -253,7 +253,7 @@ impl Names {
             schemas: [write_schema(&by_chars), write_schema(&by_bytes)],
             rows: lists
                 .iter()
-                .map(|list| laid_out::built(&by_chars, list))
+                .map(|list| laid_out::built(&by_chars, RowSort::Short, list))
                 .collect(),
             types: by_chars,
             lists,
@@ -293,30 +293,181 @@ pub fn names() -> [Names; 10] {
 /// Nanoseconds for one of the items under each of two schemas, which take turns, each
 /// before the other in every second round.
 pub fn beside<T>(schemas: &[Vec<u8>; 2], items: &[T], mut call: impl FnMut(&[u8], &T)) -> [f64; 2] {
+    in_turns(|which| {
+        let schema = black_box(&schemas[which]);
+        time(items, |item| call(schema, item))
+    })
+}
+
+/// The least times of two, which take turns, each before the other in every second round.
+pub fn in_turns(mut of: impl FnMut(usize) -> f64) -> [f64; 2] {
     let mut first = 0;
     least_of(ROUNDS_BESIDE, || {
         first = 1 - first;
         let mut times = [0.0; 2];
         for which in [first, 1 - first] {
-            let schema = black_box(&schemas[which]);
-            times[which] = time(items, |item| call(schema, item));
+            times[which] = of(which);
         }
         times
     })
 }
 
 pub fn say_beside_header(what: &str) {
+    say_header(what, "kind 11", "kind 16");
+}
+
+fn say_header(what: &str, first: &str, second: &str) {
     let what = format!("{what}, ns for a row");
-    println!(
-        "{what:<56}{:>10}{:>10}{:>10}",
-        "kind 11", "kind 16", "ratio"
-    );
+    println!("{what:<56}{first:>10}{second:>10}{:>10}", "ratio");
 }
 
 pub fn say_beside(name: &str, [by_chars, by_bytes]: [f64; 2]) {
+    say_ratio(name, by_bytes, by_chars);
+}
+
+fn say_ratio(name: &str, first: f64, second: f64) {
+    let ratio = second / first;
+    println!("{name:<56}{first:>10.1}{second:>10.1}{ratio:>10.3}");
+}
+
+/// Rows of a table and their long twins.
+pub struct Twins {
+    pub name: String,
+    pub types: Vec<ColumnType>,
+    pub schema: Vec<u8>,
+    pub short: Vec<Twin>,
+    pub long: Vec<Twin>,
+}
+
+/// A row, and its values in the kinds that it reads into.
+pub struct Twin {
+    pub row: Vec<u8>,
+    pub list: ValueList,
+}
+
+impl Twins {
+    fn new(table: Table) -> Self {
+        let types = of_rust_types(&table.types);
+        let twin = |values: &Vec<Option<DataValue>>, of: RowSort| {
+            let list = ValueList::of_rust(values).expect("texts that fit");
+            let records = list.records(types.len()).expect("a good list");
+            let list = ValueList::of_records_of(of, &records, list.text);
+            let row = match of {
+                RowSort::Short => rust::build(&table.types, values).ok().expect("a row"),
+                RowSort::Long => laid_out::built(&types, of, &list),
+            };
+            Twin { row, list }
+        };
+        let twins = |of| table.rows.iter().map(|row| twin(row, of)).collect();
+        Twins {
+            name: table.name.clone(),
+            schema: write_schema(&types),
+            short: twins(RowSort::Short),
+            long: twins(RowSort::Long),
+            types,
+        }
+    }
+
+    /// Of the one sort or the other.
+    pub fn of(&self, is_long: bool) -> &[Twin] {
+        if is_long { &self.long } else { &self.short }
+    }
+}
+
+pub fn twins() -> Vec<Twins> {
+    tables()
+        .into_iter()
+        .chain(possessions())
+        .map(Twins::new)
+        .collect()
+}
+
+/// The times of short rows and of their long twins.
+pub fn by_sort<T>(items: [&[T]; 2], mut call: impl FnMut(bool, &T)) -> [f64; 2] {
+    in_turns(|which| time(items[which], |item| call(which == 1, item)))
+}
+
+pub fn say_twins_header(what: &str) {
+    say_header(what, "short", "long");
+}
+
+pub fn say_twins(name: &str, [short, long]: [f64; 2]) {
+    say_ratio(name, short, long);
+}
+
+/// A long row of 64 KB, 256 KB or 1 MB: an Int, and 17 remarks that share the rest.
+pub struct Large {
+    pub schema: Vec<u8>,
+    pub columns: usize,
+    pub list: ValueList,
+    pub row: Vec<u8>,
+}
+
+impl Large {
+    fn new(rng: &mut Rng, bytes: usize) -> Self {
+        const REMARKS: usize = 17;
+        let mut types = vec![ColumnType::Int];
+        types.extend(vec![ColumnType::Varchar(u16::MAX); REMARKS]);
+        let mut missing = bytes - (4 + 3 + 4 * REMARKS + 4);
+        let mut records = vec![Record::Int(7)];
+        let mut area = Vec::new();
+        for left in (1..=REMARKS).rev() {
+            let length = missing / left;
+            missing -= length;
+            let text: Vec<u8> = (0..length).map(|_| b'a' + rng.below(26) as u8).collect();
+            let range = append_up_to(bytes, &text, &mut area);
+            records.push(Record::Varchar(range.expect("less than the row")));
+        }
+        let list = ValueList::of_records_of(RowSort::Long, &records, area);
+        let row = laid_out::built(&types, RowSort::Long, &list);
+        assert_eq!(row.len(), bytes);
+        Large {
+            schema: write_schema(&types),
+            columns: types.len(),
+            list,
+            row,
+        }
+    }
+
+    /// The text of a column.
+    pub fn text(&self, column: usize) -> Vec<u8> {
+        let records = self.list.all_records().expect("a good list");
+        let range = records[column].range().expect("a text");
+        range.of(&self.list.text).expect("a range inside").to_vec()
+    }
+}
+
+pub fn large() -> [Large; 3] {
+    let rng = &mut Rng::new(4);
+    [65_536, 262_144, 1_048_576].map(|bytes| Large::new(rng, bytes))
+}
+
+/// The least times of a call on each of the large rows.
+pub fn by_size(rows: &mut [Large; 3], mut call: impl FnMut(&mut Large)) -> [f64; 3] {
+    least(|| {
+        rows.each_mut().map(|row| {
+            let start = Instant::now();
+            call(black_box(row));
+            start.elapsed().as_nanos() as f64
+        })
+    })
+}
+
+pub fn say_large_header(what: &str) {
+    let what = format!("{what}, µs for a long row");
     println!(
-        "{name:<56}{by_bytes:>10.1}{by_chars:>10.1}{:>10.3}",
-        by_chars / by_bytes
+        "{what:<40}{:>10}{:>10}{:>10}{:>10}{:>10}",
+        "64 KB", "256 KB", "1 MB", "256 by 4", "1 by 16"
+    );
+}
+
+/// Times, and those of the larger rows by what they were in proportion to the first.
+pub fn say_large(name: &str, times: [f64; 3]) {
+    let [small, middle, whole] = times.map(|nanos| nanos / 1000.0);
+    println!(
+        "{name:<40}{small:>10.1}{middle:>10.1}{whole:>10.1}{:>10.3}{:>10.3}",
+        middle / (4.0 * small),
+        whole / (16.0 * small)
     );
 }
 
@@ -343,4 +494,45 @@ fn least_of<const N: usize>(rounds: usize, mut round: impl FnMut() -> [f64; N]) 
         }
     }
     least
+}
+
+#[cfg(test)]
+mod tests {
+    use super::{large, twins};
+    use model::{FlagAnswer, Sort};
+
+    /// Rows are of the sort that they are measured as, and have one content.
+    #[test]
+    fn twins_have_one_content() {
+        let same = FlagAnswer {
+            number: 0,
+            place: 0,
+            flag: 1,
+        };
+        for twins in twins() {
+            assert_eq!(twins.short.len(), twins.long.len());
+            for (short, long) in twins.short.iter().zip(&twins.long) {
+                let sorts = [short, long].map(|twin| Sort::of_row(&twin.row));
+                assert_eq!(sorts, Sort::ALL);
+                let flag = model::same_content(&twins.schema, &short.row, &long.row);
+                assert_eq!(flag, same, "{}", twins.name);
+            }
+        }
+    }
+
+    #[test]
+    fn large_rows_are_the_models() {
+        for large in large() {
+            let mut out = vec![0; large.row.len()];
+            let (values, text) = (&large.list.bytes, &large.list.text);
+            let counts = &mut [0; 18];
+            let answer = model::build(&large.schema, Sort::Long, values, text, &mut out, counts);
+            assert_eq!((answer.number, answer.length), (0, large.row.len()));
+            assert!(out == large.row);
+            assert_eq!(
+                large.text(17),
+                large.row[large.row.len() - large.text(17).len()..]
+            );
+        }
+    }
 }

@@ -3,6 +3,7 @@
 
 use cases::LIMIT;
 use cases::schema::VARCHAR_CHARS;
+use model::Sort;
 use model::edit::sound;
 use model::read::columns;
 use model::schema::{Type, check};
@@ -44,7 +45,8 @@ fn types(schema: &[u8]) -> Option<Vec<Type>> {
     if !schema.contains(&VARCHAR_CHARS) {
         return None;
     }
-    let types = check(schema).ok()?;
+    // A schema that is good for short rows is good for long ones.
+    let types = check(schema, Sort::Long).ok()?;
     let has = types.iter().any(|ty| matches!(ty, Type::VarcharChars(_)));
     has.then_some(types)
 }
@@ -107,7 +109,7 @@ fn write(
 ) -> Option<Shown> {
     let types = types(schema)?;
     let own = types.get(of.clone())?;
-    let values = check_list(list, own.len(), area.len()).ok()?;
+    let values = check_list(list, own.len(), area.len(), Sort::Long).ok()?;
     match number {
         0 => {
             let mut columns = own.iter().zip(&values);

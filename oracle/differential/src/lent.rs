@@ -2,8 +2,8 @@
 
 use crate::hex;
 use crate::memory::{Lending, Part, Shape, Side, Slot};
-use cases::LIMIT;
 use cases::rng::Rng;
+use cases::{LIMIT, RowSort};
 use std::cell::RefCell;
 use std::fmt;
 
@@ -65,12 +65,14 @@ pub fn any_counts(rng: &mut Rng, columns: usize) -> (Room, Vec<u32>) {
     (room, numbers)
 }
 
-/// No comparison lends more bytes at a time. A list of whole numbers is aligned
-/// where its end is.
-const SHAPE: Shape = Shape {
-    size: 3 * LIMIT,
-    alignment: 1,
-};
+/// No comparison lends more bytes at a time: a long row with room behind it. A list of
+/// whole numbers is aligned where its end is.
+fn shape() -> Shape {
+    Shape {
+        size: RowSort::Long.limit() + 3 * LIMIT,
+        alignment: 1,
+    }
+}
 
 thread_local! {
     /// What slices are lent from, by as many as a call needs.
@@ -97,7 +99,7 @@ pub fn called_with<A, const N: usize>(
 ) -> After<A> {
     SLOTS.with_borrow_mut(|slots| {
         slots.resize_with(slots.len().max(N + 2), || {
-            Slot::new(Lending::ToWrite, Side::End, SHAPE)
+            Slot::new(Lending::ToWrite, Side::End, shape())
         });
         let ([out, list], slots) = slots.split_first_chunk_mut().expect("two slots");
         let lent = std::array::from_fn(|i| slice(slots[i].put(inputs[i])));

@@ -3,7 +3,7 @@
 //! is lent for writing all the same, so that a fault is no undefined behaviour
 //! here, and is seen.
 
-use model::{CheckAnswer, FlagAnswer, RowAnswer, TextAnswer};
+use model::{CheckAnswer, FlagAnswer, RowAnswer, Sort, TextAnswer};
 // Links the library.
 use rook_row as _;
 
@@ -39,6 +39,7 @@ unsafe extern "C" {
     pub fn rook_row_fresh(
         schema: *const u8,
         schema_length: usize,
+        is_long: bool,
         out: *mut u8,
         out_length: usize,
     ) -> Row;
@@ -46,6 +47,7 @@ unsafe extern "C" {
     pub fn rook_row_build(
         schema: *const u8,
         schema_length: usize,
+        is_long: bool,
         values: *const u8,
         values_length: usize,
         text: *const u8,
@@ -142,22 +144,25 @@ unsafe extern "C" {
     ) -> Row;
 }
 
-/// The row of nulls, in `out`.
-pub fn fresh(schema: &mut [u8], out: &mut [u8]) -> RowAnswer {
+/// The row of nulls of a sort, in `out`.
+pub fn fresh(schema: &mut [u8], sort: Sort, out: &mut [u8]) -> RowAnswer {
     // SAFETY: pointers and lengths are those of slices, each borrowed alone.
     row(unsafe {
         rook_row_fresh(
             schema.as_mut_ptr(),
             schema.len(),
+            is_long(sort),
             out.as_mut_ptr(),
             out.len(),
         )
     })
 }
 
-/// The row of a value list, in `out`, and the code points of its texts, in `counts`.
+/// The row of a value list, of a sort, in `out`, and the code points of its texts, in
+/// `counts`.
 pub fn build(
     schema: &mut [u8],
+    sort: Sort,
     values: &mut [u8],
     text: &mut [u8],
     out: &mut [u8],
@@ -168,6 +173,7 @@ pub fn build(
         rook_row_build(
             schema.as_mut_ptr(),
             schema.len(),
+            is_long(sort),
             values.as_mut_ptr(),
             values.len(),
             text.as_mut_ptr(),
@@ -309,6 +315,11 @@ pub fn occupations_print(list: &mut [u8], out: &mut [u8]) -> RowAnswer {
     row(unsafe {
         rook_occupations_print(list.as_mut_ptr(), list.len(), out.as_mut_ptr(), out.len())
     })
+}
+
+/// A sort as the calls are told it.
+pub fn is_long(sort: Sort) -> bool {
+    sort == Sort::Long
 }
 
 fn row(answer: Row) -> RowAnswer {

@@ -1,12 +1,13 @@
 //! Editing: a sound row is taken apart, a part is changed, and it is put
-//! together again.
+//! together again, of the sort that its own mark tells.
 
 use crate::build::{cell, join};
 use crate::layout::{BITMAP, Layout, Place, end_of, null_bit, offsets};
 use crate::read::{all_columns, row_layout};
 use crate::schema::{self, Type};
+use crate::sort::Sort;
 use crate::value;
-use crate::{LIMIT, Refusal, RowAnswer, put};
+use crate::{Refusal, RowAnswer, put};
 
 /// Whether the row may be edited: all columns read, each Varchar has offset 0
 /// exactly if its bit says null, and the first non-zero offset is the minimum,
@@ -48,11 +49,12 @@ fn set_in(
     text: &[u8],
 ) -> Result<usize, Refusal> {
     let (types, mut parts) = open(schema, buf, row_length, column)?;
-    let values = value::check_list(values, 1, text.len()).map_err(|place| (10, place))?;
+    let sort = parts.layout.sort;
+    let values = value::check_list(values, 1, text.len(), sort).map_err(|place| (10, place))?;
     let stored = cell(types[column], &values[0], text, column)?;
     parts.set(column, &stored);
     let row = parts.row();
-    if row.len() > LIMIT {
+    if row.len() > sort.limit() {
         return Err((13, 0));
     }
     put(&row, buf)
@@ -83,7 +85,7 @@ fn open(
     row_length: usize,
     column: usize,
 ) -> Result<(Vec<Type>, Parts), Refusal> {
-    let types = schema::check(schema)?;
+    let types = schema::check(schema, Sort::of_buffer(buf, row_length))?;
     let row = buf.get(..row_length).ok_or((14, 0))?;
     if !sound(&types, row) {
         return Err((15, 0));
@@ -95,7 +97,7 @@ fn open(
     Ok((types, parts))
 }
 
-/// A sound row apart. Header, spare bits of the bitmap, padding and the slots
+/// A sound row apart. The header with its marks, spare bits of the bitmap, padding and the slots
 /// of null columns are kept as they are.
 struct Parts {
     layout: Layout,
@@ -127,7 +129,14 @@ impl Parts {
 
     /// The row of the parts.
     fn row(&self) -> Vec<u8> {
-        join(&self.header, &self.bitmap, &self.fixed, &self.payloads)
+        let sort = self.layout.sort;
+        join(
+            sort,
+            &self.header,
+            &self.bitmap,
+            &self.fixed,
+            &self.payloads,
+        )
     }
 
     /// Puts a stored form in a column and clears its bit.

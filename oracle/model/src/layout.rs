@@ -2,6 +2,7 @@
 //! table, fixed columns, payloads.
 
 use crate::schema::Type;
+use crate::sort::Sort;
 
 /// Set in the header's second number of a packed row.
 pub const PACKED: usize = 0x8000;
@@ -20,6 +21,7 @@ pub enum Place {
 
 #[derive(Debug, Clone, PartialEq, Eq)]
 pub struct Layout {
+    pub sort: Sort,
     /// Of each column, in schema order.
     pub places: Vec<Place>,
     pub varchars: usize,
@@ -33,20 +35,20 @@ pub struct Layout {
 
 impl Layout {
     /// Fixed columns end to end.
-    pub fn packed(types: &[Type]) -> Self {
-        Self::new(types, |_| 1)
+    pub fn packed(types: &[Type], sort: Sort) -> Self {
+        Self::new(types, sort, |_| 1)
     }
 
     /// Each start rounded up to its alignment, counted from the first fixed
     /// byte, with no padding at the end.
-    pub fn padded(types: &[Type]) -> Self {
-        Self::new(types, Type::alignment)
+    pub fn padded(types: &[Type], sort: Sort) -> Self {
+        Self::new(types, sort, Type::alignment)
     }
 
-    fn new(types: &[Type], alignment: impl Fn(Type) -> usize) -> Self {
+    fn new(types: &[Type], sort: Sort, alignment: impl Fn(Type) -> usize) -> Self {
         let varchars = types.iter().filter(|ty| ty.is_varchar()).count();
         let table = BITMAP + types.len().div_ceil(8);
-        let fixed = table + 2 * varchars;
+        let fixed = table + sort.offset_width() * varchars;
         let mut places = Vec::new();
         let mut rank = 0;
         let mut end = 0;
@@ -67,6 +69,7 @@ impl Layout {
             }
         }
         Layout {
+            sort,
             places,
             varchars,
             table,
@@ -88,9 +91,13 @@ pub fn null_bit(row: &[u8], column: usize) -> bool {
 
 /// The numbers of the offset table.
 pub fn offsets(layout: &Layout, row: &[u8]) -> Vec<usize> {
-    (0..layout.varchars)
-        .map(|rank| number_at(row, layout.table + 2 * rank))
-        .collect()
+    let width = layout.sort.offset_width();
+    let offset = |rank: usize| {
+        let at = layout.table + width * rank;
+        let bytes = row[at..at + width].iter().rev();
+        bytes.fold(0, |number, &byte| 256 * number + usize::from(byte))
+    };
+    (0..layout.varchars).map(offset).collect()
 }
 
 /// Where the payload of this rank ends: at the next non-zero offset of a higher

@@ -7,8 +7,9 @@
 //! - `value`: value lists to a list of values, refusal 10, matching;
 //! - `stored`: a value's stored form: which suit, written, read, the same;
 //! - `text`: which text is valid, and its code points;
+//! - `sort`: short and long rows;
 //! - `layout`: where the parts of a row are;
-//! - `read`, `build`, `edit`: the calls on rows;
+//! - `read`, `build`, `edit`, `handle`: the calls on rows;
 //! - `row_list`: the rows of a list, refusal 16;
 //! - `calendar`: the date and time of a moment;
 //! - `print`: the call on a row list, and what the program prints.
@@ -21,23 +22,24 @@
 pub mod build;
 pub mod calendar;
 pub mod edit;
+pub mod handle;
 pub mod layout;
 pub mod print;
 pub mod read;
 pub mod row_list;
 pub mod schema;
+pub mod sort;
 pub mod stored;
 pub mod text;
 pub mod value;
 
 pub use build::{build, fresh};
 pub use edit::{set, set_null};
+pub use handle::{Handle, handle_set, handle_set_null};
 pub use print::{occupations_print, report};
 pub use read::{is_null, read, same_content, text};
+pub use sort::Sort;
 pub use text::text_check;
-
-/// The most bytes of a row and of a text area.
-pub const LIMIT: usize = 65_535;
 
 /// The most columns of a schema.
 pub const MAX_COLUMNS: usize = 256;

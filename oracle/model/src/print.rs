@@ -51,7 +51,7 @@ pub fn lines(list: &[u8]) -> Result<Vec<u8>, Refusal> {
     Ok(occupations.iter().flat_map(line).collect())
 }
 
-/// What a row says: the refusals of reading all columns, then 17 for a text
+/// What a row of either sort says: the refusals of reading all columns, then 17 for a text
 /// with a double quote or a byte below 32, place its column.
 pub fn occupation(row: &[u8]) -> Result<Occupation, Refusal> {
     let values = all_columns(&COLUMNS, row)?;

@@ -2,12 +2,14 @@
 
 use crate::layout::{BITMAP, Layout, PACKED, Place, end_of, null_bit, number_at, offsets};
 use crate::schema::{self, Type};
+use crate::sort::{LONG, Sort};
 use crate::stored;
 use crate::value::{self, Value};
-use crate::{FlagAnswer, LIMIT, Refusal, RowAnswer, TextAnswer, put_both};
+use crate::{FlagAnswer, Refusal, RowAnswer, TextAnswer, put_both};
 
-/// Reads the wanted columns as a value list whose text area is the row. Numbers
-/// of no column are ignored; an unwanted column is null. The code points of each
+/// Reads the wanted columns as a value list whose text area is the row. The row's
+/// own mark tells its sort before all else, and so the kinds of texts. Numbers of no
+/// column are ignored; an unwanted column is null. The code points of each
 /// text read go to `counts`, 0 for every other column.
 pub fn read(
     schema: &[u8],
@@ -26,7 +28,8 @@ fn read_into(
     out: &mut [u8],
     counts: &mut [u32],
 ) -> Result<usize, Refusal> {
-    let types = schema::check(schema)?;
+    let sort = Sort::of_row(row);
+    let types = schema::check(schema, sort)?;
     let is_wanted = |column| wanted.iter().any(|&number| usize::from(number) == column);
     let values = columns(&types, row, is_wanted)?;
     let mut points = vec![0; types.len()];
@@ -35,7 +38,7 @@ fn read_into(
             points[column] = stored::points(types[column], text);
         }
     }
-    put_both(&value::list(&values), out, &points, counts)
+    put_both(&value::list(&values, sort), out, &points, counts)
 }
 
 /// The wanted columns' values, null for the others: 4, 3, 5, 6, 3, then 7 and 8
@@ -61,7 +64,8 @@ pub fn all_columns(types: &[Type], row: &[u8]) -> Result<Vec<Value>, Refusal> {
 
 /// The layout that the row's header names, once header and minimum are right.
 pub fn row_layout(types: &[Type], row: &[u8]) -> Result<Layout, Refusal> {
-    if row.len() > LIMIT {
+    let sort = Sort::of_row(row);
+    if row.len() > sort.limit() {
         return Err((4, 0));
     }
     if row.len() < 4 {
@@ -72,11 +76,12 @@ pub fn row_layout(types: &[Type], row: &[u8]) -> Result<Layout, Refusal> {
     }
     let second = number_at(row, 2);
     let layout = if second & PACKED != 0 {
-        Layout::packed(types)
+        Layout::packed(types, sort)
     } else {
-        Layout::padded(types)
+        Layout::padded(types, sort)
     };
-    if second & !PACKED != layout.varchars {
+    // Both marks are masked off.
+    if second & !(PACKED | LONG) != layout.varchars {
         return Err((6, 0));
     }
     if row.len() < layout.minimum {
@@ -124,7 +129,7 @@ pub fn text(schema: &[u8], row: &[u8], column: usize) -> TextAnswer {
 }
 
 fn text_value(schema: &[u8], row: &[u8], column: usize) -> Result<Value, Refusal> {
-    let types = schema::check(schema)?;
+    let types = schema::check(schema, Sort::of_row(row))?;
     match types.get(column) {
         None => Err((9, 0)),
         Some(ty) if ty.is_text() => {
@@ -136,14 +141,15 @@ fn text_value(schema: &[u8], row: &[u8], column: usize) -> Result<Value, Refusal
 }
 
 /// Whether a read of all columns gives the same for both rows. Refuses as such
-/// a read of the first row, then of the second.
+/// a read of the first row, then of the second; each is of its own sort.
 pub fn same_content(schema: &[u8], a: &[u8], b: &[u8]) -> FlagAnswer {
     FlagAnswer::of(same_columns(schema, a, b))
 }
 
 fn same_columns(schema: &[u8], a: &[u8], b: &[u8]) -> Result<bool, Refusal> {
-    let types = schema::check(schema)?;
+    let types = schema::check(schema, Sort::of_row(a))?;
     let of_a = all_columns(&types, a)?;
+    schema::check(schema, Sort::of_row(b))?;
     let of_b = all_columns(&types, b)?;
     Ok((0..types.len()).all(|i| stored::same(types[i], &of_a[i], a, &of_b[i], b)))
 }
@@ -154,7 +160,7 @@ pub fn is_null(row: &[u8], column: usize) -> FlagAnswer {
 }
 
 fn null_flag(row: &[u8], column: usize) -> Result<bool, Refusal> {
-    if row.len() > LIMIT {
+    if row.len() > Sort::of_row(row).limit() {
         return Err((4, 0));
     }
     if row.len() < 4 {

@@ -2,7 +2,8 @@
 //! fixes. Refusals 1 and 2.
 
 use crate::layout::Layout;
-use crate::{LIMIT, MAX_COLUMNS, Refusal};
+use crate::sort::Sort;
+use crate::{MAX_COLUMNS, Refusal};
 
 /// A column's type. A Varchar has at most n bytes, a VarcharChars at most n code
 /// points; all else is the same for both.
@@ -65,8 +66,8 @@ impl Type {
 }
 
 /// The types of a schema, or 1 or 2 with its place: the first bad record
-/// decides; after the last record the padded minimum is judged.
-pub fn check(schema: &[u8]) -> Result<Vec<Type>, Refusal> {
+/// decides; after the last record the padded minimum of the sort is judged.
+pub fn check(schema: &[u8], sort: Sort) -> Result<Vec<Type>, Refusal> {
     let mut types = Vec::new();
     let mut at = 0;
     while at < schema.len() {
@@ -78,7 +79,7 @@ pub fn check(schema: &[u8]) -> Result<Vec<Type>, Refusal> {
         types.push(ty);
         at += length;
     }
-    if Layout::padded(&types).minimum > LIMIT {
+    if Layout::padded(&types, sort).minimum > sort.limit() {
         return Err((2, schema.len()));
     }
     Ok(types)

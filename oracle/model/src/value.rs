@@ -1,8 +1,8 @@
 //! Value lists: a record is one byte of kind and a body whose length the kind
 //! fixes. Refusal 10, and which kind belongs to which type.
 
-use crate::LIMIT;
 use crate::schema::Type;
+use crate::sort::Sort;
 
 /// A part of a text area.
 #[derive(Debug, Clone, Copy, PartialEq, Eq)]
@@ -18,7 +18,8 @@ impl Range {
     }
 }
 
-/// A record of a value list. Floats are their bits, a Bool is its body.
+/// A record of a value list. Floats are their bits, a Bool is its body. Ranges are of
+/// two or of four bytes a number: kinds 8, 9 and 12, or 17, 18 and 19.
 #[derive(Debug, Clone, Copy, PartialEq, Eq)]
 pub enum Value {
     Null,
@@ -37,10 +38,18 @@ pub enum Value {
     Timestamp(i64),
 }
 
-/// The body length of each kind, from 0 to 13.
-const BODY: [usize; 14] = [0, 2, 4, 8, 4, 8, 17, 1, 4, 4, 4, 8, 4, 8];
+/// The body length of a kind; `None` if it is unknown.
+fn body_length(kind: u8) -> Option<usize> {
+    const LENGTHS: [usize; 14] = [0, 2, 4, 8, 4, 8, 17, 1, 4, 4, 4, 8, 4, 8];
+    match kind {
+        0..=13 => Some(LENGTHS[usize::from(kind)]),
+        17..=19 => Some(8),
+        _ => None,
+    }
+}
 
 impl Value {
+    /// The kind, of a range that of two bytes a number.
     pub fn kind(&self) -> u8 {
         match self {
             Value::Null => 0,
@@ -80,8 +89,18 @@ impl Value {
         self.kind() == kind
     }
 
-    /// The record's bytes.
-    pub fn record(&self) -> Vec<u8> {
+    /// The kind that a row of this sort reads into.
+    pub fn kind_of(&self, sort: Sort) -> u8 {
+        match (sort, self) {
+            (Sort::Long, Value::Char(_)) => 17,
+            (Sort::Long, Value::Varchar(_)) => 18,
+            (Sort::Long, Value::Bit(_)) => 19,
+            _ => self.kind(),
+        }
+    }
+
+    /// The record's bytes, as a row of this sort reads.
+    pub fn record(&self, sort: Sort) -> Vec<u8> {
         let body = match *self {
             Value::Null => vec![],
             Value::SmallInt(v) => v.to_le_bytes().to_vec(),
@@ -91,17 +110,19 @@ impl Value {
             Value::DoublePrecision(bits) => bits.to_le_bytes().to_vec(),
             Value::Numeric { unscaled, scale } => [&unscaled.to_le_bytes()[..], &[scale]].concat(),
             Value::Bool(v) => vec![v],
-            Value::Char(range) | Value::Varchar(range) | Value::Bit(range) => {
-                [two_bytes(range.start), two_bytes(range.length)].concat()
-            }
+            Value::Char(range) | Value::Varchar(range) | Value::Bit(range) => match sort {
+                Sort::Short => [two_bytes(range.start), two_bytes(range.length)].concat(),
+                Sort::Long => [four_bytes(range.start), four_bytes(range.length)].concat(),
+            },
         };
-        [vec![self.kind()], body].concat()
+        [vec![self.kind_of(sort)], body].concat()
     }
 }
 
-/// The bytes of a value list.
-pub fn list(values: &[Value]) -> Vec<u8> {
-    values.iter().flat_map(Value::record).collect()
+/// The bytes of a value list, as a row of this sort reads.
+pub fn list(values: &[Value], sort: Sort) -> Vec<u8> {
+    let record = |value: &Value| value.record(sort);
+    values.iter().flat_map(record).collect()
 }
 
 /// A number of two bytes, little-endian.
@@ -109,14 +130,25 @@ pub fn two_bytes(number: usize) -> [u8; 2] {
     u16::try_from(number).expect("two bytes").to_le_bytes()
 }
 
+/// A number of four bytes, little-endian.
+pub fn four_bytes(number: usize) -> [u8; 4] {
+    u32::try_from(number).expect("four bytes").to_le_bytes()
+}
+
 /// The values of a list for this many columns, or the place of 10. All records
-/// are judged before their count, the text area's length last.
-pub fn check_list(list: &[u8], columns: usize, area_len: usize) -> Result<Vec<Value>, usize> {
+/// are judged before their count, the text area's length last, by the sort of the row
+/// that they are for. Every known kind is taken for either sort.
+pub fn check_list(
+    list: &[u8],
+    columns: usize,
+    area_len: usize,
+    sort: Sort,
+) -> Result<Vec<Value>, usize> {
     let mut values = Vec::new();
     let mut at = 0;
     while at < list.len() {
         // An unknown kind, or a body that is cut.
-        let Some(&body) = BODY.get(usize::from(list[at])) else {
+        let Some(body) = body_length(list[at]) else {
             return Err(at);
         };
         let Some(bytes) = list.get(at + 1..at + 1 + body) else {
@@ -128,7 +160,7 @@ pub fn check_list(list: &[u8], columns: usize, area_len: usize) -> Result<Vec<Va
     if values.len() != columns {
         return Err(list.len());
     }
-    if area_len > LIMIT {
+    if area_len > sort.limit() {
         return Err(0);
     }
     Ok(values)
@@ -139,6 +171,10 @@ fn value(kind: u8, body: &[u8]) -> Value {
     let range = || Range {
         start: usize::from(body[0]) + 256 * usize::from(body[1]),
         length: usize::from(body[2]) + 256 * usize::from(body[3]),
+    };
+    let wide_range = || Range {
+        start: u32::from_le_bytes(array(&body[..4])) as usize,
+        length: u32::from_le_bytes(array(&body[4..])) as usize,
     };
     match kind {
         0 => Value::Null,
@@ -157,7 +193,10 @@ fn value(kind: u8, body: &[u8]) -> Value {
         10 => Value::Date(i32::from_le_bytes(array(body))),
         11 => Value::Time(i64::from_le_bytes(array(body))),
         12 => Value::Bit(range()),
-        _ => Value::Timestamp(i64::from_le_bytes(array(body))),
+        13 => Value::Timestamp(i64::from_le_bytes(array(body))),
+        17 => Value::Char(wide_range()),
+        18 => Value::Varchar(wide_range()),
+        _ => Value::Bit(wide_range()),
     }
 }
 

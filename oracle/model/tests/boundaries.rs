@@ -3,7 +3,7 @@
 mod common;
 
 use common::*;
-use model::LIMIT;
+use model::Sort;
 use model::edit::sound;
 use model::schema::{Type, check};
 use model::stored;
@@ -71,7 +71,7 @@ fn sizes_and_alignments() {
     ] {
         assert_eq!((ty.fixed_size(), ty.alignment()), (size, alignment));
         // A Bool and the column, padded: the minimum tells the start.
-        let minimum = model::layout::Layout::padded(&[Type::Bool, ty]).minimum;
+        let minimum = model::layout::Layout::padded(&[Type::Bool, ty], Sort::Short).minimum;
         let fixed = size.map_or(2 + 1, |size| alignment + size);
         assert_eq!(minimum, 5 + fixed, "{ty:?}");
     }
@@ -344,7 +344,7 @@ fn bits() {
 fn columns_256() {
     let types = vec![Type::Bool; 256];
     let bytes = schema(&types);
-    assert_eq!(check(&bytes), Ok(types.clone()));
+    assert_eq!(check(&bytes, Sort::Short), Ok(types.clone()));
     let (answer, row) = fresh(&bytes, ROOM);
     assert_eq!(answer, done(4 + 32 + 256));
     assert_eq!(row[..4], hex("00 01 00 80"));
@@ -356,7 +356,7 @@ fn columns_256() {
     assert_eq!(model::is_null(&row, 254), flag(0, 0, 1));
     assert_eq!(set_null(&bytes, &row, 256).0, refused(9, 0, row.len()));
     let more = [&bytes[..], &[8]].concat();
-    assert_eq!(check(&more), Err((2, 256)));
+    assert_eq!(check(&more, Sort::Short), Err((2, 256)));
     // 256 Varchars.
     let bytes = schema(&vec![Type::Varchar(1); 256]);
     let (answer, row) = fresh(&bytes, ROOM);
@@ -369,15 +369,18 @@ fn padded_minimum() {
     let of = |n| [Type::Bool, Type::BigInt, Type::Char(n), Type::Varchar(1)];
     // Header 4, bitmap 1, table 2; then 1, seven bytes of padding, 8, n.
     let most = LIMIT - 7 - 16;
-    assert_eq!(check(&schema(&of(most))), Ok(of(most).to_vec()));
+    assert_eq!(
+        check(&schema(&of(most)), Sort::Short),
+        Ok(of(most).to_vec())
+    );
     // The packed minimum is within the limit, the padded one is not.
     let above = schema(&of(most + 1));
-    assert_eq!(check(&above), Err((2, above.len())));
+    assert_eq!(check(&above, Sort::Short), Err((2, above.len())));
     let (answer, _) = fresh(&schema(&of(most)), ROOM);
     assert_eq!(answer, done(LIMIT - 7));
     // Padding after the last column is not counted.
     let end = [Type::BigInt, Type::Char(LIMIT - 5 - 8)];
-    assert_eq!(check(&schema(&end)), Ok(end.to_vec()));
+    assert_eq!(check(&schema(&end), Sort::Short), Ok(end.to_vec()));
 }
 
 #[test]

@@ -5,7 +5,7 @@ mod common;
 
 use common::*;
 use model::value::{self, Value};
-use model::{LIMIT, RowAnswer};
+use model::{RowAnswer, Sort};
 
 /// "é€": five bytes, two code points.
 const TWO: &[u8] = "é€".as_bytes();
@@ -16,9 +16,9 @@ fn text_of(bytes: &[u8]) -> Value {
 
 /// A build of one column from one text: the answer, the row and the count.
 fn built_one(schema: &str, text: &[u8]) -> (RowAnswer, Vec<u8>, u32) {
-    let list = text_of(text).record();
+    let list = text_of(text).record(Sort::Short);
     let (answer, row, counts) = with_counts(ROOM, 1, |out, counts| {
-        model::build(&hex(schema), &list, text, out, counts)
+        model::build(&hex(schema), Sort::Short, &list, text, out, counts)
     });
     (answer, row, counts[0])
 }
@@ -122,7 +122,7 @@ fn the_largest_n() {
     let schema = hex("10 FF FF");
     let wide = "\u{10FFFF}".repeat(16_384).into_bytes();
     assert_eq!(wide.len(), LIMIT + 1);
-    let list = Value::Varchar(range(0, 4)).record();
+    let list = Value::Varchar(range(0, 4)).record(Sort::Short);
     assert_eq!(build_in(&schema, &list, &wide, ROOM).0, refused(10, 0, 0));
     let (_, row) = fresh(&schema, ROOM);
     let edit = set_in(&schema, &row, ROOM, 0, &list, &wide);
@@ -218,17 +218,18 @@ fn value_kinds() {
 
 #[test]
 fn schemas() {
-    assert_eq!(model::schema::check(&hex("10 05")), Err((1, 0)));
-    assert_eq!(model::schema::check(&hex("10")), Err((1, 0)));
-    assert_eq!(model::schema::check(&hex("02 10 05")), Err((1, 1)));
+    let check = |digits| model::schema::check(&hex(digits), Sort::Short);
+    assert_eq!(check("10 05"), Err((1, 0)));
+    assert_eq!(check("10"), Err((1, 0)));
+    assert_eq!(check("02 10 05"), Err((1, 1)));
     // The records behind it are found.
-    assert_eq!(model::schema::check(&hex("10 02 00 11")), Err((1, 3)));
-    assert_eq!(model::schema::check(&hex("10 02 00 06 00 00")), Err((2, 3)));
+    assert_eq!(check("10 02 00 11"), Err((1, 3)));
+    assert_eq!(check("10 02 00 06 00 00"), Err((2, 3)));
     let many = [&[2; 256][..], &hex("10 01 00")].concat();
-    assert_eq!(model::schema::check(&many), Err((2, 256)));
+    assert_eq!(model::schema::check(&many, Sort::Short), Err((2, 256)));
     // An offset counts in the minimum: 4 + 1 + 2 + 65,529.
-    assert_eq!(model::schema::check(&hex("10 00 00 09 F9 FF")), Err((2, 6)));
-    assert!(model::schema::check(&hex("10 FF FF 09 F8 FF")).is_ok());
+    assert_eq!(check("10 00 00 09 F9 FF"), Err((2, 6)));
+    assert!(check("10 FF FF 09 F8 FF").is_ok());
 }
 
 /// An edit of a row in a buffer of two bytes more: the answer, and the buffer.
@@ -257,7 +258,7 @@ fn told(schema: &[u8], columns: usize, row: &[u8], other: &[u8]) -> Vec<String> 
             model::set_null(schema, buffer, row.len(), column)
         }));
         for text in [&b""[..], b"B", b"BC", b"BCD", b"\xFF"] {
-            let list = text_of(text).record();
+            let list = text_of(text).record(Sort::Short);
             told.push(edited(row, |buffer| {
                 model::set(schema, buffer, row.len(), column, &list, text)
             }));
@@ -282,9 +283,9 @@ fn made(schema: &[u8], columns: usize) -> Vec<String> {
     ];
     for values in lists(&texts, columns) {
         for room in [30, 9] {
-            let list = value::list(&values);
+            let list = value::list(&values, Sort::Short);
             let build = with_counts(room, columns, |out, counts| {
-                model::build(schema, &list, b"ABCD\xFF", out, counts)
+                model::build(schema, Sort::Short, &list, b"ABCD\xFF", out, counts)
             });
             told.push(format!("{values:?} {build:?}"));
         }

@@ -9,6 +9,7 @@
 
 mod common;
 
+use cases::RowSort;
 use cases::column::{ColumnType, RustColumns, to_rust_types};
 use cases::expected::{self, Refusal};
 use cases::generate::{Expected, history, list, pair, row, schema, text, wanted};
@@ -20,7 +21,7 @@ use cases::rust;
 use cases::schema::{read_schema, write_schema};
 use cases::value::ValueList;
 use common::{FILL, NUMBER, ROOM};
-use model::RowAnswer;
+use model::{RowAnswer, Sort};
 use rookdb::types::value::DataValue;
 use std::collections::BTreeMap;
 use std::fmt::Debug;
@@ -160,7 +161,7 @@ fn text_check(rng: &mut Rng) -> Result<Vec<u32>, String> {
 
 fn schema_check(rng: &mut Rng) -> Result<Vec<u32>, String> {
     let (_, schema) = schema::any_schema(rng);
-    let model = model::schema::check(&schema.bytes).map(|types| types.len());
+    let model = model::schema::check(&schema.bytes, Sort::Short).map(|types| types.len());
     let wanted = read_schema(&schema.bytes);
     let wanted = wanted
         .map(|types| types.len())
@@ -208,7 +209,7 @@ fn fresh(rng: &mut Rng) -> Result<Vec<u32>, String> {
     let types = any_types(rng);
     let bytes = write_schema(&types);
     let mut numbers = Vec::new();
-    let (answer, row) = with_rooms(|out| model::fresh(&bytes, out), &mut numbers);
+    let (answer, row) = with_rooms(|out| model::fresh(&bytes, Sort::Short, out), &mut numbers);
     let rust_types = to_rust_types(&types).unwrap();
     let wanted = rust::fresh(&rust_types).ok().ok_or((0, 0));
     same(result_of(answer, row), wanted, || format!("{types:?}"))?;
@@ -221,7 +222,16 @@ fn build(rng: &mut Rng) -> Result<Vec<u32>, String> {
     let bytes = write_schema(&types);
     let values = &list.values;
     let mut counts = vec![NUMBER; types.len()];
-    let call = |out: &mut [u8]| model::build(&bytes, &values.bytes, &values.text, out, &mut counts);
+    let call = |out: &mut [u8]| {
+        model::build(
+            &bytes,
+            Sort::Short,
+            &values.bytes,
+            &values.text,
+            out,
+            &mut counts,
+        )
+    };
     let mut numbers = Vec::new();
     let (answer, row) = with_rooms(call, &mut numbers);
     let input = || {
@@ -240,9 +250,22 @@ fn build(rng: &mut Rng) -> Result<Vec<u32>, String> {
     Ok(numbers)
 }
 
+/// A row of any sort that is short: of those whose damage makes them long ones the Rust
+/// says but that it does not take them, by their Varchar count.
+fn any_short_row(rng: &mut Rng, types: &[ColumnType]) -> (row::Sort, Vec<u8>) {
+    loop {
+        let (sort, row) = row::any_row(rng, types);
+        if RowSort::of_row(&row) == RowSort::Short {
+            return (sort, row);
+        }
+        let columns = to_rust_types(types).unwrap();
+        assert_eq!(rust::read(&columns, &row, &[]), rust::Outcome::Internal);
+    }
+}
+
 fn read(rng: &mut Rng) -> Result<Vec<u32>, String> {
     let types = any_types(rng);
-    let (sort, row) = row::any_row(rng, &types);
+    let (sort, row) = any_short_row(rng, &types);
     let (_, wanted) = wanted::any_wanted(rng, types.len());
     read_of(&types, &row, &wanted, sort)
 }
@@ -305,7 +328,7 @@ fn read_of(
 fn edit(rng: &mut Rng) -> Result<Vec<u32>, String> {
     let types = any_types(rng);
     let (sort, row) = match rng.below(4) {
-        0 => row::any_row(rng, &types),
+        0 => any_short_row(rng, &types),
         _ => (row::Sort::Built, row::sound_row(rng, &types)),
     };
     let call = any_call(rng, &types);
@@ -382,7 +405,7 @@ fn whole_history(rng: &mut Rng) -> Result<Vec<u32>, String> {
     let wanted = replay(&RustColumns::of(&types).unwrap(), &calls);
     let bytes = write_schema(&types);
     let mut buf = vec![FILL; ROOM];
-    let mut length = model::fresh(&bytes, &mut buf).length;
+    let mut length = model::fresh(&bytes, Sort::Short, &mut buf).length;
     let mut numbers = Vec::new();
     let input = || format!("{types:?}\n  {calls:?}");
     for (call, wanted) in calls.iter().zip(&wanted.answers) {
@@ -442,7 +465,7 @@ fn null_flag(rng: &mut Rng) -> Result<Vec<u32>, String> {
 fn text_and_same(rng: &mut Rng) -> Result<Vec<u32>, String> {
     let types = any_types(rng);
     let bytes = write_schema(&types);
-    let (sort, a) = row::any_row(rng, &types);
+    let (sort, a) = any_short_row(rng, &types);
     let column = row::any_column(rng, types.len());
     let answer = model::text(&bytes, &a, column);
     let input = || format!("{sort:?} {types:?}\n  row {}\n  column {column}", hex(&a));
@@ -457,6 +480,12 @@ fn text_and_same(rng: &mut Rng) -> Result<Vec<u32>, String> {
     let mut numbers = vec![answer.number];
 
     let (_, (a, b)) = pair::any_pair(rng, &types);
+    if [&a, &b]
+        .iter()
+        .any(|row| RowSort::of_row(row) == RowSort::Long)
+    {
+        return Ok(numbers);
+    }
     let answer = model::same_content(&bytes, &a, &b);
     let model = match answer.number {
         0 => Ok(answer.flag == 1),

@@ -5,7 +5,7 @@ mod common;
 use common::*;
 use model::schema::Type;
 use model::value::{self, Value};
-use model::{CheckAnswer, RowAnswer, text_check};
+use model::{CheckAnswer, RowAnswer, Sort, text_check};
 
 /// Char(5), Varchar(5), Bit(3), Int.
 fn p() -> Vec<u8> {
@@ -27,7 +27,14 @@ fn values() -> [Value; 4] {
 
 fn built(text: &[u8], room: usize, numbers: usize) -> (RowAnswer, Vec<u8>, Vec<u32>) {
     with_counts(room, numbers, |out, counts| {
-        model::build(&p(), &value::list(&values()), text, out, counts)
+        model::build(
+            &p(),
+            Sort::Short,
+            &value::list(&values(), Sort::Short),
+            text,
+            out,
+            counts,
+        )
     })
 }
 
@@ -85,7 +92,7 @@ fn a_short_list_is_judged_last() {
     assert_eq!(built(&[0xFF; 6], ROOM, 3).0, refused(12, 0, 0));
     let no_numbers = |schema: &[u8], list: &[u8]| {
         with_counts(ROOM, 0, |out, counts| {
-            model::build(schema, list, &TEXT, out, counts)
+            model::build(schema, Sort::Short, list, &TEXT, out, counts)
         })
         .0
     };
@@ -105,7 +112,8 @@ fn a_short_list_is_judged_last() {
 
 #[test]
 fn no_columns_need_no_list() {
-    let build = |out: &mut [u8], counts: &mut [u32]| model::build(&[], &[], &[], out, counts);
+    let build =
+        |out: &mut [u8], counts: &mut [u32]| model::build(&[], Sort::Short, &[], &[], out, counts);
     let row = hex("00 00 00 80");
     assert_eq!(with_counts(4, 0, build), (done(4), row.clone(), vec![]));
     let read = |out: &mut [u8], counts: &mut [u32]| model::read(&[], &row, &[0], out, counts);
@@ -119,7 +127,14 @@ fn counts_above_a_byte() {
     let text = "é".repeat(200).into_bytes();
     let values = [Value::Char(range(0, 400)), Value::Varchar(range(2, 398))];
     let build = |out: &mut [u8], counts: &mut [u32]| {
-        model::build(&schema, &value::list(&values), &text, out, counts)
+        model::build(
+            &schema,
+            Sort::Short,
+            &value::list(&values, Sort::Short),
+            &text,
+            out,
+            counts,
+        )
     };
     let (answer, row, counts) = with_counts(ROOM, 2, build);
     assert_eq!((answer.number, counts), (0, vec![256, 199]));

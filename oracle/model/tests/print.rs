@@ -8,7 +8,7 @@ use model::build::packed_row;
 use model::calendar::moment_text;
 use model::print::COLUMNS;
 use model::row_list::{MAX_BYTES, MAX_ROWS, list};
-use model::{RowAnswer, report};
+use model::{RowAnswer, Sort, report};
 
 /// A row of a platform, a unit, an arrival and a departure.
 fn row(
@@ -25,7 +25,7 @@ fn row(
         moment(arrival),
         moment(departure),
     ];
-    packed_row(&COLUMNS, &cells)
+    packed_row(&COLUMNS, Sort::Short, &cells)
 }
 
 /// A row of a platform and an arrival, with its input place as unit.

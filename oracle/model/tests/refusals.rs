@@ -5,7 +5,7 @@ mod common;
 use common::*;
 use model::schema::Type;
 use model::value::{self, Value};
-use model::{LIMIT, RowAnswer};
+use model::{RowAnswer, Sort};
 
 /// Schemas that every call with a schema refuses, with number and place.
 fn bad_schemas() -> Vec<(Vec<u8>, u32, usize)> {
@@ -54,7 +54,10 @@ fn bad_schemas_in_every_call() {
             ..refused
         };
         let flag = flag(number, place, 0);
-        assert_eq!(model::schema::check(&schema), Err((number, place)));
+        assert_eq!(
+            model::schema::check(&schema, Sort::Short),
+            Err((number, place))
+        );
         assert_eq!(fresh(&schema, 0).0, refused);
         assert_eq!(build_in(&schema, &[99], b"", 0).0, refused);
         assert_eq!(read_in(&schema, &row, &[0], 0).0, refused);
@@ -75,7 +78,7 @@ fn fresh_14() {
 
 /// A list for S: "AB" in column 1, these in the others.
 fn list_for_s(first: Value, last: Value) -> Vec<u8> {
-    value::list(&[first, Value::Varchar(range(0, 2)), last])
+    value::list(&[first, Value::Varchar(range(0, 2)), last], Sort::Short)
 }
 
 #[test]
@@ -156,7 +159,7 @@ fn build_11_and_12() {
         refused(11, 1, 0)
     );
     // Before 14.
-    let list = value::list(&[one, text(9, 9), Value::Null]);
+    let list = value::list(&[one, text(9, 9), Value::Null], Sort::Short);
     assert_eq!(build_in(&s(), &list, b"", 0).0, refused(12, 1, 0));
 }
 
@@ -167,7 +170,7 @@ fn build_13_and_14() {
     // Ten bytes before the payloads.
     let list = |first, second, bool| {
         let texts = [first, second].map(|length| Value::Varchar(range(0, length)));
-        value::list(&[texts[0], texts[1], Value::Bool(bool)])
+        value::list(&[texts[0], texts[1], Value::Bool(bool)], Sort::Short)
     };
     let answer = |list: &[u8], room| build_in(&schema, list, &text, room).0;
     assert_eq!(answer(&list(65_525, 0, 1), LIMIT), done(LIMIT));
@@ -267,7 +270,7 @@ fn read_14() {
 #[test]
 fn edits_14_15_9() {
     let row = row_2();
-    let list = Value::Int(7).record();
+    let list = Value::Int(7).record(Sort::Short);
     let both = |buf: &[u8], length: usize, column: usize| {
         let (mut a, mut b) = (buf.to_vec(), buf.to_vec());
         let set = model::set(&s(), &mut a, length, column, &list, b"");
@@ -342,7 +345,7 @@ fn set_10_to_12() {
 fn set_13() {
     let schema = schema(&[Type::Varchar(LIMIT), Type::Varchar(LIMIT)]);
     let text = vec![b'x'; LIMIT];
-    let long = |length| Value::Varchar(range(0, length)).record();
+    let long = |length| Value::Varchar(range(0, length)).record(Sort::Short);
     let row = built(
         &schema,
         &[Value::Varchar(range(0, 65_000)), Value::Null],

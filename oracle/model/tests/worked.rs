@@ -3,6 +3,7 @@
 mod common;
 
 use common::*;
+use model::Sort;
 use model::schema::{Type, check};
 use model::stored;
 use model::text::is_text;
@@ -46,8 +47,14 @@ fn case_4_set_null() {
 #[test]
 fn case_5_minimum() {
     let types = [Type::SmallInt, Type::Int];
-    assert_eq!(model::layout::Layout::packed(&types).minimum, 11);
-    assert_eq!(model::layout::Layout::padded(&types).minimum, 13);
+    assert_eq!(
+        model::layout::Layout::packed(&types, Sort::Short).minimum,
+        11
+    );
+    assert_eq!(
+        model::layout::Layout::padded(&types, Sort::Short).minimum,
+        13
+    );
     let values = Ok(vec![Value::SmallInt(1), Value::Int(2)]);
     let packed = hex("02 00 00 80 00 01 00 02 00 00 00");
     assert_eq!(read_all(&schema(&types), &packed), values);
@@ -107,8 +114,11 @@ fn case_10_limits() {
     assert_eq!(row[13..], *b"ABCDE");
     assert_eq!(build(&s(), &of(6), b"ABCDEF").0, refused(12, 1, 0));
 
-    assert_eq!(check(&[2; 256]).map(|types| types.len()), Ok(256));
-    assert_eq!(check(&[2; 257]), Err((2, 256)));
+    assert_eq!(
+        check(&[2; 256], Sort::Short).map(|types| types.len()),
+        Ok(256)
+    );
+    assert_eq!(check(&[2; 257], Sort::Short), Err((2, 256)));
 
     // One Varchar: seven bytes before the payload.
     let one = schema_of_one(65_535);

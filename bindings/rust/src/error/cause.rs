@@ -4,7 +4,7 @@ use crate::list::text;
 use crate::raw::Refusal;
 use crate::row_list::fault_of;
 use crate::schema::record_starts;
-use crate::{Column, ConvertError, DataType, RowRef, Schema, Value};
+use crate::{Column, ConvertError, DataType, RowFormat, RowRef, Schema, Sort, Value};
 
 /// The call that was refused, and what an error tells of it.
 pub(crate) enum Call<'c> {
@@ -17,9 +17,9 @@ pub(crate) enum Call<'c> {
     /// The null flag of a row's column.
     Flag(&'c [u8], usize),
     /// A row of these values.
-    Build(&'c Schema, &'c [Value<'c>]),
-    /// A column set to a value, or to null.
-    Edit(&'c Schema, usize, Option<&'c Value<'c>>),
+    Build(RowFormat<'c>, &'c [Value<'c>]),
+    /// A column set to a value, or to null, in a row of this schema and sort.
+    Edit(RowFormat<'c>, usize, Option<&'c Value<'c>>),
     /// A row list.
     RowList(&'c [u8]),
     /// A row of a list that is printed.
@@ -30,11 +30,10 @@ impl<'c> Call<'c> {
     fn columns(&self) -> &'c [Column] {
         match self {
             Call::Schema(columns) => columns,
-            Call::Read(schema, _)
-            | Call::Text(schema, ..)
-            | Call::Build(schema, _)
-            | Call::Edit(schema, ..)
-            | Call::Print(schema, _) => schema.columns(),
+            Call::Read(schema, _) | Call::Text(schema, ..) | Call::Print(schema, _) => {
+                schema.columns()
+            }
+            Call::Build(format, _) | Call::Edit(format, ..) => format.schema().columns(),
             Call::Flag(..) | Call::RowList(_) => &[],
         }
     }
@@ -46,6 +45,15 @@ impl<'c> Call<'c> {
             | Call::Flag(row, _)
             | Call::Print(_, row) => row,
             _ => &[],
+        }
+    }
+
+    /// The sort of the row. A schema by itself is checked for the long one.
+    fn sort(&self) -> Sort {
+        match self {
+            Call::Schema(_) => Sort::Long,
+            Call::Build(format, _) | Call::Edit(format, ..) => format.sort(),
+            _ => Sort::of(self.row()),
         }
     }
 
@@ -104,14 +112,14 @@ impl Error {
             },
             2 => Error::BadSchema {
                 at: place,
-                fault: SchemaFault::of(columns, place),
+                fault: SchemaFault::of(columns, place, call.sort()),
             },
             3..=6 => Error::bad_row(number, &call),
             9 => Error::NoSuchColumn {
                 column: call.asked(),
             },
             10 => Error::bad_list(place, &call),
-            13 => Error::RowLimit,
+            13 => Error::RowLimit { sort: call.sort() },
             14 => Error::NoRoom,
             15 => Error::NotSound,
             16 => match &call {
@@ -128,22 +136,20 @@ impl Error {
     /// 3 to 6: the row and the schema do not go together.
     fn bad_row(number: u32, call: &Call<'_>) -> Error {
         let (columns, length) = (call.columns(), call.row().len());
-        let varchar = |column: &&Column| {
-            matches!(
-                column.data_type(),
-                DataType::Varchar(_) | DataType::VarcharChars(_)
-            )
-        };
         match number {
             3 => Error::RowTooShort { length },
-            4 => Error::RowTooLong { length },
+            4 => Error::RowTooLong {
+                length,
+                sort: call.sort(),
+            },
             5 => Error::WrongColumnCount {
                 row: call.header(0),
                 schema: columns.len(),
             },
             _ => Error::WrongVarcharCount {
-                row: call.header(2) & 0x7FFF,
-                schema: columns.iter().filter(varchar).count(),
+                // Without the marks of packed and of long rows.
+                row: call.header(2) & 0x3FFF,
+                schema: columns.iter().filter(|column| column.is_varchar()).count(),
             },
         }
     }
@@ -186,10 +192,11 @@ impl Error {
             at,
             values: values.len(),
             due: match call {
-                Call::Build(schema, _) => schema.len(),
+                Call::Build(format, _) => format.schema().len(),
                 _ => 1,
             },
             text: values.iter().map(|value| text(value).len()).sum(),
+            sort: call.sort(),
         }
     }
 
@@ -221,13 +228,13 @@ impl Error {
 }
 
 impl SchemaFault {
-    fn of(columns: &[Column], place: usize) -> SchemaFault {
+    fn of(columns: &[Column], place: usize, sort: Sort) -> SchemaFault {
         match record_starts(columns).position(|at| at == place) {
             Some(number) if number < 256 => SchemaFault::Precision {
                 column: ColumnLabel::of(columns, number),
                 data_type: columns[number].data_type(),
             },
-            None if columns.len() <= 256 => SchemaFault::RowsTooLong,
+            None if columns.len() <= 256 => SchemaFault::RowsTooLong { sort },
             _ => SchemaFault::TooManyColumns,
         }
     }
@@ -274,15 +281,15 @@ mod tests {
             Call::Read(&schema, &[]),
             Call::Text(&schema, &[], 0),
             Call::Flag(&[], 0),
-            Call::Build(&schema, &[]),
-            Call::Edit(&schema, 0, None),
+            Call::Build((&schema).into(), &[]),
+            Call::Edit((&schema).into(), 0, None),
             Call::RowList(&[]),
             Call::Print(&schema, &[]),
         ] {
             let error = Error::new(refusal, call);
             assert_eq!((error.number(), error.place()), (31, 7));
             let message =
-                "the library refuses at 7 for a reason that rook_row 0.3.2 does not know (31)";
+                "the library refuses at 7 for a reason that rook_row 0.4.0 does not know (31)";
             assert_eq!(alloc::format!("{error}"), message);
         }
     }
@@ -307,7 +314,10 @@ mod tests {
         let schema = Schema::new([DataType::Int]).unwrap();
         for number in 1..=17 {
             let refusal = Refusal { number, place: 999 };
-            for call in [Call::Build(&schema, &[]), Call::Print(&schema, &[])] {
+            for call in [
+                Call::Build((&schema).into(), &[]),
+                Call::Print(&schema, &[]),
+            ] {
                 assert_eq!(Error::new(refusal, call).number(), number);
             }
         }

@@ -1,6 +1,6 @@
 //! Refusals in plain words.
 use super::{ColumnLabel, Error, Misfit, RowListFault, SchemaFault};
-use crate::{DataType, Date, RowList, Time, Timestamp, MAX_LENGTH};
+use crate::{DataType, Date, RowList, Time, Timestamp};
 use core::fmt;
 
 impl fmt::Display for ColumnLabel {
@@ -20,7 +20,9 @@ impl fmt::Display for SchemaFault {
                 f,
                 "{column}: {data_type}, but a precision is 1 to 38, and a scale not above it"
             ),
-            SchemaFault::RowsTooLong => write!(f, "its rows would pass 65535 bytes"),
+            SchemaFault::RowsTooLong { sort } => {
+                write!(f, "its {sort} rows would pass {} bytes", sort.max_length())
+            }
             SchemaFault::SameName { column } => {
                 write!(f, "{column}: an earlier column has this name")
             }
@@ -91,8 +93,9 @@ impl Error {
                 f,
                 "the row has {length} bytes, fewer than its header says or than every row of the schema"
             ),
-            Error::RowTooLong { length } => {
-                write!(f, "the row has {length} bytes, but 65535 are the most")
+            Error::RowTooLong { length, sort } => {
+                let most = sort.max_length();
+                write!(f, "the row has {length} bytes, but {most} are the most of a {sort} row")
             }
             Error::WrongColumnCount { row, schema } => {
                 write!(f, "the row has {row} columns, the schema {schema}")
@@ -106,7 +109,10 @@ impl Error {
             }
             Error::NoSuchColumn { column } => write!(f, "there is no column {column}"),
             Error::NoSuchName { name } => write!(f, "there is no column named {name}"),
-            Error::RowLimit => write!(f, "the row would pass 65535 bytes"),
+            Error::RowLimit { sort } => {
+                let most = sort.max_length();
+                write!(f, "the row would pass {most} bytes, the most of a {sort} row")
+            }
             Error::NoRoom => write!(f, "the buffer is too short for the row"),
             Error::NotSound => write!(f, "the row is not sound, so it cannot be edited"),
             Error::BadRowList { fault } => write!(f, "row list: {fault}"),
@@ -135,10 +141,11 @@ impl Error {
             Error::BadValueList { values, due, .. } if values != due => {
                 write!(f, "{values} values for {due} columns")
             }
-            Error::BadValueList { text, .. } if *text > MAX_LENGTH => {
+            Error::BadValueList { text, sort, .. } if *text > sort.max_length() => {
+                let most = sort.max_length();
                 write!(
                     f,
-                    "the texts have {text} bytes together, but 65535 are the most"
+                    "the texts have {text} bytes together, but {most} are the most of a {sort} row"
                 )
             }
             Error::BadValueList { .. } => write!(f, "a value is of unknown kind"),

@@ -270,19 +270,21 @@ fn bits_of(data_type: DataType) -> u16 {
 /// The length of a record of unknown kind: what comes behind it is not known either. No list is as long.
 const BEYOND: usize = 1 << 20;
 
-/// The last kind that is known: a Timestamp.
-const LAST_KIND: u8 = 13;
+/// The last kind that is known: the bits of a long row. 14 to 16 are not.
+const LAST_KIND: u8 = 19;
 
 /// The length of a record by its kind.
 fn length_of(kind: u8) -> usize {
-    const LENGTHS: [u8; LAST_KIND as usize + 1] = [1, 3, 5, 9, 5, 9, 18, 2, 5, 5, 5, 9, 5, 9];
-    LENGTHS
-        .get(usize::from(kind))
-        .map_or(BEYOND, |&length| usize::from(length))
+    const LENGTHS: [u8; 14] = [1, 3, 5, 9, 5, 9, 18, 2, 5, 5, 5, 9, 5, 9];
+    match LENGTHS.get(usize::from(kind)) {
+        Some(&length) => usize::from(length),
+        None if matches!(kind, 17..=LAST_KIND) => 9,
+        None => BEYOND,
+    }
 }
 
-/// The first record of a list, by its greatest length, if its kind is known. It is asked before `decode`, so that a
-/// loop has no arm for what does not happen.
+/// The first record of a list, by its greatest length, unless its kind is above all that are known. It is asked before
+/// `decode`, so that a loop has one arm less.
 #[inline(always)]
 fn known(list: &[u8]) -> Option<&[u8; RECORD]> {
     list.first_chunk().filter(|record| record[0] <= LAST_KIND)
@@ -294,7 +296,7 @@ fn unknown(list: &[u8]) -> Value<'static> {
     Value::Unknown { kind }
 }
 
-/// What `then` makes of the value of a record of known kind, and of the record's length. It is handed each kind of
+/// What `then` makes of the value of a record that is [`known`], and of the record's length. It is handed each kind of
 /// value in an arm of its own, so that the compiler knows there which one it is.
 #[inline(always)]
 fn decode<'a, R>(
@@ -326,14 +328,24 @@ fn decode<'a, R>(
             let text = unsafe { core::str::from_utf8_unchecked(part(record, row)) };
             then(Value::Text(Cow::Borrowed(text)), 5)
         }
+        17 | 18 => {
+            // SAFETY: as above.
+            let text = unsafe { core::str::from_utf8_unchecked(wide_part(record, row)) };
+            then(Value::Text(Cow::Borrowed(text)), 9)
+        }
         10 => then(Value::Date(Date::from_days(int())), 5),
         11 => then(Value::Time(Time::from_micros(long())), 9),
         12 => match Bits::new(part(record, row), bits) {
             Some(bits) => then(Value::Bit(bits), 5),
             None => then(Value::Unknown { kind: 12 }, 5),
         },
+        13 => then(Value::Timestamp(Timestamp::from_micros(long())), 9),
+        kind @ 14..=16 => then(Value::Unknown { kind }, BEYOND),
         // Higher ones are not known.
-        LAST_KIND.. => then(Value::Timestamp(Timestamp::from_micros(long())), 9),
+        LAST_KIND.. => match Bits::new(wide_part(record, row), bits) {
+            Some(bits) => then(Value::Bit(bits), 9),
+            None => then(Value::Unknown { kind: 19 }, 9),
+        },
     }
 }
 
@@ -353,6 +365,14 @@ fn part<'a>(record: &[u8; RECORD], row: &'a [u8]) -> &'a [u8] {
     &row[start..start + usize::from(u16::from_le_bytes([length_low, length_high]))]
 }
 
+/// The same of a range whose numbers have four bytes.
+#[inline(always)]
+fn wide_part<'a>(record: &[u8; RECORD], row: &'a [u8]) -> &'a [u8] {
+    let range = u64::from_le_bytes(body(record));
+    let start = range as u32 as usize;
+    &row[start..start + (range >> 32) as usize]
+}
+
 #[cfg(test)]
 mod tests {
     use super::*;
@@ -360,11 +380,17 @@ mod tests {
     /// A kind of a newer library gives a value that says so, and what comes behind it is not guessed at.
     #[test]
     fn unknown_kinds() {
+        for kind in [14, 16, 20, 255] {
+            unknown_kind(kind);
+        }
+    }
+
+    fn unknown_kind(kind: u8) {
         let schema =
             Schema::new([DataType::Int, DataType::Varchar(9), DataType::Varchar(9)]).unwrap();
         let wanted = Wanted::new(&schema, alloc::vec![0, 1, 2]);
         let mut list = alloc::vec![0; wanted.room()];
-        list[..12].copy_from_slice(&[2, 7, 0, 0, 0, 18, 9, 0, 0, 9, 0, 9]);
+        list[..12].copy_from_slice(&[2, 7, 0, 0, 0, kind, 9, 0, 0, 9, 0, 9]);
         let records = Records {
             steps: &wanted.plan.steps,
             list: &list,
@@ -373,7 +399,7 @@ mod tests {
         let mut values = Vec::new();
         records.fold(Cursor::default(), (), |(), value| values.push(value));
         let unknown = |kind| Value::Unknown { kind };
-        assert_eq!(values, [Value::Int(7), unknown(18), unknown(255)]);
+        assert_eq!(values, [Value::Int(7), unknown(kind), unknown(255)]);
         let mut cursor = records.seek(Cursor::default(), 2);
         assert_eq!(records.next(&mut cursor, |value| value), Some(unknown(255)));
     }

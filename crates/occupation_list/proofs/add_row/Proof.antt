@@ -1,4 +1,3 @@
-use mathlib.Core.Bool.{false}
 use mathlib.Core.Path.{sym, ap, _∙_}
 use denote.Ref.{now}
 use Rattle.occupation.specs.Occupation.{occupationIn}
@@ -33,7 +32,7 @@ line-length-requires : tie.Need-line-length-requires
 line-length-requires c κs = fields-short ((read-known (now (c .before .before .before .before .before .before .before .before .before .before .row-at .result)) (c .before .before .before .before .before .before .before .before .before .read .result) (c .before .before .before .before .before .before .before .f .given .1) (c .before .before .before .before .before .before .before .before .before .read .ensures)) .bounds)
 
 returns : tie.Need-returns
-returns c = ap (occupationIn false) (sym (c .before .before .before .before .row-at .ensures)) ∙ read-refused (now (c .before .before .before .before .row-at .result)) (c .before .before .before .read .result) (c .before .e .given .1) (c .before .before .before .read .ensures .0)
+returns c = ap occupationIn (sym (c .before .before .before .before .row-at .ensures)) ∙ read-refused (now (c .before .before .before .before .row-at .result)) (c .before .before .before .read .result) (c .before .e .given .1) (c .before .before .before .read .ensures .0)
 
 same-length : tie.Need-same-length
 same-length c = search needs

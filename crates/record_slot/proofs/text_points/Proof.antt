@@ -1,29 +1,17 @@
-use borrow.Author.Needs.{needs}
-use Rattle.record_slot.proofs.text_points.Statement.{statement}
+use denote.Ref.{now}
 use native.Mathlib.Omega.{arith}
 use mathlib.Core.Path.{_≡_}
 use Prim.Native.Nat.{_+_, _-_}
-use denote.Ref.{now}
-use Rattle.value_list.specs.Records.{rangeAt}
 use Rattle.record_slot.proofs.Points.{few-points}
+use Rattle.record_slot.proofs.Tests.{start-is, length-is}
+use borrow.Author.Needs.{needs}
+use Rattle.record_slot.proofs.text_points.Statement.{statement}
 use Rattle.record_slot.proofs.text_points.Tie as tie
-use Rattle.endian.proofs.read_u16.Reads as read-u16-reads
 use Rattle.text.proofs.count_points.Reads as count-points-reads
+use Rattle.value_list.proofs.range_at.Reads as range-at-reads
 
-read-u16-requires : tie.Need-read-u16-requires
-read-u16-requires c κs = search needs
-
-cast-start : tie.Need-cast-start
-cast-start c = search needs
-
-add-read-u16 : tie.Need-add-read-u16
-add-read-u16 c = search needs
-
-read-u16-requires-2 : tie.Need-read-u16-requires-2
-read-u16-requires-2 c κs = search needs
-
-cast-length : tie.Need-cast-length
-cast-length c = search needs
+range-at-requires : tie.Need-range-at-requires
+range-at-requires c κs = search needs
 
 add-count-points : tie.Need-add-count-points
 add-count-points c = search needs
@@ -36,36 +24,36 @@ part-count-points-start c = search needs
 
 part-count-points-end : tie.Need-part-count-points-end
 part-count-points-end c =
-    let h = rw (← c .before .read-u16 .ensures, ← c .read-u162 .ensures) at (c .before .before .before .before .pre .1 .inside) in
+    let q = c .range-at in
+    let h = rw (← start-is (q .ensures .0), ← length-is (q .ensures .0)) at (c .before .before .before .pre .1 .inside) in
     search needs
 
 count-points-requires : tie.Need-count-points-requires
 count-points-requires c κs =
-    let s = c .before .before .read-u16 .result in
-    let l = c .before .read-u162 .result in
+    let q = c .before .range-at in
+    let s = q .result .start in
+    let l = q .result .length in
     let e : s + l - s ≡ l = omega arith in
-    rw (e, c .before .before .read-u16 .ensures, c .before .read-u162 .ensures) (c .before .before .before .before .before .pre .1 .valid)
+    rw e (rw (← start-is (q .ensures .0), ← length-is (q .ensures .0)) at (c .before .before .before .before .pre .1 .valid))
 
 returns : tie.Need-returns
 returns c =
-    let entry = c .before .before .before .before .before .before in
+    let entry = c .before .before .before .before .before in
     let a = entry .args in
-    let s = c .before .before .before .read-u16 .result in
-    let l = c .before .before .read-u162 .result in
+    let q = c .before .before .range-at in
+    let s = q .result .start in
+    let l = q .result .length in
     let e : s + l - s ≡ l = omega arith in
-    let k = rw (e, c .before .before .before .read-u16 .ensures, c .before .before .read-u162 .ensures) at (c .count-points .ensures) in
-    let h = rw (← k, ← c .before .before .read-u162 .ensures) at (few-points (rangeAt (now (a .values)) (a .body)) (now (a .text)) (entry .pre .1)) in
-    (k, search needs)
+    let k = rw e at (c .count-points .ensures) in
+    let h = rw (← k) at (few-points (q .result) (now (a .text)) (rw (← start-is (q .ensures .0), ← length-is (q .ensures .0)) at (entry .pre .1))) in
+    let z = q .ensures .1 .size in
+    rw (← start-is (q .ensures .0), ← length-is (q .ensures .0)) (k, omega arith)
 
 pub text-points-spec : {M : Type 1} → statement M
 text-points-spec =
     tie.close
     (tie.spec
-    read-u16-requires
-    cast-start
-    add-read-u16
-    read-u16-requires-2
-    cast-length
+    range-at-requires
     add-count-points
     sub-count-points
     part-count-points-start

@@ -1,29 +1,17 @@
-use borrow.Author.Needs.{needs}
-use Rattle.record_slot.proofs.write_bits.Statement.{statement}
-use Rattle.record_slot.proofs.write_bits.Tie as tie
+use denote.Ref.{now}
 use native.Mathlib.Omega.{arith}
 use mathlib.Core.Path.{_≡_}
 use Prim.Native.Nat.{_+_, _-_}
-use denote.Ref.{now}
-use Rattle.value_list.specs.Records.{rangeAt}
 use Rattle.record_slot.proofs.Forms.{bits-inside, bits-within}
-use Rattle.endian.proofs.read_u16.Reads as read-u16-reads
+use Rattle.record_slot.proofs.Tests.{start-is, length-is}
+use borrow.Author.Needs.{needs}
+use Rattle.record_slot.proofs.write_bits.Statement.{statement}
+use Rattle.record_slot.proofs.write_bits.Tie as tie
 use Rattle.value_encode.proofs.write_bits.Reads as write-bits-reads
+use Rattle.value_list.proofs.range_at.Reads as range-at-reads
 
-read-u16-requires : tie.Need-read-u16-requires
-read-u16-requires c κs = search needs
-
-cast-start : tie.Need-cast-start
-cast-start c = search needs
-
-add-read-u16 : tie.Need-add-read-u16
-add-read-u16 c = search needs
-
-read-u16-requires-2 : tie.Need-read-u16-requires-2
-read-u16-requires-2 c κs = search needs
-
-cast-length : tie.Need-cast-length
-cast-length c = search needs
+range-at-requires : tie.Need-range-at-requires
+range-at-requires c κs = search needs
 
 add-write-bits : tie.Need-add-write-bits
 add-write-bits c = search needs
@@ -36,39 +24,38 @@ part-write-bits-start c = search needs
 
 part-write-bits-end : tie.Need-part-write-bits-end
 part-write-bits-end c =
-    let entry = c .before .before .before .before .before .before in
+    let entry = c .before .before .before .before .before in
     let a = entry .args in
-    let h = rw (← c .before .before .read-u16 .ensures, ← c .before .read-u162 .ensures) at (bits-inside (a .n) (rangeAt (now (a .values)) (a .body)) (now (a .text)) (entry .pre .1 .1)) in
+    let q = c .before .range-at in
+    let h = bits-inside (a .n) (q .result) (now (a .text)) (rw (← start-is (q .ensures .0), ← length-is (q .ensures .0)) at (entry .pre .1 .1)) in
     search needs
 
 write-bits-requires : tie.Need-write-bits-requires
 write-bits-requires c κs =
-    let entry = c .before .before .before .before .before .before .before in
+    let entry = c .before .before .before .before .before .before in
     let a = entry .args in
-    let s = c .before .before .before .read-u16 .result in
-    let l = c .before .before .read-u162 .result in
+    let q = c .before .before .range-at in
+    let s = q .result .start in
+    let l = q .result .length in
     let e : s + l - s ≡ l = omega arith in
-    rw (e, c .before .before .before .read-u16 .ensures, c .before .before .read-u162 .ensures) (bits-within (a .n) (rangeAt (now (a .values)) (a .body)) (now (a .text)) (entry .pre .1 .1), entry .pre .1 .0)
+    rw e (bits-within (a .n) (q .result) (now (a .text)) (rw (← start-is (q .ensures .0), ← length-is (q .ensures .0)) at (entry .pre .1 .1)), entry .pre .1 .0)
 
 same-length : tie.Need-same-length
 same-length c = search needs
 
 returns : tie.Need-returns
 returns c =
-    let s = c .before .before .before .before .before .before .read-u16 .result in
-    let l = c .before .before .before .before .before .read-u162 .result in
+    let q = c .before .before .before .before .before .range-at in
+    let s = q .result .start in
+    let l = q .result .length in
     let e : s + l - s ≡ l = omega arith in
-    rw (e, c .before .before .before .before .before .before .read-u16 .ensures, c .before .before .before .before .before .read-u162 .ensures) at (c .before .before .write-bits .ensures)
+    rw (← start-is (q .ensures .0), ← length-is (q .ensures .0)) (rw e at (c .before .before .write-bits .ensures))
 
 pub write-bits-spec : {M : Type 1} → statement M
 write-bits-spec =
     tie.close
     (tie.spec
-    read-u16-requires
-    cast-start
-    add-read-u16
-    read-u16-requires-2
-    cast-length
+    range-at-requires
     add-write-bits
     sub-write-bits
     part-write-bits-start

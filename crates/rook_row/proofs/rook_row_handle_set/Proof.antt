@@ -1,7 +1,6 @@
 -- `rook_row_handle_set` meets its contract: a walk of its MIR, by hand. The handle's borrow is opened and the handle copied; the slices go to `handle_value`, buf at its own
 -- lifetime, the others as copies; the handle that comes back is stored whole, and the borrow is closed at it.
 use mathlib.Core.Path.{_≡_, refl, ap}
-use mathlib.Core.Bool.{false}
 use Prim.Native.Nat.{ℕ, _<_, _^_}
 use mathlib.Core.List.{[], _∷_, List}
 use lib.ListN.{length}
@@ -102,7 +101,7 @@ module _ {M : Type 1} (𝓤 : URA M) (H : Heap 𝓤) (A : Atoms 𝓤) (W : Given
 
   -- what the callee says of what it hands back, e, and of the last list, zs
   abbrev Said : HandleAnswer → List ℕ → Type 0
-  Said e zs = (e .answer, (zs, e .handle)) ≡ handleOutcome (h .length) (handleSet false (s .now) (x .now) h i (v .now) (t .now))
+  Said e zs = (e .answer, (zs, e .handle)) ≡ handleOutcome (h .length) (handleSet (s .now) (x .now) h i (v .now) (t .now))
 
   -- what the callee's triple binds outside: the slices at their own lifetimes, shares and names
   abbrev passed : RefT (List ℕ) × (RefT (List ℕ) × (RowHandle × (ℕ × (RefT (List ℕ) × (RefT (List ℕ) × Unit {0})))))

@@ -1,7 +1,6 @@
 -- `rook_row_handle_set_null` meets its contract: a walk of its MIR, by hand. The handle's borrow is opened and the handle copied; the slices go to `handle_null`, buf at its own
 -- lifetime, schema as a copy; the handle that comes back is stored whole, and the borrow is closed at it.
 use mathlib.Core.Path.{_≡_, refl, ap}
-use mathlib.Core.Bool.{false}
 use Prim.Native.Nat.{ℕ, _<_, _^_}
 use mathlib.Core.List.{[], _∷_, List}
 use lib.ListN.{length}
@@ -95,7 +94,7 @@ module _ {M : Type 1} (𝓤 : URA M) (H : Heap 𝓤) (A : Atoms 𝓤) (W : Given
 
   -- what the callee says of what it hands back, e, and of the last list, zs
   abbrev Said : HandleAnswer → List ℕ → Type 0
-  Said e zs = (e .answer, (zs, e .handle)) ≡ handleOutcome (h .length) (handleSetNull false (s .now) (x .now) h i)
+  Said e zs = (e .answer, (zs, e .handle)) ≡ handleOutcome (h .length) (handleSetNull (s .now) (x .now) h i)
 
   -- what the callee's triple binds outside: the slices at their own lifetimes, shares and names
   abbrev passed : RefT (List ℕ) × (RefT (List ℕ) × (RowHandle × (ℕ × Unit {0})))

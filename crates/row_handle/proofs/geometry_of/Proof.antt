@@ -9,8 +9,13 @@ fixed-size-requires c κs = search needs
 cast-t4 : tie.Need-cast-t4
 cast-t4 c = search needs
 
+cast-t5 : tie.Need-cast-t5
+cast-t5 c = search needs
+
 returns : tie.Need-returns
-returns c = rw (c .fixed-size .ensures, bool-bit)
+returns c =
+    let a = c .before .before .args in
+    rw (c .before .fixed-size .ensures, bool-bit (a .packed), bool-bit (a .layout .«is_long»))
 
 pub geometry-of-spec : {M : Type 1} → statement M
-geometry-of-spec = tie.close (tie.spec fixed-size-requires cast-t4 returns)
+geometry-of-spec = tie.close (tie.spec fixed-size-requires cast-t4 cast-t5 returns)

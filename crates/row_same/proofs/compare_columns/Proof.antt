@@ -14,10 +14,10 @@ use Rattle.row_same.proofs.Comparing.{Comparing, compare-start, compare
 use Rattle.row_same.proofs.Comparing.{compare-bad, compare-other, compare-more, compare-beside, compare-stored}
 
 abbrev Inv-loop : tie.InvT-loop
-Inv-loop schema layout p a q b before₀ at₀ before at = Comparing schema layout p a q b before at
+Inv-loop schema layout p a other q b before₀ at₀ before at = Comparing schema layout p a other q b before at
 
 abbrev μ-loop : tie.MeasureT-loop
-μ-loop schema layout p a q b before₀ at₀ before at = 256 - before .«num_columns»
+μ-loop schema layout p a other q b before₀ at₀ before at = 256 - before .«num_columns»
 
 new-requires : tie.Need-new-requires Inv-loop μ-loop
 new-requires c κs = search needs

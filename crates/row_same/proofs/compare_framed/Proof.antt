@@ -9,7 +9,7 @@ use Rattle.row_same.specs.InnerWalk.{walkedAll}
 use Rattle.row_same.proofs.Compared.{second-refused}
 
 check-frame-requires : tie.Need-check-frame-requires
-check-frame-requires c κs = c .before .before .before .pre .0 .accepted .bounded
+check-frame-requires c κs = search needs
 
 enum-known-e : tie.Need-enum-known-e
 enum-known-e c = search needs
@@ -21,7 +21,7 @@ compare-columns-requires : tie.Need-compare-columns-requires
 compare-columns-requires c κs =
     let p = c .before .before .before .before .before .before .before .pre in
     let good = sym (c .before .before .before .check-frame .ensures) ∙ c .before .q .given .1 in
-    (p .0, (framed (p .0 .accepted) good, p .1))
+    (p .0, (framed (p .1 .0) good, p .1 .1))
 
 returns : tie.Need-returns
 returns c =
@@ -30,7 +30,7 @@ returns c =
     let e = c .before .e .given in
     rw (← c .before .before .before .check-frame .ensures, e .1)
     (second-refused (typesIn (now (a .schema))) (now (a .a)) (now (a .b))
-    (walkedAll (typesIn (now (a .schema))) (a .layout) (now (a .a)) (a .p)) (e .0 .0) (m .pre .1))
+    (walkedAll (typesIn (now (a .schema))) (a .layout) (now (a .a)) (a .p)) (e .0 .0) (m .pre .1 .1))
 
 returns-2 : tie.Need-returns-2
 returns-2 c =

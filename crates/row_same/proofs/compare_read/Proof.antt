@@ -15,7 +15,7 @@ new-requires c κs = search needs
 check-columns-requires : tie.Need-check-columns-requires
 check-columns-requires c κs =
     let p = c .before .before .before .before .pre in
-    (p, rw (c .new .ensures) (ahead-walk (ahead-start (p .accepted .schema))))
+    (p .0, rw (c .new .ensures) (ahead-walk (ahead-start (p .0 .accepted .schema))))
 
 enum-known-e : tie.Need-enum-known-e
 enum-known-e c = search needs
@@ -23,15 +23,15 @@ enum-known-e c = search needs
 enum-told : tie.Need-enum-told
 enum-told c = search needs
 
-compare-framed-requires : tie.Need-compare-framed-requires
-compare-framed-requires c κs =
+compare-second-requires : tie.Need-compare-second-requires
+compare-second-requires c κs =
     let m = c .before .before in
-    let a = m .before .before .before .before .before .args in
-    let said = rw (m .before .new .ensures) at (m .check-columns .ensures) in (
-      m .before .before .before .before .before .pre,
-      all-read (walkedAll (typesIn (now (a .schema))) (a .layout) (now (a .a)) (a .p))
-          (sym said ∙ c .enum-told .given .1),
-    )
+    let n = m .before .before .before .before .before in
+    let a = n .args in
+    let said = rw (m .before .new .ensures) at (m .check-columns .ensures) in
+    let all = all-read (walkedAll (typesIn (now (a .schema))) (a .layout) (now (a .a)) (a .p))
+    (sym said ∙ c .enum-told .given .1) in
+    (n .pre .0, (n .pre .1, all))
 
 returns : tie.Need-returns
 returns c =
@@ -42,7 +42,7 @@ returns c =
     (sym said ∙ c .before .e .given .1))
 
 returns-2 : tie.Need-returns-2
-returns-2 c = c .compare-framed .ensures
+returns-2 c = c .compare-second .ensures
 
 pub compare-read-spec : {M : Type 1} → statement M
 compare-read-spec =
@@ -52,6 +52,6 @@ compare-read-spec =
     check-columns-requires
     enum-known-e
     enum-told
-    compare-framed-requires
+    compare-second-requires
     returns
     returns-2)

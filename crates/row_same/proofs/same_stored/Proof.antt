@@ -21,25 +21,23 @@ returns-2 c =
     let m = c .before .before in
     rw (← m .before .column-bit-is-set .ensures, m .if1 .left, ← c .before .column-bit-is-set3 .ensures, c .if2 .taken)
 
-varlen-table-offset-requires : tie.Need-varlen-table-offset-requires
-varlen-table-offset-requires c κs = search needs
-
 same-ranges-requires : tie.Need-same-ranges-requires
 same-ranges-requires c κs =
-    let p = c .before .before .before .before .before .before .before .before .before .pre in
-    let t = c .varlen-table-offset .ensures in
-    (p .0 .rank (c .before .if3 .taken), (rw t (p .0 .table), rw t (p .1 .table)))
+    let p = c .before .before .before .before .before .before .before .before .pre in
+    let h = c .if3 .taken in (
+      record { whole = p .0 .whole; table = p .0 .table; rank = p .0 .rank h },
+      record { whole = p .1 .whole; table = p .1 .table; rank = p .1 .rank h },
+    )
 
 returns-3 : tie.Need-returns-3
 returns-3 c =
-    let m = c .before .before .before .before in
+    let m = c .before .before .before in
     rw (
       ← m .before .before .before .column-bit-is-set .ensures,
       m .before .before .if1 .left,
       ← m .before .column-bit-is-set3 .ensures,
       m .if2 .left,
-      lt-ltb _ _ (c .before .before .if3 .taken),
-      ← c .before .varlen-table-offset .ensures,
+      lt-ltb _ _ (c .before .if3 .taken),
     )
     (c .same-ranges .ensures)
 
@@ -67,7 +65,6 @@ same-stored-spec =
     returns
     column-bit-is-set-requires-3
     returns-2
-    varlen-table-offset-requires
     same-ranges-requires
     returns-3
     same-slots-requires

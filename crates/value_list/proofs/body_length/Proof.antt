@@ -43,9 +43,18 @@ returns-13 : tie.Need-returns-13
 returns-13 c = (rw (c .match .keys13), omega arith)
 
 returns-14 : tie.Need-returns-14
-returns-14 c =
+returns-14 c = (rw (c .match .keys14), omega arith)
+
+returns-15 : tie.Need-returns-15
+returns-15 c = (rw (c .match .keys15), omega arith)
+
+returns-16 : tie.Need-returns-16
+returns-16 c = (rw (c .match .keys16), omega arith)
+
+returns-17 : tie.Need-returns-17
+returns-17 c =
     let r = c .match .rest in
-    (simp (ne-eqb _ 1 (r .0 .0 .0 .0 .0 .0 .0 .0 .0 .0 .0 .0 .1), ne-eqb _ 2 (r .0 .0 .0 .0 .0 .0 .0 .0 .0 .0 .0 .1), ne-eqb _ 3 (r .0 .0 .0 .0 .0 .0 .0 .0 .0 .0 .1), ne-eqb _ 4 (r .0 .0 .0 .0 .0 .0 .0 .0 .0 .1), ne-eqb _ 5 (r .0 .0 .0 .0 .0 .0 .0 .0 .1), ne-eqb _ 6 (r .0 .0 .0 .0 .0 .0 .0 .1), ne-eqb _ 7 (r .0 .0 .0 .0 .0 .0 .1), ne-eqb _ 8 (r .0 .0 .0 .0 .0 .1), ne-eqb _ 9 (r .0 .0 .0 .0 .1), ne-eqb _ 10 (r .0 .0 .0 .1), ne-eqb _ 11 (r .0 .0 .1), ne-eqb _ 12 (r .0 .1), ne-eqb _ 13 (r .1)), omega arith)
+    (simp (ne-eqb _ 1 (r .0 .0 .0 .0 .0 .0 .0 .0 .0 .0 .0 .0 .0 .0 .0 .1), ne-eqb _ 2 (r .0 .0 .0 .0 .0 .0 .0 .0 .0 .0 .0 .0 .0 .0 .1), ne-eqb _ 3 (r .0 .0 .0 .0 .0 .0 .0 .0 .0 .0 .0 .0 .0 .1), ne-eqb _ 4 (r .0 .0 .0 .0 .0 .0 .0 .0 .0 .0 .0 .0 .1), ne-eqb _ 5 (r .0 .0 .0 .0 .0 .0 .0 .0 .0 .0 .0 .1), ne-eqb _ 6 (r .0 .0 .0 .0 .0 .0 .0 .0 .0 .0 .1), ne-eqb _ 7 (r .0 .0 .0 .0 .0 .0 .0 .0 .0 .1), ne-eqb _ 8 (r .0 .0 .0 .0 .0 .0 .0 .0 .1), ne-eqb _ 9 (r .0 .0 .0 .0 .0 .0 .0 .1), ne-eqb _ 10 (r .0 .0 .0 .0 .0 .0 .1), ne-eqb _ 11 (r .0 .0 .0 .0 .0 .1), ne-eqb _ 12 (r .0 .0 .0 .0 .1), ne-eqb _ 13 (r .0 .0 .0 .1), ne-eqb _ 17 (r .0 .0 .1), ne-eqb _ 18 (r .0 .1), ne-eqb _ 19 (r .1)), omega arith)
 
 pub body-length-spec : {M : Type 1} → statement M
 body-length-spec =
@@ -64,4 +73,7 @@ body-length-spec =
     returns-11
     returns-12
     returns-13
-    returns-14)
+    returns-14
+    returns-15
+    returns-16
+    returns-17)

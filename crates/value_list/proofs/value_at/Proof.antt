@@ -24,8 +24,8 @@ read-u64-requires c κs = let h = rw (c .match .keys5) at (c .before .before .pr
 numeric-at-requires : tie.Need-numeric-at-requires
 numeric-at-requires c κs = let h = rw (c .match .keys6) at (c .before .before .pre) in omega arith
 
-shared-slice-read-t12 : tie.Need-shared-slice-read-t12
-shared-slice-read-t12 c = let h = rw (c .before .match .keys7) at (c .before .before .before .pre) in omega arith
+shared-slice-read-t13 : tie.Need-shared-slice-read-t13
+shared-slice-read-t13 c = let h = rw (c .before .match .keys7) at (c .before .before .before .pre) in omega arith
 
 range-at-requires : tie.Need-range-at-requires
 range-at-requires c κs = let h = rw (c .match .keys8) at (c .before .before .pre) in omega arith
@@ -67,10 +67,10 @@ returns-7 : tie.Need-returns-7
 returns-7 c = rw (c .before .match .keys7)
 
 returns-8 : tie.Need-returns-8
-returns-8 c = rw (c .before .match .keys8, c .range-at .ensures)
+returns-8 c = rw (c .before .match .keys8, c .range-at .ensures .0)
 
 returns-9 : tie.Need-returns-9
-returns-9 c = rw (c .before .match .keys9, c .range-at2 .ensures)
+returns-9 c = rw (c .before .match .keys9, c .range-at2 .ensures .0)
 
 returns-10 : tie.Need-returns-10
 returns-10 c = rw (c .before .match .keys10, passed w32 (search needs) (c .read-i322 .ensures))
@@ -79,7 +79,7 @@ returns-11 : tie.Need-returns-11
 returns-11 c = rw (c .before .match .keys11, passed w64 (search needs) (c .read-i642 .ensures))
 
 returns-12 : tie.Need-returns-12
-returns-12 c = rw (c .before .match .keys12, c .range-at3 .ensures)
+returns-12 c = rw (c .before .match .keys12, c .range-at3 .ensures .0)
 
 returns-13 : tie.Need-returns-13
 returns-13 c = rw (c .before .match .keys13, passed w64 (search needs) (c .read-i643 .ensures))
@@ -99,7 +99,7 @@ value-at-spec =
     read-u32-requires
     read-u64-requires
     numeric-at-requires
-    shared-slice-read-t12
+    shared-slice-read-t13
     range-at-requires
     range-at-requires-2
     read-i32-requires-2

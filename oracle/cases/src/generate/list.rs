@@ -2,11 +2,11 @@
 
 use super::Expected;
 use super::value::{TextArea, other_kind, outside, suitable, unsuitable};
-use crate::LIMIT;
 use crate::column::ColumnType;
 use crate::layout::Layout;
 use crate::rng::Rng;
 use crate::value::{Record, TextRange, ValueList, body_length};
+use crate::{LIMIT, RowSort};
 
 #[derive(Debug, Clone, Copy, PartialEq, Eq, PartialOrd, Ord)]
 pub enum Sort {
@@ -36,7 +36,20 @@ pub enum Sort {
     Random,
 }
 
+/// How seldom what is at the limit of long rows is taken: it is of a million bytes.
+pub const AT_LONG_LIMIT: usize = 16;
+
 impl Sort {
+    /// Whether another sort is to be tried instead, for a long row: text areas at the
+    /// limit can be had for any columns, rows there for few.
+    fn is_left_out(self, rng: &mut Rng) -> bool {
+        match self {
+            Sort::TextAtLimit | Sort::TextAbove => !rng.one_in(AT_LONG_LIMIT),
+            Sort::RowAtLimit | Sort::RowAbove => !rng.one_in(3),
+            _ => false,
+        }
+    }
+
     pub const ALL: [Sort; 16] = [
         Sort::Good,
         Sort::Values,
@@ -64,43 +77,65 @@ pub struct List {
     pub expected: Expected,
 }
 
-/// A list of this sort; `None` if these columns have none, or the column or the
-/// values tried do not give one.
+/// A list of this sort for a short row; `None` if these columns have none, or the
+/// column or the values tried do not give one.
 pub fn list(rng: &mut Rng, types: &[ColumnType], sort: Sort) -> Option<List> {
+    list_of(rng, types, RowSort::Short, sort)
+}
+
+/// The same for a row of a sort, whose limit is the text area's and the row's.
+pub fn list_of(rng: &mut Rng, types: &[ColumnType], of: RowSort, sort: Sort) -> Option<List> {
     match sort {
-        Sort::Good => Some(good(rng, types).accepted()),
-        Sort::Values => values(rng, types).map(Draft::accepted),
-        Sort::Nulls => Some(nulls(types).accepted()),
-        Sort::TextAtLimit => Some(text_at_limit(rng, types)),
-        Sort::RowAtLimit => row_of(rng, types, LIMIT).map(Draft::accepted),
-        Sort::UnknownKind => Some(unknown_kind(rng, types)),
-        Sort::Cut => Some(cut(rng, types)),
-        Sort::TooFew => too_few(rng, types),
-        Sort::TooMany => Some(too_many(rng, types)),
-        Sort::TextAbove => Some(text_above(rng, types)),
-        Sort::OtherKind | Sort::Unsuitable | Sort::Outside => one_bad(rng, types, sort),
-        Sort::Several => several(rng, types),
-        Sort::RowAbove => row_above(rng, types),
+        Sort::Good => Some(good(rng, types, of).accepted()),
+        Sort::Values => values(rng, types, of).map(Draft::accepted),
+        Sort::Nulls => Some(nulls(types, of).accepted()),
+        Sort::TextAtLimit => Some(text_at_limit(rng, types, of)),
+        Sort::RowAtLimit => row_of(rng, types, of, of.limit()).map(Draft::accepted),
+        Sort::UnknownKind => Some(unknown_kind(rng, types, of)),
+        Sort::Cut => Some(cut(rng, types, of)),
+        Sort::TooFew => too_few(rng, types, of),
+        Sort::TooMany => Some(too_many(rng, types, of)),
+        Sort::TextAbove => Some(text_above(rng, types, of)),
+        Sort::OtherKind | Sort::Unsuitable | Sort::Outside => one_bad(rng, types, of, sort),
+        Sort::Several => several(rng, types, of),
+        Sort::RowAbove => row_above(rng, types, of),
         Sort::Random => Some(random(rng)),
     }
 }
 
-/// A list of a sort at random, a good one half the time.
+/// A list of a sort at random for a short row, a good one half the time.
 pub fn any_list(rng: &mut Rng, types: &[ColumnType]) -> (Sort, List) {
+    any_list_of(rng, types, RowSort::Short)
+}
+
+/// The same for a row of a sort. Those at the limit of long rows are made seldom.
+pub fn any_list_of(rng: &mut Rng, types: &[ColumnType], of: RowSort) -> (Sort, List) {
     loop {
         let sort = if rng.one_in(2) {
             Sort::Good
         } else {
             rng.pick(&Sort::ALL)
         };
-        if let Some(list) = list(rng, types, sort) {
+        if of == RowSort::Long && sort.is_left_out(rng) {
+            continue;
+        }
+        if let Some(list) = list_of(rng, types, of, sort) {
             return (sort, list);
         }
     }
 }
 
+/// Good values for a long row of more than 65,535 bytes; `None` if these columns do not
+/// reach so far.
+pub fn beyond_short(rng: &mut Rng, types: &[ColumnType]) -> Option<List> {
+    let short = RowSort::Short.limit();
+    let length = short + rng.pick(&[1, 2, 1000, 70_000]);
+    Some(row_of(rng, types, RowSort::Long, length)?.accepted())
+}
+
 /// A list in the making: a record for each column, and the text area.
 struct Draft {
+    of: RowSort,
     records: Vec<Record>,
     area: TextArea,
 }
@@ -137,31 +172,32 @@ impl Draft {
             Record::Varchar(range) => range.length,
             _ => 0,
         };
-        Layout::packed(types).minimum + self.records.iter().map(payload).sum::<usize>()
+        Layout::packed_of(types, self.of).minimum + self.records.iter().map(payload).sum::<usize>()
     }
 }
 
-fn nulls(types: &[ColumnType]) -> Draft {
+fn nulls(types: &[ColumnType], of: RowSort) -> Draft {
     Draft {
+        of,
         records: vec![Record::Null; types.len()],
-        area: TextArea::default(),
+        area: TextArea::new(of),
     }
 }
 
 /// A suitable value for each column; `None` if the row would be too long.
-fn values(rng: &mut Rng, types: &[ColumnType]) -> Option<Draft> {
-    let mut area = TextArea::default();
+fn values(rng: &mut Rng, types: &[ColumnType], of: RowSort) -> Option<Draft> {
+    let mut area = TextArea::new(of);
     let records = types
         .iter()
         .map(|ty| suitable(rng, ty, &mut area))
         .collect();
-    let draft = Draft { records, area };
-    (draft.row_length(types) <= LIMIT).then_some(draft)
+    let draft = Draft { of, records, area };
+    (draft.row_length(types) <= of.limit()).then_some(draft)
 }
 
 /// Null or a suitable value for each column.
-fn good(rng: &mut Rng, types: &[ColumnType]) -> Draft {
-    let mut draft = values(rng, types).unwrap_or_else(|| nulls(types));
+fn good(rng: &mut Rng, types: &[ColumnType], of: RowSort) -> Draft {
+    let mut draft = values(rng, types, of).unwrap_or_else(|| nulls(types, of));
     let null = rng.pick(&[2, 8, 64]);
     for record in &mut draft.records {
         if rng.one_in(null) {
@@ -177,16 +213,16 @@ fn lengthen(rng: &mut Rng, text: &mut Vec<u8>, length: usize) {
     text.extend(rng.bytes(more));
 }
 
-fn text_at_limit(rng: &mut Rng, types: &[ColumnType]) -> List {
-    let mut draft = good(rng, types);
-    lengthen(rng, &mut draft.area.bytes, LIMIT);
+fn text_at_limit(rng: &mut Rng, types: &[ColumnType], of: RowSort) -> List {
+    let mut draft = good(rng, types, of);
+    lengthen(rng, &mut draft.area.bytes, of.limit());
     draft.accepted()
 }
 
 /// The text area above its limit, the columns good or bad.
-fn text_above(rng: &mut Rng, types: &[ColumnType]) -> List {
-    let mut draft = good_or_bad(rng, types);
-    let length = LIMIT + rng.pick(&[1, 2, 70_000]);
+fn text_above(rng: &mut Rng, types: &[ColumnType], of: RowSort) -> List {
+    let mut draft = good_or_bad(rng, types, of);
+    let length = of.limit() + rng.pick(&[1, 2, 70_000]);
     lengthen(rng, &mut draft.area.bytes, length);
     draft.refused(10, 0)
 }
@@ -195,9 +231,9 @@ fn text_above(rng: &mut Rng, types: &[ColumnType]) -> List {
 /// sharing one text; `None` if the Varchars do not reach so far. The text is one of
 /// characters of one byte, behind characters of four where Varchars that count
 /// characters take some.
-fn row_of(rng: &mut Rng, types: &[ColumnType], length: usize) -> Option<Draft> {
-    let mut missing = length.checked_sub(Layout::packed(types).minimum)?;
-    let mut draft = nulls(types);
+fn row_of(rng: &mut Rng, types: &[ColumnType], of: RowSort, length: usize) -> Option<Draft> {
+    let mut missing = length.checked_sub(Layout::packed_of(types, of).minimum)?;
+    let mut draft = nulls(types, of);
     let mut columns: Vec<usize> = (0..types.len()).collect();
     shuffle(rng, &mut columns);
     // Of each column the characters of four bytes, and the length.
@@ -213,13 +249,16 @@ fn row_of(rng: &mut Rng, types: &[ColumnType], length: usize) -> Option<Draft> {
     }
     let wide = parts.iter().map(|part| part.1).max().unwrap_or(0);
     let mut text = "\u{10FFFF}".repeat(wide).into_bytes();
+    let mut end = 0;
     for (column, own, length) in parts {
         let start = 4 * (wide - own);
         draft.records[column] = Record::Varchar(TextRange { start, length });
         // What leaves the text area stays missing.
-        missing += (start + length).saturating_sub(LIMIT);
+        missing += (start + length).saturating_sub(of.limit());
+        end = end.max(start + length);
     }
-    text.resize(LIMIT, b'x');
+    // As long as may be, of a long row as long as is needed.
+    text.resize(end.max(LIMIT).min(of.limit()), b'x');
     draft.area.bytes = text;
     (missing == 0).then_some(draft)
 }
@@ -238,9 +277,9 @@ fn wide_part(rng: &mut Rng, missing: usize, n: usize) -> (usize, usize) {
     }
 }
 
-fn row_above(rng: &mut Rng, types: &[ColumnType]) -> Option<List> {
+fn row_above(rng: &mut Rng, types: &[ColumnType], of: RowSort) -> Option<List> {
     let above = rng.pick(&[1, 2, 1000]);
-    Some(row_of(rng, types, LIMIT + above)?.refused(13, 0))
+    Some(row_of(rng, types, of, of.limit() + above)?.refused(13, 0))
 }
 
 fn shuffle(rng: &mut Rng, columns: &mut [usize]) {
@@ -265,11 +304,11 @@ fn bad_record(
 
 /// One bad column among good ones; `None` if the column tried cannot be bad in
 /// this way.
-fn one_bad(rng: &mut Rng, types: &[ColumnType], sort: Sort) -> Option<List> {
+fn one_bad(rng: &mut Rng, types: &[ColumnType], of: RowSort, sort: Sort) -> Option<List> {
     if types.is_empty() {
         return None;
     }
-    let mut draft = good(rng, types);
+    let mut draft = good(rng, types, of);
     let column = rng.below(types.len());
     let (record, number) = bad_record(rng, &types[column], sort, &mut draft.area)?;
     draft.records[column] = record;
@@ -297,14 +336,14 @@ fn spoil(rng: &mut Rng, types: &[ColumnType], draft: &mut Draft) -> Option<(usiz
     bad.into_iter().min()
 }
 
-fn several(rng: &mut Rng, types: &[ColumnType]) -> Option<List> {
-    let mut draft = good(rng, types);
+fn several(rng: &mut Rng, types: &[ColumnType], of: RowSort) -> Option<List> {
+    let mut draft = good(rng, types, of);
     let (column, number) = spoil(rng, types, &mut draft)?;
     Some(draft.refused(number, column))
 }
 
-fn good_or_bad(rng: &mut Rng, types: &[ColumnType]) -> Draft {
-    let mut draft = good(rng, types);
+fn good_or_bad(rng: &mut Rng, types: &[ColumnType], of: RowSort) -> Draft {
+    let mut draft = good(rng, types, of);
     if rng.one_in(4) {
         spoil(rng, types, &mut draft);
     }
@@ -312,8 +351,8 @@ fn good_or_bad(rng: &mut Rng, types: &[ColumnType]) -> Draft {
 }
 
 /// Some records of a draft, perhaps all and more, to which a bad one is added.
-fn begun(rng: &mut Rng, types: &[ColumnType]) -> ValueList {
-    let mut draft = good_or_bad(rng, types);
+fn begun(rng: &mut Rng, types: &[ColumnType], of: RowSort) -> ValueList {
+    let mut draft = good_or_bad(rng, types, of);
     if rng.one_in(8) {
         draft.records.push(Record::Null);
     }
@@ -322,18 +361,27 @@ fn begun(rng: &mut Rng, types: &[ColumnType]) -> ValueList {
     draft.list()
 }
 
-fn unknown_kind(rng: &mut Rng, types: &[ColumnType]) -> List {
-    let mut values = begun(rng, types);
+fn unknown_kind(rng: &mut Rng, types: &[ColumnType], of: RowSort) -> List {
+    let mut values = begun(rng, types, of);
     let expected = Expected::refused(10, values.bytes.len());
-    let kind = rng.between(14, 255) as u8;
-    values.bytes.push(rng.pick(&[14, 255, kind]));
+    let kind = match rng.between(14, 255) as u8 {
+        // Known.
+        17 => 15,
+        18 => 16,
+        19 => 20,
+        kind => kind,
+    };
+    values.bytes.push(match of {
+        RowSort::Short => rng.pick(&[14, 255, kind]),
+        RowSort::Long => rng.pick(&[14, 15, 16, 20, 255, kind]),
+    });
     let more = rng.between(0, 20);
     values.bytes.extend(rng.bytes(more));
     List { values, expected }
 }
 
-fn cut(rng: &mut Rng, types: &[ColumnType]) -> List {
-    let mut values = begun(rng, types);
+fn cut(rng: &mut Rng, types: &[ColumnType], of: RowSort) -> List {
+    let mut values = begun(rng, types, of);
     let expected = Expected::refused(10, values.bytes.len());
     let kind = rng.between(1, 13) as u8;
     let length = body_length(kind).expect("a known kind");
@@ -343,8 +391,8 @@ fn cut(rng: &mut Rng, types: &[ColumnType]) -> List {
     List { values, expected }
 }
 
-fn too_few(rng: &mut Rng, types: &[ColumnType]) -> Option<List> {
-    let mut draft = good_or_bad(rng, types);
+fn too_few(rng: &mut Rng, types: &[ColumnType], of: RowSort) -> Option<List> {
+    let mut draft = good_or_bad(rng, types, of);
     let fewer = types.len().checked_sub(1)?;
     let count = match rng.below(3) {
         0 => 0,
@@ -355,8 +403,8 @@ fn too_few(rng: &mut Rng, types: &[ColumnType]) -> Option<List> {
     Some(draft.miscounted())
 }
 
-fn too_many(rng: &mut Rng, types: &[ColumnType]) -> List {
-    let mut draft = good_or_bad(rng, types);
+fn too_many(rng: &mut Rng, types: &[ColumnType], of: RowSort) -> List {
+    let mut draft = good_or_bad(rng, types, of);
     for _ in 0..rng.pick(&[1, 2, 300]) {
         let record = rng.pick(&[Record::Null, Record::Bool(1), Record::Int(-1)]);
         draft.records.push(record);

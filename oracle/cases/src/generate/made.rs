@@ -1,22 +1,35 @@
-//! Rows as the Rust makes them; rows with columns that it does not know are laid out
-//! without it. The other rows are made from these.
+//! Rows as the Rust makes them; long rows, and rows with columns that it does not know,
+//! are laid out without it. The other rows are made from these.
 
 use crate::column::{ColumnType, RustColumns};
 use crate::value::ValueList;
-use crate::{laid_out, rust};
+use crate::{RowSort, laid_out, rust};
+
+/// The columns, if the Rust makes such rows of them.
+fn known(types: &[ColumnType], of: RowSort) -> Option<RustColumns<'_>> {
+    (of == RowSort::Short).then(|| RustColumns::of(types))?
+}
 
 /// The row of nulls.
 pub fn fresh(types: &[ColumnType]) -> Vec<u8> {
-    let Some(columns) = RustColumns::of(types) else {
-        return laid_out::fresh(types);
+    fresh_of(types, RowSort::Short)
+}
+
+pub fn fresh_of(types: &[ColumnType], of: RowSort) -> Vec<u8> {
+    let Some(columns) = known(types, of) else {
+        return laid_out::fresh(types, of);
     };
     rust::fresh(&columns.rust).ok().expect("a fresh row")
 }
 
 /// The row of a list without a bad value, of any length.
 pub fn built(types: &[ColumnType], list: &ValueList) -> Vec<u8> {
-    let Some(columns) = RustColumns::of(types) else {
-        return laid_out::built(types, list);
+    built_of(types, RowSort::Short, list)
+}
+
+pub fn built_of(types: &[ColumnType], of: RowSort, list: &ValueList) -> Vec<u8> {
+    let Some(columns) = known(types, of) else {
+        return laid_out::built(types, of, list);
     };
     let given = list.to_rust(types).expect("a good list");
     let row = rust::build(&columns.rust, &given.values);
@@ -26,7 +39,7 @@ pub fn built(types: &[ColumnType], list: &ValueList) -> Vec<u8> {
 /// The row, sound, with a column set to the one value of such a list, or to null; of
 /// any length.
 pub fn edited(types: &[ColumnType], row: &[u8], column: usize, list: &ValueList) -> Vec<u8> {
-    let Some(columns) = RustColumns::of(types) else {
+    let Some(columns) = known(types, RowSort::of_row(row)) else {
         return laid_out::edited(types, row, column, list);
     };
     let given = list.to_rust(&types[column..=column]).expect("a good list");

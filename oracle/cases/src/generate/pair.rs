@@ -2,12 +2,12 @@
 
 use super::list::{self, Sort as ListSort};
 use super::made;
-use super::row::{any_row, sound_row, stored_form};
-use crate::LIMIT;
+use super::row::{any_row_of, sound_row_of, stored_form};
+use crate::RowSort;
 use crate::column::ColumnType;
 use crate::layout::{BITMAP, Layout, Place, is_packed};
 use crate::rng::Rng;
-use crate::row::{clear_null_bit, padded, set_null_bit};
+use crate::row::{clear_null_bit, long_twin, padded, set_null_bit};
 
 #[derive(Debug, Clone, Copy, PartialEq, Eq, PartialOrd, Ord)]
 pub enum Sort {
@@ -42,42 +42,66 @@ impl Sort {
 /// Two rows.
 pub type Pair = (Vec<u8>, Vec<u8>);
 
-/// A pair of this sort; `None` if the schema has none.
+/// A pair of this sort of short rows; `None` if the schema has none.
 pub fn pair(rng: &mut Rng, types: &[ColumnType], sort: Sort) -> Option<Pair> {
+    pair_of(rng, types, RowSort::Short, sort)
+}
+
+/// The same of rows of a sort.
+pub fn pair_of(rng: &mut Rng, types: &[ColumnType], of: RowSort, sort: Sort) -> Option<Pair> {
     let (a, b) = match sort {
         Sort::SameBytes => {
-            let row = any_row(rng, types).1;
+            let row = any_row_of(rng, types, of).1;
             (row.clone(), row)
         }
-        Sort::Twins => twins(rng, types, false),
-        Sort::Near => twins(rng, types, true),
+        Sort::Twins => twins(rng, types, of, false),
+        Sort::Near => twins(rng, types, of, true),
         Sort::Padded => {
-            let (a, b) = twins(rng, types, false);
+            let (a, b) = twins(rng, types, of, false);
             let packed = is_packed(&b).then(|| padded(types, &b, 0xA5))?;
             (a, packed?)
         }
-        Sort::Edited => edited(rng, types)?,
-        Sort::Flipped => flipped(rng, types)?,
-        Sort::Unrelated => (any_row(rng, types).1, any_row(rng, types).1),
+        Sort::Edited => edited(rng, types, of)?,
+        Sort::Flipped => flipped(rng, types, of)?,
+        Sort::Unrelated => (any_row_of(rng, types, of).1, any_row_of(rng, types, of).1),
     };
     Some(if rng.one_in(2) { (a, b) } else { (b, a) })
 }
 
-/// A pair of a sort at random.
+/// A pair of a sort at random of short rows.
 pub fn any_pair(rng: &mut Rng, types: &[ColumnType]) -> (Sort, Pair) {
+    any_pair_of(rng, types, RowSort::Short)
+}
+
+/// The same of rows of a sort.
+pub fn any_pair_of(rng: &mut Rng, types: &[ColumnType], of: RowSort) -> (Sort, Pair) {
     loop {
         let sort = rng.pick(&Sort::ALL);
-        if let Some(pair) = pair(rng, types, sort) {
+        if let Some(pair) = pair_of(rng, types, of, sort) {
             return (sort, pair);
         }
     }
 }
 
+/// A pair of short rows, one of which is then its long twin; `None` if the one tried
+/// has none.
+pub fn any_mixed_pair(rng: &mut Rng, types: &[ColumnType]) -> Option<(Sort, Pair)> {
+    let (sort, (a, b)) = any_pair(rng, types);
+    let pair = match rng.below(2) {
+        0 => (long_twin(types, &a)?, b),
+        _ => {
+            let b = long_twin(types, &b)?;
+            (a, b)
+        }
+    };
+    Some((sort, pair))
+}
+
 /// Two rows from one sound row: slots with two forms of one content, null slots
 /// with other bytes, other bits past the last column. With `near`, one slot has
 /// forms of another content.
-fn twins(rng: &mut Rng, types: &[ColumnType], near: bool) -> Pair {
-    let mut a = sound_row(rng, types);
+fn twins(rng: &mut Rng, types: &[ColumnType], of: RowSort, near: bool) -> Pair {
+    let mut a = sound_row_of(rng, types, of);
     let mut b = a.clone();
     let layout = Layout::of_row(types, &a);
     let apart = rng.below(types.len().max(1));
@@ -239,20 +263,20 @@ fn near_forms(rng: &mut Rng, ty: &ColumnType, size: usize) -> Option<Pair> {
 }
 
 /// A sound row, and the row after one edit.
-fn edited(rng: &mut Rng, types: &[ColumnType]) -> Option<Pair> {
+fn edited(rng: &mut Rng, types: &[ColumnType], of: RowSort) -> Option<Pair> {
     if types.is_empty() {
         return None;
     }
-    let row = sound_row(rng, types);
+    let row = sound_row_of(rng, types, of);
     let column = rng.below(types.len());
     let own = &types[column..=column];
-    let list = list::list(rng, own, ListSort::Good)?;
+    let list = list::list_of(rng, own, of, ListSort::Good)?;
     let edit = made::edited(types, &row, column, &list.values);
-    (edit.len() <= LIMIT).then_some((row, edit))
+    (edit.len() <= of.limit()).then_some((row, edit))
 }
 
-fn flipped(rng: &mut Rng, types: &[ColumnType]) -> Option<Pair> {
-    let row = sound_row(rng, types);
+fn flipped(rng: &mut Rng, types: &[ColumnType], of: RowSort) -> Option<Pair> {
+    let row = sound_row_of(rng, types, of);
     if row.len() == BITMAP {
         return None;
     }

@@ -1,13 +1,14 @@
 //! Rows: built by the Rust, padded, and damaged in each way; column numbers.
 
-use super::list::{self, Sort as ListSort};
+use super::list::{self, AT_LONG_LIMIT, Sort as ListSort};
 use super::made;
 use super::text::{self, Fault};
-use crate::LIMIT;
+use crate::RowSort;
 use crate::column::ColumnType;
 use crate::layout::{BITMAP, Layout, PACKED, Place};
 use crate::rng::Rng;
 use crate::row::{clear_null_bit, offset, padded, set_offset};
+use crate::row_sort::LONG;
 
 #[derive(Debug, Clone, Copy, PartialEq, Eq, PartialOrd, Ord)]
 pub enum Sort {
@@ -19,8 +20,10 @@ pub enum Sort {
     Padded,
     /// Bits past the last column set.
     SpareBits,
-    /// A sound row of exactly 65,535 bytes.
+    /// A sound row of exactly as many bytes as its sort may have.
     AtLimit,
+    /// A sound long row above 65,535 bytes.
+    Beyond,
     // Changed by hand, sound or not.
     /// A slot with a stored form at the edge of its type, or no value of it.
     Stored,
@@ -38,7 +41,9 @@ pub enum Sort {
     ColumnCount,
     VarcharCount,
     Flag,
-    /// Above 65,535 bytes.
+    /// The mark of long rows changed.
+    Mark,
+    /// Above its sort's limit.
     Above,
     /// A right header and random bytes.
     RandomBody,
@@ -46,6 +51,7 @@ pub enum Sort {
 }
 
 impl Sort {
+    /// Those of short rows. A mark that is set makes a long one.
     pub const ALL: [Sort; 20] = [
         Sort::Fresh,
         Sort::Built,
@@ -69,7 +75,19 @@ impl Sort {
         Sort::Random,
     ];
 
-    /// The sorts of which every row is sound.
+    /// Those of long rows.
+    pub const LONG: [Sort; 22] = {
+        let mut sorts = [Sort::Mark; 22];
+        let mut at = 0;
+        while at < Sort::ALL.len() {
+            sorts[at] = Sort::ALL[at];
+            at += 1;
+        }
+        sorts[at] = Sort::Beyond;
+        sorts
+    };
+
+    /// The sorts of which every short row is sound.
     pub const SOUND: [Sort; 6] = [
         Sort::Fresh,
         Sort::Built,
@@ -78,31 +96,62 @@ impl Sort {
         Sort::SpareBits,
         Sort::AtLimit,
     ];
+
+    /// The sorts of which every long row is sound.
+    pub const SOUND_LONG: [Sort; 7] = [
+        Sort::Fresh,
+        Sort::Built,
+        Sort::Edited,
+        Sort::Padded,
+        Sort::SpareBits,
+        Sort::Beyond,
+        Sort::AtLimit,
+    ];
+
+    /// Whether another sort is to be tried instead: rows at the limit are long, those of
+    /// a long row very long.
+    fn is_left_out(self, rng: &mut Rng, of: RowSort, one_in: usize) -> bool {
+        match (of, self) {
+            (RowSort::Short, Sort::AtLimit | Sort::Above) => one_in > 1 && !rng.one_in(one_in),
+            // Few columns reach so far.
+            (RowSort::Long, Sort::AtLimit) => !rng.one_in(3),
+            (RowSort::Long, Sort::Above) => !rng.one_in(AT_LONG_LIMIT),
+            (RowSort::Long, Sort::Beyond) => !rng.one_in(4),
+            _ => false,
+        }
+    }
 }
 
-/// A row of this sort for a good schema; `None` if the schema has none, or the
+/// A short row of this sort for a good schema; `None` if the schema has none, or the
 /// row tried has not what the sort damages.
 pub fn row(rng: &mut Rng, types: &[ColumnType], sort: Sort) -> Option<Vec<u8>> {
+    row_of(rng, types, RowSort::Short, sort)
+}
+
+/// The same of a row, before it is damaged, of a sort.
+pub fn row_of(rng: &mut Rng, types: &[ColumnType], of: RowSort, sort: Sort) -> Option<Vec<u8>> {
     match sort {
-        Sort::Fresh => Some(made::fresh(types)),
-        Sort::Built => Some(built(rng, types)),
-        Sort::Edited => Some(edited(rng, types)),
-        Sort::Padded => Some(padded_row(rng, types)),
-        Sort::SpareBits => spare_bits(rng, types),
-        Sort::AtLimit => build(rng, types, ListSort::RowAtLimit),
-        Sort::Stored => stored(rng, types),
-        Sort::Payload => payload(rng, types),
-        Sort::FlippedBits => Some(flipped(rng, types)),
-        Sort::Cut => Some(cut(rng, types)),
-        Sort::Lengthened => Some(lengthened(rng, types)),
-        Sort::Offset => changed_offset(rng, types),
-        Sort::OffsetInHeader => offset_in_header(rng, types),
-        Sort::ZeroOffset => zero_offset(rng, types),
-        Sort::ColumnCount => Some(column_count(rng, types)),
-        Sort::VarcharCount => Some(varchar_count(rng, types)),
-        Sort::Flag => Some(flag(rng, types)),
-        Sort::Above => Some(above(rng, types)),
-        Sort::RandomBody => Some(random_body(rng, types)),
+        Sort::Fresh => Some(made::fresh_of(types, of)),
+        Sort::Built => Some(built(rng, types, of)),
+        Sort::Edited => Some(edited(rng, types, of)),
+        Sort::Padded => Some(padded_row(rng, types, of)),
+        Sort::SpareBits => spare_bits(rng, types, of),
+        Sort::AtLimit => build(rng, types, of, ListSort::RowAtLimit),
+        Sort::Stored => stored(rng, types, of),
+        Sort::Payload => payload(rng, types, of),
+        Sort::FlippedBits => Some(flipped(rng, types, of)),
+        Sort::Cut => Some(cut(rng, types, of)),
+        Sort::Lengthened => Some(lengthened(rng, types, of)),
+        Sort::Offset => changed_offset(rng, types, of),
+        Sort::OffsetInHeader => offset_in_header(rng, types, of),
+        Sort::ZeroOffset => zero_offset(rng, types, of),
+        Sort::ColumnCount => Some(column_count(rng, types, of)),
+        Sort::VarcharCount => Some(varchar_count(rng, types, of)),
+        Sort::Flag => Some(flag(rng, types, of)),
+        Sort::Mark => Some(mark(rng, types, of)),
+        Sort::Beyond => beyond(rng, types, of),
+        Sort::Above => Some(above(rng, types, of)),
+        Sort::RandomBody => Some(random_body(rng, types, of)),
         Sort::Random => {
             let length = rng.between(0, 60);
             Some(rng.bytes(length))
@@ -110,82 +159,115 @@ pub fn row(rng: &mut Rng, types: &[ColumnType], sort: Sort) -> Option<Vec<u8>> {
     }
 }
 
-/// A row of a sort at random; long ones, which take long, less often.
+/// A short row of a sort at random; those at the limit, which take long, less often.
 pub fn any_row(rng: &mut Rng, types: &[ColumnType]) -> (Sort, Vec<u8>) {
+    any_row_of(rng, types, RowSort::Short)
+}
+
+/// The same of a row, before it is damaged, of a sort.
+pub fn any_row_of(rng: &mut Rng, types: &[ColumnType], of: RowSort) -> (Sort, Vec<u8>) {
     loop {
-        let sort = rng.pick(&Sort::ALL);
-        if matches!(sort, Sort::AtLimit | Sort::Above) && !rng.one_in(4) {
+        let sort = match of {
+            RowSort::Short => rng.pick(&Sort::ALL),
+            RowSort::Long => rng.pick(&Sort::LONG),
+        };
+        if sort.is_left_out(rng, of, 4) {
             continue;
         }
-        if let Some(row) = row(rng, types, sort) {
+        if let Some(row) = row_of(rng, types, of, sort) {
             return (sort, row);
         }
     }
 }
 
-/// A sound row.
+/// A sound short row.
 pub fn sound_row(rng: &mut Rng, types: &[ColumnType]) -> Vec<u8> {
+    sound_row_of(rng, types, RowSort::Short)
+}
+
+/// A sound row of a sort.
+pub fn sound_row_of(rng: &mut Rng, types: &[ColumnType], of: RowSort) -> Vec<u8> {
     loop {
-        let sort = rng.pick(&Sort::SOUND);
-        if let Some(row) = row(rng, types, sort) {
+        let sort = match of {
+            RowSort::Short => rng.pick(&Sort::SOUND),
+            RowSort::Long => rng.pick(&Sort::SOUND_LONG),
+        };
+        if sort.is_left_out(rng, of, 1) {
+            continue;
+        }
+        if let Some(row) = row_of(rng, types, of, sort) {
             return row;
         }
     }
 }
 
-fn build(rng: &mut Rng, types: &[ColumnType], sort: ListSort) -> Option<Vec<u8>> {
-    let list = list::list(rng, types, sort)?;
-    Some(made::built(types, &list.values))
+fn build(rng: &mut Rng, types: &[ColumnType], of: RowSort, sort: ListSort) -> Option<Vec<u8>> {
+    let list = list::list_of(rng, types, of, sort)?;
+    Some(made::built_of(types, of, &list.values))
 }
 
-fn built(rng: &mut Rng, types: &[ColumnType]) -> Vec<u8> {
-    build(rng, types, ListSort::Good).expect("a row of a good list")
+fn built(rng: &mut Rng, types: &[ColumnType], of: RowSort) -> Vec<u8> {
+    build(rng, types, of, ListSort::Good).expect("a row of a good list")
 }
 
-fn edited(rng: &mut Rng, types: &[ColumnType]) -> Vec<u8> {
-    let mut row = built(rng, types);
+fn edited(rng: &mut Rng, types: &[ColumnType], of: RowSort) -> Vec<u8> {
+    let mut row = built(rng, types, of);
     if types.is_empty() {
         return row;
     }
     for _ in 0..rng.between(1, 6) {
         let column = rng.below(types.len());
-        let list = list::list(rng, &types[column..=column], ListSort::Good).expect("a good list");
+        let own = &types[column..=column];
+        let list = list::list_of(rng, own, of, ListSort::Good).expect("a good list");
         let edit = made::edited(types, &row, column, &list.values);
-        if edit.len() <= LIMIT {
+        if edit.len() <= of.limit() {
             row = edit;
         }
     }
     row
 }
 
-fn padded_row(rng: &mut Rng, types: &[ColumnType]) -> Vec<u8> {
+/// A sound long row that no short one is as long as.
+fn beyond(rng: &mut Rng, types: &[ColumnType], of: RowSort) -> Option<Vec<u8>> {
+    if of == RowSort::Short {
+        return None;
+    }
+    let list = list::beyond_short(rng, types)?;
+    let row = made::built_of(types, of, &list.values);
+    match rng.below(4) {
+        0 => padded(types, &row, 0xA5),
+        _ => Some(row),
+    }
+}
+
+fn padded_row(rng: &mut Rng, types: &[ColumnType], of: RowSort) -> Vec<u8> {
     let row = if rng.one_in(2) {
-        built(rng, types)
+        built(rng, types, of)
     } else {
-        edited(rng, types)
+        edited(rng, types, of)
     };
     let filler = rng.byte();
     let filler = rng.pick(&[0, 0xFF, filler]);
     padded(types, &row, filler)
-        .or_else(|| padded(types, &made::fresh(types), filler))
+        .or_else(|| padded(types, &made::fresh_of(types, of), filler))
         .expect("a padded minimum within the limit")
 }
 
 /// A sound row to be damaged.
-fn base(rng: &mut Rng, types: &[ColumnType]) -> Vec<u8> {
+fn base(rng: &mut Rng, types: &[ColumnType], of: RowSort) -> Vec<u8> {
     match rng.below(4) {
-        0 => edited(rng, types),
-        1 => padded_row(rng, types),
-        _ => built(rng, types),
+        0 => edited(rng, types, of),
+        1 => padded_row(rng, types, of),
+        _ => built(rng, types, of),
     }
 }
 
-fn spare_bits(rng: &mut Rng, types: &[ColumnType]) -> Option<Vec<u8>> {
+fn spare_bits(rng: &mut Rng, types: &[ColumnType], of: RowSort) -> Option<Vec<u8>> {
     let used = types.len() % 8;
     if used == 0 {
         return None;
     }
-    let mut row = base(rng, types);
+    let mut row = base(rng, types, of);
     row[BITMAP + types.len() / 8] |= 1 << rng.between(used, 7);
     row[BITMAP + types.len() / 8] |= rng.byte() << used;
     Some(row)
@@ -208,9 +290,9 @@ struct Target {
 }
 
 impl Target {
-    fn new(rng: &mut Rng, types: &[ColumnType]) -> Option<Self> {
+    fn new(rng: &mut Rng, types: &[ColumnType], of: RowSort) -> Option<Self> {
         let column = pick_column(rng, types, true)?;
-        let row = base(rng, types);
+        let row = base(rng, types, of);
         let layout = Layout::of_row(types, &row);
         let Place::Varchar { rank } = layout.places[column] else {
             return None;
@@ -223,17 +305,17 @@ impl Target {
         })
     }
 
-    fn offset(&self, rank: usize) -> u16 {
+    fn offset(&self, rank: usize) -> usize {
         offset(&self.row, &self.layout, rank)
     }
 
-    fn set_offset(&mut self, offset: u16) {
+    fn set_offset(&mut self, offset: usize) {
         set_offset(&mut self.row, &self.layout, self.rank, offset);
     }
 }
 
-fn stored(rng: &mut Rng, types: &[ColumnType]) -> Option<Vec<u8>> {
-    let mut row = base(rng, types);
+fn stored(rng: &mut Rng, types: &[ColumnType], of: RowSort) -> Option<Vec<u8>> {
+    let mut row = base(rng, types, of);
     let layout = Layout::of_row(types, &row);
     for _ in 0..rng.between(1, 3) {
         let column = pick_column(rng, types, false)?;
@@ -336,14 +418,14 @@ fn stored_text(rng: &mut Rng, size: usize) -> Vec<u8> {
     text::any_valid(rng, size)
 }
 
-fn payload(rng: &mut Rng, types: &[ColumnType]) -> Option<Vec<u8>> {
-    let mut target = Target::new(rng, types)?;
-    let start = usize::from(target.offset(target.rank));
+fn payload(rng: &mut Rng, types: &[ColumnType], of: RowSort) -> Option<Vec<u8>> {
+    let mut target = Target::new(rng, types, of)?;
+    let start = target.offset(target.rank);
     if start == 0 {
         return None;
     }
     let end = (target.rank + 1..target.layout.varchars)
-        .map(|rank| usize::from(target.offset(rank)))
+        .map(|rank| target.offset(rank))
         .find(|&offset| offset != 0)
         .unwrap_or(target.row.len());
     let bytes = match types[target.column] {
@@ -359,8 +441,8 @@ fn payload(rng: &mut Rng, types: &[ColumnType]) -> Option<Vec<u8>> {
     Some(target.row)
 }
 
-fn flipped(rng: &mut Rng, types: &[ColumnType]) -> Vec<u8> {
-    let mut row = base(rng, types);
+fn flipped(rng: &mut Rng, types: &[ColumnType], of: RowSort) -> Vec<u8> {
+    let mut row = base(rng, types, of);
     for _ in 0..rng.between(1, 4) {
         let at = rng.below(row.len());
         row[at] ^= 1 << rng.below(8);
@@ -368,8 +450,8 @@ fn flipped(rng: &mut Rng, types: &[ColumnType]) -> Vec<u8> {
     row
 }
 
-fn cut(rng: &mut Rng, types: &[ColumnType]) -> Vec<u8> {
-    let mut row = base(rng, types);
+fn cut(rng: &mut Rng, types: &[ColumnType], of: RowSort) -> Vec<u8> {
+    let mut row = base(rng, types, of);
     let minimum = Layout::of_row(types, &row).minimum;
     let length = match rng.below(4) {
         0 => rng.between(0, 4),
@@ -381,46 +463,49 @@ fn cut(rng: &mut Rng, types: &[ColumnType]) -> Vec<u8> {
     row
 }
 
-fn lengthened(rng: &mut Rng, types: &[ColumnType]) -> Vec<u8> {
-    let mut row = base(rng, types);
+fn lengthened(rng: &mut Rng, types: &[ColumnType], of: RowSort) -> Vec<u8> {
+    let mut row = base(rng, types, of);
     let more = rng.between(1, 16);
     row.extend(rng.bytes(more));
     row
 }
 
-fn changed_offset(rng: &mut Rng, types: &[ColumnType]) -> Option<Vec<u8>> {
-    let mut target = Target::new(rng, types)?;
+fn changed_offset(rng: &mut Rng, types: &[ColumnType], of: RowSort) -> Option<Vec<u8>> {
+    let mut target = Target::new(rng, types, of)?;
     let old = target.offset(target.rank);
     let new = match rng.below(6) {
-        0 => rng.next_u64() as u16,
+        0 => rng.next_u64() as usize,
         1 => target.offset(rng.below(target.layout.varchars)),
-        2 => (target.row.len() + rng.below(2)) as u16,
-        3 => u16::MAX,
+        2 => target.row.len() + rng.below(2),
+        3 => usize::MAX,
         4 => old.wrapping_sub(1),
-        _ => old,
+        _ => far_offset(rng, of, old),
     };
-    target.set_offset(if new == old { old.wrapping_add(1) } else { new });
+    target.set_offset(new);
+    if target.offset(target.rank) == old {
+        target.set_offset(old.wrapping_add(1));
+    }
     Some(target.row)
 }
 
-fn offset_in_header(rng: &mut Rng, types: &[ColumnType]) -> Option<Vec<u8>> {
-    let mut target = Target::new(rng, types)?;
+fn offset_in_header(rng: &mut Rng, types: &[ColumnType], of: RowSort) -> Option<Vec<u8>> {
+    let mut target = Target::new(rng, types, of)?;
     let inside = rng.between(1, target.layout.minimum - 1);
     let inside = rng.pick(&[1, BITMAP, target.layout.table, inside]);
-    target.set_offset(inside as u16);
+    target.set_offset(inside);
     clear_null_bit(&mut target.row, target.column);
     Some(target.row)
 }
 
-fn zero_offset(rng: &mut Rng, types: &[ColumnType]) -> Option<Vec<u8>> {
-    let mut target = Target::new(rng, types)?;
+fn zero_offset(rng: &mut Rng, types: &[ColumnType], of: RowSort) -> Option<Vec<u8>> {
+    let mut target = Target::new(rng, types, of)?;
     target.set_offset(0);
     clear_null_bit(&mut target.row, target.column);
     Some(target.row)
 }
 
-fn column_count(rng: &mut Rng, types: &[ColumnType]) -> Vec<u8> {
-    let mut row = base(rng, types);
+fn column_count(rng: &mut Rng, types: &[ColumnType], of: RowSort) -> Vec<u8> {
+    let mut row = base(rng, types, of);
     let count = types.len() as u16;
     let other = rng.between(1, 0xFFFF) as u16;
     let by = rng.pick(&[1, u16::MAX, 256, other]);
@@ -428,34 +513,55 @@ fn column_count(rng: &mut Rng, types: &[ColumnType]) -> Vec<u8> {
     row
 }
 
-/// Another Varchar count, the flag as it was.
-fn varchar_count(rng: &mut Rng, types: &[ColumnType]) -> Vec<u8> {
-    let mut row = base(rng, types);
+/// Of a long row an offset that two bytes, or three, would cut to the old one; of a
+/// short one the old one.
+fn far_offset(rng: &mut Rng, of: RowSort, old: usize) -> usize {
+    match of {
+        RowSort::Short => old,
+        RowSort::Long => old + (1 << rng.pick(&[16, 24, 31])),
+    }
+}
+
+/// Another Varchar count, the marks as they were.
+fn varchar_count(rng: &mut Rng, types: &[ColumnType], of: RowSort) -> Vec<u8> {
+    let mut row = base(rng, types, of);
     let field = u16::from_le_bytes([row[2], row[3]]);
+    let marks = PACKED | of.mark();
     let other = rng.between(1, 0x7FFF) as u16;
     let by = rng.pick(&[1, PACKED - 1, 256, other]);
-    let count = field.wrapping_add(by) & !PACKED;
-    row[2..4].copy_from_slice(&(field & PACKED | count).to_le_bytes());
+    let mut count = field.wrapping_add(by) & !marks;
+    // By 0x4000 a long row has the old count again.
+    if count == field & !marks {
+        count ^= 0x2000;
+    }
+    row[2..4].copy_from_slice(&(field & marks | count).to_le_bytes());
     row
 }
 
-fn flag(rng: &mut Rng, types: &[ColumnType]) -> Vec<u8> {
-    let mut row = base(rng, types);
+/// The mark of long rows changed: a row of the other sort by its header alone.
+fn mark(rng: &mut Rng, types: &[ColumnType], of: RowSort) -> Vec<u8> {
+    let mut row = base(rng, types, of);
+    row[3] ^= (LONG >> 8) as u8;
+    row
+}
+
+fn flag(rng: &mut Rng, types: &[ColumnType], of: RowSort) -> Vec<u8> {
+    let mut row = base(rng, types, of);
     row[3] ^= (PACKED >> 8) as u8;
     row
 }
 
-fn above(rng: &mut Rng, types: &[ColumnType]) -> Vec<u8> {
-    if let Some(row) = build(rng, types, ListSort::RowAbove) {
+fn above(rng: &mut Rng, types: &[ColumnType], of: RowSort) -> Vec<u8> {
+    if let Some(row) = build(rng, types, of, ListSort::RowAbove) {
         return row;
     }
-    let mut row = base(rng, types);
-    row.resize(LIMIT + rng.pick(&[1, 2, 1000]), b' ');
+    let mut row = base(rng, types, of);
+    row.resize(of.limit() + rng.pick(&[1, 2, 1000]), b' ');
     row
 }
 
-fn random_body(rng: &mut Rng, types: &[ColumnType]) -> Vec<u8> {
-    let mut row = made::fresh(types);
+fn random_body(rng: &mut Rng, types: &[ColumnType], of: RowSort) -> Vec<u8> {
+    let mut row = made::fresh_of(types, of);
     if rng.one_in(2) {
         row[3] &= !(PACKED >> 8) as u8;
     }

@@ -6,6 +6,8 @@ use super::{made, text};
 use crate::column::ColumnType;
 use crate::layout::BITMAP;
 use crate::rng::Rng;
+use crate::row::long_twin;
+use crate::row_sort::LONG;
 use crate::value::{Record, ValueList, append};
 
 /// Platform, unit, arrival, departure.
@@ -201,6 +203,29 @@ fn changed(rng: &mut Rng, sort: Sort, mut rows: Vec<Vec<u8>>) -> Vec<u8> {
         _ => {}
     }
     list
+}
+
+/// A list in which rows, all of them or some, are their long twins, or marked so; the
+/// rows as far as the list has whole ones. A list at a limit passes it.
+pub fn with_long_rows(rng: &mut Rng, list: &[u8]) -> Vec<u8> {
+    let share = rng.pick(&[1, 2, 3]);
+    let mut out = Vec::new();
+    let mut rest = list;
+    while let Some((length, behind)) = rest.split_first_chunk()
+        && let Some((row, behind)) = behind.split_at_checked(u16::from_le_bytes(*length).into())
+    {
+        let mut row = row.to_vec();
+        if rng.one_in(share) {
+            row = long_twin(&COLUMNS, &row).unwrap_or(row);
+        }
+        if rng.one_in(40) && row.len() >= 4 {
+            row[3] ^= (LONG >> 8) as u8;
+        }
+        out.extend(framed(&[row]));
+        rest = behind;
+    }
+    out.extend(rest);
+    out
 }
 
 /// What a good row says.

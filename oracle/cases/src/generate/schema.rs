@@ -5,7 +5,7 @@ use crate::column::ColumnType;
 use crate::layout::Layout;
 use crate::rng::Rng;
 use crate::schema::{write_record, write_schema};
-use crate::{LIMIT, MAX_COLUMNS};
+use crate::{LIMIT, MAX_COLUMNS, RowSort};
 
 #[derive(Debug, Clone, Copy, PartialEq, Eq, PartialOrd, Ord)]
 pub enum Sort {
@@ -16,7 +16,7 @@ pub enum Sort {
     Columns64,
     Columns255,
     Columns256,
-    /// Good, the padded minimum exactly 65,535.
+    /// Good, the padded minimum exactly at the limit of its rows.
     AtLimit,
     // Refused with 1.
     UnknownKind,
@@ -25,7 +25,7 @@ pub enum Sort {
     Precision,
     Scale,
     Column257,
-    /// The padded minimum 65,536.
+    /// The padded minimum above the limit by one.
     OneAbove,
     /// The packed minimum within the limit, the padded one above.
     AboveByPadding,
@@ -62,8 +62,13 @@ pub struct Schema {
     pub expected: Expected,
 }
 
-/// A schema of this sort.
+/// A schema of this sort, for short rows.
 pub fn schema(rng: &mut Rng, sort: Sort) -> Schema {
+    schema_of(rng, RowSort::Short, sort)
+}
+
+/// The same for rows of a sort.
+pub fn schema_of(rng: &mut Rng, of: RowSort, sort: Sort) -> Schema {
     match sort {
         Sort::Empty => good(vec![]),
         Sort::One => good(types(rng, 1)),
@@ -74,13 +79,13 @@ pub fn schema(rng: &mut Rng, sort: Sort) -> Schema {
         Sort::Columns64 => good(types(rng, 64)),
         Sort::Columns255 => good(types(rng, 255)),
         Sort::Columns256 => good(types(rng, 256)),
-        Sort::AtLimit => good(at_limit(rng)),
+        Sort::AtLimit => good(at_limit_of(rng, of)),
         Sort::UnknownKind | Sort::Precision | Sort::Scale => faulty(rng, sort),
         Sort::Cut => cut(rng),
         Sort::Column257 => column_257(rng),
-        Sort::OneAbove => above(with_minimum(rng, vec![], LIMIT + 1)),
-        Sort::AboveByPadding => above(above_by_padding(rng)),
-        Sort::FarAbove => above(far_above(rng)),
+        Sort::OneAbove => above(with_minimum(rng, vec![], of, of.limit() + 1)),
+        Sort::AboveByPadding => above(above_by_padding(rng, of)),
+        Sort::FarAbove => above(far_above(rng, of)),
         Sort::Random => Schema {
             bytes: random(rng),
             expected: Expected::Unknown,
@@ -88,14 +93,19 @@ pub fn schema(rng: &mut Rng, sort: Sort) -> Schema {
     }
 }
 
-/// A schema of a sort at random, one of few columns half the time.
+/// A schema of a sort at random for short rows, one of few columns half the time.
 pub fn any_schema(rng: &mut Rng) -> (Sort, Schema) {
+    any_schema_of(rng, RowSort::Short)
+}
+
+/// The same for rows of a sort.
+pub fn any_schema_of(rng: &mut Rng, of: RowSort) -> (Sort, Schema) {
     let sort = if rng.one_in(2) {
         Sort::Few
     } else {
         rng.pick(&Sort::ALL)
     };
-    (sort, schema(rng, sort))
+    (sort, schema_of(rng, of, sort))
 }
 
 /// The columns of a good schema, mostly a few.
@@ -187,20 +197,30 @@ fn length(rng: &mut Rng, most: usize) -> u16 {
 
 /// The columns of a good schema with a padded minimum of exactly 65,535.
 pub fn at_limit(rng: &mut Rng) -> Vec<ColumnType> {
-    with_minimum(rng, vec![], LIMIT)
+    at_limit_of(rng, RowSort::Short)
+}
+
+/// The same at the limit of rows of a sort.
+pub fn at_limit_of(rng: &mut Rng, of: RowSort) -> Vec<ColumnType> {
+    with_minimum(rng, vec![], of, of.limit())
 }
 
 /// Seven bytes of padding or more, and a padded minimum above the limit by at
 /// most seven, so that the packed minimum is not above it.
-fn above_by_padding(rng: &mut Rng) -> Vec<ColumnType> {
+fn above_by_padding(rng: &mut Rng, of: RowSort) -> Vec<ColumnType> {
     let padding = vec![ColumnType::Bool, ColumnType::BigInt];
-    let minimum = LIMIT + rng.between(1, 7);
-    with_minimum(rng, padding, minimum)
+    let minimum = of.limit() + rng.between(1, 7);
+    with_minimum(rng, padding, of, minimum)
 }
 
-/// These columns and more, with this padded minimum: the last fixed column has
+/// These columns and more, with this padded minimum: the last fixed columns have
 /// what the others leave.
-fn with_minimum(rng: &mut Rng, first: Vec<ColumnType>, minimum: usize) -> Vec<ColumnType> {
+pub fn with_minimum(
+    rng: &mut Rng,
+    first: Vec<ColumnType>,
+    of: RowSort,
+    minimum: usize,
+) -> Vec<ColumnType> {
     let columns = rng.between(0, 30);
     let mut types = [first, types(rng, columns)].concat();
     let last = types.len();
@@ -208,7 +228,12 @@ fn with_minimum(rng: &mut Rng, first: Vec<ColumnType>, minimum: usize) -> Vec<Co
     for _ in 0..rng.below(4) {
         types.push(ColumnType::Varchar(length(rng, LIMIT)));
     }
-    let n = (minimum - Layout::padded(&types).minimum) as u16;
+    let mut missing = minimum - Layout::padded_of(&types, of).minimum;
+    while missing > LIMIT {
+        types.push(ColumnType::Char(u16::MAX));
+        missing = minimum - Layout::padded_of(&types, of).minimum;
+    }
+    let n = missing as u16;
     types[last] = if rng.one_in(2) {
         ColumnType::Char(n)
     } else {
@@ -217,8 +242,11 @@ fn with_minimum(rng: &mut Rng, first: Vec<ColumnType>, minimum: usize) -> Vec<Co
     types
 }
 
-fn far_above(rng: &mut Rng) -> Vec<ColumnType> {
-    let columns = rng.pick(&[2, 3, 10, MAX_COLUMNS]);
+fn far_above(rng: &mut Rng, of: RowSort) -> Vec<ColumnType> {
+    let columns = match of {
+        RowSort::Short => rng.pick(&[2, 3, 10, MAX_COLUMNS]),
+        RowSort::Long => rng.pick(&[27, 30, MAX_COLUMNS]),
+    };
     (0..columns)
         .map(|_| rng.between(40_000, LIMIT) as u16)
         .map(ColumnType::Char)
@@ -228,7 +256,7 @@ fn far_above(rng: &mut Rng) -> Vec<ColumnType> {
 /// Records before a bad one: good each, whatever their minimum.
 fn before(rng: &mut Rng) -> Vec<u8> {
     if rng.one_in(8) {
-        return write_schema(&far_above(rng)[1..]);
+        return write_schema(&far_above(rng, RowSort::Short)[1..]);
     }
     let columns = rng.pick(&[0, 1, 2, 5, 30, 255]);
     write_schema(&types(rng, columns))

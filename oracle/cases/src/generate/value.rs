@@ -2,22 +2,38 @@
 //! range outside the text area.
 
 use super::text::{self, Fault};
-use crate::LIMIT;
+use crate::RowSort;
 use crate::column::ColumnType;
 use crate::rng::Rng;
-use crate::value::{DATES, Record, TIMES, TIMESTAMPS, TextRange, append};
+use crate::value::{DATES, Record, TIMES, TIMESTAMPS, TextRange, append_up_to};
 use std::ops::RangeInclusive;
 
 /// A text area that grows with the values put into it.
-#[derive(Debug, Clone, Default)]
+#[derive(Debug, Clone)]
 pub struct TextArea {
+    /// Of rows of this sort.
+    of: RowSort,
     pub bytes: Vec<u8>,
     ranges: Vec<TextRange>,
 }
 
+impl Default for TextArea {
+    fn default() -> Self {
+        TextArea::new(RowSort::Short)
+    }
+}
+
 impl TextArea {
+    pub fn new(of: RowSort) -> Self {
+        TextArea {
+            of,
+            bytes: Vec::new(),
+            ranges: Vec::new(),
+        }
+    }
+
     pub fn room(&self) -> usize {
-        LIMIT - self.bytes.len()
+        self.of.limit() - self.bytes.len()
     }
 
     /// Puts bytes, for which there is room, at the end, at times behind a gap.
@@ -26,7 +42,8 @@ impl TextArea {
             let gap = rng.between(1, 3).min(self.room() - bytes.len());
             self.bytes.extend(rng.bytes(gap));
         }
-        let range = append(bytes, &mut self.bytes).expect("room for the bytes");
+        let range = append_up_to(self.of.limit(), bytes, &mut self.bytes);
+        let range = range.expect("room for the bytes");
         self.ranges.push(range);
         range
     }

@@ -6,27 +6,31 @@ use super::slots::{Given, Role};
 use super::{Attack, Call, Lent};
 use crate::memory::Part;
 use crate::{chars, port};
+use cases::RowSort;
 
 impl Attack {
-    pub(super) fn fresh(&mut self, schema: &[u8], out: &[u8]) -> Told {
+    pub(super) fn fresh(&mut self, schema: &[u8], is_long: bool, out: &[u8]) -> Told {
         let judge = self.judge.fresh;
         let lent = Lent {
             inputs: [(Role::Schema, schema)],
             outputs: [(Role::Output, out)],
-            numbers: [0, 0],
+            numbers: [is_long.into(), 0],
         };
         // SAFETY: here and below, each pointer and length is that of lent memory;
         // only the outputs are lent for writing.
         let port = |[s]: [Part; 1], [o]: [Part; 1]| unsafe {
-            let answer = port::rook_row_fresh(s.pointer, s.length, o.pointer, o.length);
+            let answer = port::rook_row_fresh(s.pointer, s.length, is_long, o.pointer, o.length);
             told!(answer, length)
         };
-        self.run(Call::Fresh, lent, port, |[out]| judge(schema, out))
+        let told = self.run(Call::Fresh, lent, port, |[out]| judge(schema, is_long, out));
+        self.long_calls(Call::Fresh, is_long, told);
+        told
     }
 
     pub(super) fn build(
         &mut self,
         schema: &[u8],
+        is_long: bool,
         values: &[u8],
         text: &[u8],
         out: &[u8],
@@ -36,12 +40,13 @@ impl Attack {
         let lent = Lent {
             inputs: list_inputs(schema, values, text),
             outputs: [(Role::Output, out), (Role::Counts, counts)],
-            numbers: [0, 0],
+            numbers: [is_long.into(), 0],
         };
         let port = |[s, v, t]: [Part; 3], [o, c]: [Part; 2]| unsafe {
             let answer = port::rook_row_build(
                 s.pointer,
                 s.length,
+                is_long,
                 v.pointer,
                 v.length,
                 t.pointer,
@@ -54,8 +59,11 @@ impl Attack {
             told!(answer, length)
         };
         let told = self.run(Call::Build, lent, port, |[out, counts]| {
-            on_numbers(counts, |counts| judge(schema, values, text, out, counts))
+            on_numbers(counts, |counts| {
+                judge(schema, is_long, values, text, out, counts)
+            })
         });
+        self.long_calls(Call::Build, is_long, told);
         self.shown(chars::build(schema, values, text, told.answer()));
         told
     }
@@ -97,6 +105,7 @@ impl Attack {
         let told = self.run(Call::Read, lent, port, |[out, counts]| {
             on_numbers(counts, |counts| judge(schema, row, wanted, out, counts))
         });
+        self.long_calls(Call::Read, is_long(row), told);
         let is_wanted = |column| wanted.iter().any(|&n| usize::from(n) == column);
         self.shown(chars::read(schema, row, is_wanted, told.answer()));
         told
@@ -161,7 +170,7 @@ impl Attack {
         values: &[u8],
         text: &[u8],
     ) -> Told {
-        let judge = self.judge.set;
+        let judge = self.judge.handle_set;
         let length = handle::length(before);
         let lent = Lent {
             inputs: list_inputs(schema, values, text),
@@ -176,9 +185,8 @@ impl Attack {
             told!(answer, length)
         };
         let told = self.run(Call::HandleSet, lent, port, |[buffer, handle]| {
-            let told = judge(schema, buffer, length, column, values, text);
-            handle.copy_from_slice(&handle::after(told, schema, buffer, before));
-            told
+            let handle = handle.try_into().expect("a handle");
+            judge(handle, schema, buffer, column, values, text)
         });
         self.shown_edit(schema, buffer, [length, column], Some((values, text)), told)
     }
@@ -190,7 +198,7 @@ impl Attack {
         before: &Handle,
         column: usize,
     ) -> Told {
-        let judge = self.judge.set_null;
+        let judge = self.judge.handle_set_null;
         let length = handle::length(before);
         let lent = Lent {
             inputs: [(Role::Schema, schema)],
@@ -204,9 +212,8 @@ impl Attack {
             told!(answer, length)
         };
         let told = self.run(Call::HandleSetNull, lent, port, |[buffer, handle]| {
-            let told = judge(schema, buffer, length, column);
-            handle.copy_from_slice(&handle::after(told, schema, buffer, before));
-            told
+            let handle = handle.try_into().expect("a handle");
+            judge(handle, schema, buffer, column)
         });
         self.shown_edit(schema, buffer, [length, column], None, told)
     }
@@ -221,6 +228,12 @@ impl Attack {
         told: Told,
     ) -> Told {
         let row = buffer.get(..length);
+        let call = if list.is_some() {
+            Call::Set
+        } else {
+            Call::SetNull
+        };
+        self.long_calls(call, row.is_some_and(is_long), told);
         self.shown(chars::edit(schema, row, column, list, told.answer()));
         told
     }
@@ -237,6 +250,7 @@ impl Attack {
             told!(answer, start, length)
         };
         let told = self.run(Call::Text, lent, port, |[]| judge(schema, row, column));
+        self.long_calls(Call::Text, is_long(row), told);
         let is_wanted = |wanted| wanted == column;
         self.shown(chars::read(schema, row, is_wanted, told.answer()));
         told
@@ -256,6 +270,8 @@ impl Attack {
             told!(answer, flag)
         };
         let told = self.run(Call::SameContent, lent, port, |[]| judge(schema, a, b));
+        self.long_calls(Call::SameContent, is_long(a) || is_long(b), told);
+        self.counts.mixed += u64::from(is_long(a) != is_long(b));
         let shown = |row| chars::read(schema, row, |_| true, told.answer());
         self.shown(shown(a).or_else(|| shown(b)));
         told
@@ -272,7 +288,9 @@ impl Attack {
             let answer = port::rook_row_is_null(r.pointer, r.length, column);
             told!(answer, flag)
         };
-        self.run(Call::IsNull, lent, port, |[]| judge(row, column))
+        let told = self.run(Call::IsNull, lent, port, |[]| judge(row, column));
+        self.long_calls(Call::IsNull, is_long(row), told);
+        told
     }
 
     pub(super) fn text_check(&mut self, text: &[u8]) -> Told {
@@ -302,6 +320,11 @@ impl Attack {
         };
         self.run(Call::OccupationsPrint, lent, port, |[out]| judge(list, out))
     }
+}
+
+/// Whether a row has the mark of long ones.
+fn is_long(row: &[u8]) -> bool {
+    RowSort::of_row(row) == RowSort::Long
 }
 
 /// A schema, and a value list with its text area.

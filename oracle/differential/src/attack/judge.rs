@@ -1,5 +1,7 @@
 //! Who says what is wanted: the model, or the model with a fault.
 
+use super::handle::{self, Handle};
+
 /// An answer: number, place and what is handed out, which is a length, a flag, the
 /// start and the length of a text, or whether bytes are text and its code points.
 #[derive(Debug, Clone, Copy, PartialEq, Eq)]
@@ -16,16 +18,20 @@ impl Told {
     }
 }
 
-pub type Build = fn(&[u8], &[u8], &[u8], &mut [u8], &mut [u32]) -> Told;
+pub type Fresh = fn(&[u8], bool, &mut [u8]) -> Told;
+pub type Build = fn(&[u8], bool, &[u8], &[u8], &mut [u8], &mut [u32]) -> Told;
 pub type Read = fn(&[u8], &[u8], &[u16], &mut [u8], &mut [u32]) -> Told;
 pub type Edit = fn(&[u8], &mut [u8], usize, usize, &[u8], &[u8]) -> Told;
+pub type HandleEdit = fn(&mut Handle, &[u8], &mut [u8], usize, &[u8], &[u8]) -> Told;
 
 pub struct Judge {
-    pub fresh: fn(&[u8], &mut [u8]) -> Told,
+    pub fresh: Fresh,
     pub build: Build,
     pub read: Read,
     pub set: Edit,
     pub set_null: fn(&[u8], &mut [u8], usize, usize) -> Told,
+    pub handle_set: HandleEdit,
+    pub handle_set_null: fn(&mut Handle, &[u8], &mut [u8], usize) -> Told,
     pub text: fn(&[u8], &[u8], usize) -> Told,
     pub same_content: fn(&[u8], &[u8], &[u8]) -> Told,
     pub is_null: fn(&[u8], usize) -> Told,
@@ -55,12 +61,41 @@ pub fn checked(valid: u32, points: usize) -> Told {
     }
 }
 
+/// A judge's call on the handle that lent bytes are.
+macro_rules! on_handle {
+    ($model:ident, $lent:expr, |$handle:ident| $call:expr) => {{
+        let [length, columns, varchars, fixed, packed, is_long] = handle::numbers($lent);
+        let mut own = $model::Handle {
+            length,
+            columns,
+            varchars,
+            fixed,
+            packed,
+            is_long,
+        };
+        let $handle = &mut own;
+        let answer = $call;
+        let numbers = [own.length, own.columns, own.varchars, own.fixed];
+        let marks = [own.packed, own.is_long];
+        let all = [&numbers[..], &marks].concat();
+        *$lent = handle::bytes(all.try_into().expect("six numbers"));
+        told!(answer, length)
+    }};
+}
+
 macro_rules! judge {
     ($model:ident) => {
         Judge {
-            fresh: |schema, out| told!($model::fresh(schema, out), length),
-            build: |schema, values, text, out, counts| {
-                told!($model::build(schema, values, text, out, counts), length)
+            fresh: |schema, is_long, out| {
+                let sort = $model::Sort::ALL[usize::from(is_long)];
+                told!($model::fresh(schema, sort, out), length)
+            },
+            build: |schema, is_long, values, text, out, counts| {
+                let sort = $model::Sort::ALL[usize::from(is_long)];
+                told!(
+                    $model::build(schema, sort, values, text, out, counts),
+                    length
+                )
             },
             read: |schema, row, wanted, out, counts| {
                 told!($model::read(schema, row, wanted, out, counts), length)
@@ -73,6 +108,16 @@ macro_rules! judge {
             },
             set_null: |schema, buffer, length, column| {
                 told!($model::set_null(schema, buffer, length, column), length)
+            },
+            handle_set: |lent, schema, buffer, column, values, text| {
+                on_handle!($model, lent, |handle| {
+                    $model::handle_set(handle, schema, buffer, column, values, text)
+                })
+            },
+            handle_set_null: |lent, schema, buffer, column| {
+                on_handle!($model, lent, |handle| {
+                    $model::handle_set_null(handle, schema, buffer, column)
+                })
             },
             text: |schema, row, column| told!($model::text(schema, row, column), start, length),
             same_content: |schema, a, b| told!($model::same_content(schema, a, b), flag),

@@ -75,8 +75,13 @@ pub struct Counts {
     pub calls: u64,
     /// By call and answer: the number, of the text check 1 or 0.
     pub answers: [[u64; NUMBERS]; Call::ALL.len()],
-    /// With a lent slice of 65,535 bytes or more.
-    pub long: u64,
+    /// With a lent slice of 65,535 bytes or more, and of 1,048,576 bytes or more.
+    pub large: u64,
+    pub largest: u64,
+    /// By call and answer, those on a long row, or that make one.
+    pub long: [[u64; NUMBERS]; Call::ALL.len()],
+    /// Same content of a short and a long row.
+    pub mixed: u64,
     /// With a schema or a value list for 256 columns or more.
     pub wide: u64,
     /// With an input that was damaged.
@@ -149,6 +154,14 @@ impl Attack {
         told
     }
 
+    /// Counts a call on a long row, or that makes one.
+    fn long_calls(&mut self, call: Call, is_long: bool, told: Told) {
+        let answers = &mut self.counts.long[call as usize];
+        if is_long && let Some(count) = answers.get_mut(told.number as usize) {
+            *count += 1;
+        }
+    }
+
     /// Counts what a call showed.
     fn shown(&mut self, shown: Option<Shown>) {
         if let Some(shown) = shown {
@@ -158,10 +171,10 @@ impl Attack {
 
     /// Counts a call that answers so.
     fn count<'a>(&mut self, call: Call, told: Told, lent: impl Iterator<Item = &'a Given<'a>>) {
-        let mut long = false;
+        let mut most = 0;
         self.spent += 64;
         for (role, bytes) in lent {
-            long |= bytes.len() >= 65_535;
+            most = most.max(bytes.len());
             self.spent += if *role == Role::Handle {
                 0
             } else {
@@ -169,7 +182,8 @@ impl Attack {
             };
         }
         self.counts.calls += 1;
-        self.counts.long += u64::from(long);
+        self.counts.large += u64::from(most >= 65_535);
+        self.counts.largest += u64::from(most >= 1_048_576);
         let number = match call {
             Call::TextCheck => told.handed[0],
             _ => told.number as usize,
@@ -250,7 +264,7 @@ mod tests {
         }
     }
 
-    const HANDLE: [u8; 40] = [7; 40];
+    const HANDLE: [u8; 48] = [7; 48];
 
     fn lent<'a>() -> Lent<'a, 1, 2> {
         Lent {
@@ -284,7 +298,7 @@ mod tests {
     #[test]
     fn every_byte_of_every_output_is_seen() {
         assert_eq!(called(None).difference, None);
-        for (output, length) in [(0, 3), (1, 40)] {
+        for (output, length) in [(0, 3), (1, 48)] {
             for place in -64..length {
                 let attack = called(Some((output, place)));
                 let difference = attack.difference.expect("a difference");

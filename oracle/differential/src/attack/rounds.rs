@@ -2,24 +2,24 @@
 //! make for one schema, good, bad and at the limits, and calls on it many times,
 //! as it is, damaged, and with outputs and lists of counts of every room.
 
-use super::handle::Handle;
+use super::handle::{self, Handle};
 use super::judge::Told;
-use super::slots::MOST_COUNTS;
+use super::slots::{MOST_COUNTS, longest};
 use super::{Attack, Call};
 use crate::compare::{build, rows, text};
-use cases::LIMIT;
 use cases::column::ColumnType;
-use cases::generate::history::history;
+use cases::generate::history::history_of;
 use cases::generate::kinds::Kinds;
-use cases::generate::list::any_list;
-use cases::generate::pair::any_pair;
-use cases::generate::row::{any_column, any_row, sound_row};
-use cases::generate::row_list;
+use cases::generate::list::{self, List, any_list_of, list_of};
+use cases::generate::made;
+use cases::generate::row::{self, any_column, sound_row_of};
+use cases::generate::schema::any_type;
 use cases::generate::wanted::any_wanted;
 use cases::history;
 use cases::rng::Rng;
 use cases::schema::write_schema;
-use cases::value::ValueList;
+use cases::value::{Record, TextRange, ValueList};
+use cases::{LIMIT, RowSort};
 use std::sync::LazyLock;
 
 /// The most calls of a round, and the bytes lent after which it ends.
@@ -28,15 +28,20 @@ const BYTES: usize = 60_000;
 /// The least calls of a round, whatever they take.
 const LEAST: usize = 6;
 
+/// Of the rounds on long rows one in so many is at their limit.
+const AT_LONG_LIMIT: usize = 100;
+
 /// The most bytes of a printed line, and the least that a row takes in a list.
 const LONGEST_LINE: usize = 126;
 const SHORTEST_ROW: usize = 27;
 
 /// What stands in an output before a call.
-static NOISE: LazyLock<Vec<u8>> = LazyLock::new(|| Rng::new(0).bytes(3 * LIMIT));
+static NOISE: LazyLock<Vec<u8>> = LazyLock::new(|| Rng::new(0).bytes(longest()));
 
+/// The front of it, as far as it goes.
 fn noise(rng: &mut Rng, length: usize) -> &'static [u8] {
-    let start = rng.below(NOISE.len() - length + 1);
+    let end = length.max(3 * LIMIT).min(NOISE.len());
+    let start = rng.below(end - length + 1);
     &NOISE[start..start + length]
 }
 
@@ -80,6 +85,10 @@ impl Columns {
 
 /// What the calls of a round begin with.
 struct Given {
+    /// The sort of rows that it is made for; a call may be made for the other one.
+    of: RowSort,
+    /// The least calls, whatever they take.
+    least: usize,
     types: Vec<ColumnType>,
     schema: Vec<u8>,
     rows: [Vec<u8>; 4],
@@ -101,27 +110,42 @@ struct Given {
 
 impl Given {
     fn new(rng: &mut Rng) -> Self {
-        let types = rows::any_types(rng, Kinds::All);
-        let (_, schema) = rows::any_schema_for(rng, &types, Kinds::All);
-        let (_, (a, b)) = any_pair(rng, &types);
-        let rows = [any_row(rng, &types).1, sound_row(rng, &types), a, b];
+        let of = Kinds::All.row_sort(rng);
+        let at_limit = of == RowSort::Long && rng.one_in(AT_LONG_LIMIT);
+        let types = match at_limit {
+            true => far_reaching(rng),
+            false => rows::any_types(rng, Kinds::All, of),
+        };
+        let rows = match at_limit {
+            true => rows_at_limit(rng, &types),
+            false => any_rows(rng, &types, of),
+        };
+        let (_, schema) = rows::any_schema_for(rng, &types, Kinds::All, of);
         let other = build::any_given(rng, Kinds::All);
-        let own = any_list(rng, &types).1.values;
-        let sets = history(rng, &types, 6).into_iter().map(|call| match call {
-            history::Call::Set { column, values } => (column, values),
-            history::Call::SetNull { column } => (column, any_list(rng, &types).1.values),
-        });
-        let sets = sets.collect();
+        let list = |rng: &mut Rng| {
+            let list = match at_limit {
+                true => list_at_limit(rng, &types),
+                false => any_list_of(rng, &types, of).1,
+            };
+            Kinds::All.list(rng, list).values
+        };
+        let own = list(rng);
+        let mut sets = any_sets(rng, &types, of, list);
+        if at_limit {
+            sets.extend(sets_at_limit(&types, &rows[1]));
+        }
         Given {
+            of,
+            least: if at_limit { 4 * LEAST } else { LEAST },
             wanted: [(); 3].map(|()| any_wanted(rng, types.len()).1),
             sets,
             builds: [
                 (Columns::of(&types), own),
                 (Columns::of(&other.types), other.list),
             ],
-            schemas: [rows::any_bytes(rng, Kinds::All).1, schema.clone()],
+            schemas: [rows::any_bytes(rng, Kinds::All, of).1, schema.clone()],
             texts: [(); 2].map(|()| text::text(rng).1),
-            row_list: row_list::any_list(rng).1,
+            row_list: Kinds::All.row_list(rng).1,
             buffer: rows[1].clone(),
             length: rows[1].len(),
             last: [0; Call::ALL.len()],
@@ -131,11 +155,21 @@ impl Given {
         }
     }
 
+    /// The sort that a row is made of: mostly the round's.
+    fn is_long(&self, rng: &mut Rng) -> bool {
+        (self.of == RowSort::Long) != rng.one_in(8)
+    }
+
     /// A row to be edited, in a buffer with room for more or not.
     fn restart(&mut self, rng: &mut Rng) {
+        let fresh;
         let row = match rng.below(8) {
             0 => &self.rows[0],
             1 => &self.rows[2],
+            2 => {
+                fresh = made::fresh_of(&self.types, self.of);
+                &fresh
+            }
             _ => &self.rows[1],
         };
         let spare = match rng.below(16) {
@@ -148,6 +182,87 @@ impl Given {
         self.buffer.clone_from(row);
         self.buffer.extend_from_slice(noise(rng, spare));
     }
+}
+
+/// Columns, and value lists to set them to.
+fn any_sets(
+    rng: &mut Rng,
+    types: &[ColumnType],
+    of: RowSort,
+    list: impl Fn(&mut Rng) -> ValueList,
+) -> Vec<(usize, ValueList)> {
+    let calls = history_of(rng, types, of, 6);
+    let calls = Kinds::All.calls(rng, calls).into_iter();
+    let sets = calls.map(|call| match call {
+        history::Call::Set { column, values } => (column, values),
+        history::Call::SetNull { column } => (column, list(rng)),
+    });
+    sets.collect()
+}
+
+/// Of a row at its limit, the Varchars that take more, with a text of as many bytes as
+/// they have, and of one more or two, which are too many for the row.
+fn sets_at_limit(types: &[ColumnType], row: &[u8]) -> Vec<(usize, ValueList)> {
+    let schema = write_schema(types);
+    let mut sets = Vec::new();
+    for column in 0..types.len() {
+        let own = model::text(&schema, row, column).length;
+        if !types[column].is_variable_length() || own + 2 > LIMIT {
+            continue;
+        }
+        for length in [own, own + 1, own + 1, own + 2] {
+            let record = Record::Varchar(TextRange { start: 0, length });
+            sets.push((column, ValueList::of_records(&[record], vec![b'x'; length])));
+        }
+    }
+    [sets.clone(), sets].concat()
+}
+
+/// Rows of a round: any, a sound one, and two to be compared.
+fn any_rows(rng: &mut Rng, types: &[ColumnType], of: RowSort) -> [Vec<u8>; 4] {
+    let (_, (a, b)) = Kinds::All.pair(rng, types, of);
+    let any = rows::any_row(rng, types, Kinds::All, of).1;
+    [any, sound_row_of(rng, types, of), a, b]
+}
+
+/// A few columns, and Varchars that bring a long row past its limit.
+fn far_reaching(rng: &mut Rng) -> Vec<ColumnType> {
+    let few = rng.below(3);
+    let mut types: Vec<_> = (0..few).map(|_| any_type(rng, 40)).collect();
+    types.extend(match rng.below(2) {
+        0 => vec![ColumnType::Varchar(u16::MAX); 17],
+        _ => vec![ColumnType::VarcharChars(u16::MAX); 5],
+    });
+    types
+}
+
+/// The same of rows at the limit of long ones: one above it, a sound one at it, and two
+/// that are nearly the same.
+fn rows_at_limit(rng: &mut Rng, types: &[ColumnType]) -> [Vec<u8>; 4] {
+    let mut row = |sort: row::Sort| {
+        let row = row::row_of(rng, types, RowSort::Long, sort);
+        row.expect("columns that reach so far")
+    };
+    let (above, sound) = (row(row::Sort::Above), row(row::Sort::AtLimit));
+    let mut other = sound.clone();
+    if rng.one_in(2) {
+        let at = rng.below(other.len());
+        other[at] ^= 1;
+    }
+    [above, sound.clone(), sound, other]
+}
+
+/// A list whose row or text area is at the limit of long ones or above it, or a good one.
+fn list_at_limit(rng: &mut Rng, types: &[ColumnType]) -> List {
+    let sort = rng.pick(&[
+        list::Sort::RowAtLimit,
+        list::Sort::RowAbove,
+        list::Sort::TextAtLimit,
+        list::Sort::TextAbove,
+        list::Sort::Good,
+    ]);
+    let list = list_of(rng, types, RowSort::Long, sort);
+    list.expect("columns that reach so far")
 }
 
 /// Bytes with a few changed, some cut off or some added.
@@ -166,6 +281,8 @@ fn damage(rng: &mut Rng, bytes: &mut Vec<u8>) {
     };
     let at = rng.below(reach);
     match rng.below(8) {
+        // The mark of long rows, if these are a row.
+        _ if length >= 4 && rng.one_in(16) => bytes[3] ^= 0x40,
         0..=2 => {
             for _ in 0..rng.between(1, 3) {
                 bytes[rng.below(reach)] ^= 1 << rng.below(8);
@@ -173,6 +290,13 @@ fn damage(rng: &mut Rng, bytes: &mut Vec<u8>) {
         }
         3 => bytes[at] = rng.pick(&[0x00, 0x01, 0x7F, 0x80, 0xC0, 0xED, 0xF4, 0xFF]),
         4 => bytes[at] = rng.byte(),
+        5 if rng.one_in(4) => {
+            // Of a header alone, or less; with marks at its end.
+            bytes.truncate(rng.below(5));
+            if let Some(last) = bytes.last_mut() {
+                *last = rng.pick(&[*last, 0x40, 0xC0]);
+            }
+        }
         5 => bytes.truncate(rng.below(length)),
         6 => {
             let number = length + rng.below(3);
@@ -205,7 +329,7 @@ impl Attack {
         let mut given = Given::new(rng);
         let end = self.spent + BYTES;
         for number in 0..CALLS {
-            if self.difference.is_some() || number >= LEAST && self.spent > end {
+            if self.difference.is_some() || number >= given.least && self.spent > end {
                 break;
             }
             let call = only.unwrap_or_else(|| rng.pick(&TRIED));
@@ -239,8 +363,9 @@ impl Attack {
             Call::Fresh => {
                 let schema = &given.schemas[rng.below(2)];
                 let schema = self.varied(rng, schema, 4);
-                let room = room(rng, last, LIMIT.min(last + 2000));
-                self.fresh(&schema, noise(rng, room))
+                let room = room(rng, last, given.of.limit().min(last + 2000));
+                let is_long = given.is_long(rng);
+                self.fresh(&schema, is_long, noise(rng, room))
             }
             Call::Build => self.build_step(rng, given, last),
             Call::Read => self.read_step(rng, given, last),
@@ -290,10 +415,16 @@ impl Attack {
         let schema = self.varied(rng, &columns.schema, 24);
         let values = self.varied(rng, &list.bytes, 4);
         let text = self.varied(rng, &list.text, 8);
-        let room = room(rng, last, last + 600);
+        let enough = match list.text.len() >= LIMIT && rng.one_in(2) {
+            true => given.of.limit() + 600,
+            false => last + 600,
+        };
+        let room = room(rng, last, enough);
         let out = noise(rng, room);
+        let is_long = given.is_long(rng);
         self.build(
             &schema,
+            is_long,
             &values,
             &text,
             out,
@@ -324,7 +455,8 @@ impl Attack {
     /// What an edit is made on, whether it is the row that the edits before left,
     /// and the row length stated.
     fn edited(&mut self, rng: &mut Rng, given: &mut Given) -> (Vec<u8>, bool, usize) {
-        if rng.one_in(12) {
+        // Of a row at its limit few edits leave another such.
+        if rng.one_in(if given.least > LEAST { 2 } else { 12 }) {
             given.restart(rng);
         }
         let buffer = self.varied(rng, &given.buffer, 6);
@@ -401,11 +533,17 @@ fn any_counts(rng: &mut Rng, columns: usize) -> &'static [u8] {
     noise(rng, 4 * numbers)
 }
 
-/// A handle of this length, with anything in the place of the layout.
+/// A handle of this length, with anything in the place of the layout, or with what a
+/// layout may have.
 fn any_handle(rng: &mut Rng, length: usize) -> Handle {
-    let mut handle = [0; 40];
+    if rng.one_in(2) {
+        let [columns, varchars, fixed] = [(); 3].map(|()| rng.below(40));
+        let [packed, is_long] = [(); 2].map(|()| rng.below(2));
+        return handle::bytes([length, columns, varchars, fixed, packed, is_long]);
+    }
+    let mut handle = [0; 48];
     handle[..8].copy_from_slice(&length.to_le_bytes());
-    handle[8..].copy_from_slice(noise(rng, 32));
+    handle[8..].copy_from_slice(noise(rng, 40));
     handle
 }
 

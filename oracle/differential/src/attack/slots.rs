@@ -2,11 +2,16 @@
 
 use super::handle::Handle;
 use crate::memory::{Lending, Part, Shape, Side, Slot};
-use cases::LIMIT;
+use cases::{LIMIT, RowSort};
 
-/// No slice of a round has more bytes; the longest are wanted columns, and buffers
-/// with much room.
+/// No slice of a round has more bytes but what long rows need; the longest are wanted
+/// columns, and buffers with much room.
 const LONGEST: usize = 3 * LIMIT;
+
+/// No slice has more bytes: a long row above its limit, and room behind it.
+pub fn longest() -> usize {
+    RowSort::Long.limit() + 2 * LIMIT
+}
 
 /// No list of counts has more numbers.
 pub const MOST_COUNTS: usize = 600;
@@ -55,6 +60,19 @@ impl Role {
         Shape { size, alignment }
     }
 
+    /// For the slices of long rows alone: what they touch is not touched by others, which
+    /// would be slower for it.
+    fn large_shape(self) -> Shape {
+        let Shape { size, alignment } = self.shape();
+        match self {
+            Role::Counts | Role::Handle | Role::Wanted => Shape { size, alignment },
+            _ => Shape {
+                size: longest(),
+                alignment,
+            },
+        }
+    }
+
     fn lending(self) -> Lending {
         match self {
             Role::Output | Role::Counts | Role::Handle => Lending::ToWrite,
@@ -66,28 +84,51 @@ impl Role {
 /// A slice to be lent.
 pub type Given<'a> = (Role, &'a [u8]);
 
-pub struct Slots([Slot; Role::ALL.len()]);
+/// What is lent of a role now is in the one slot or in the large one.
+pub struct Slots {
+    usual: [Slot; Role::ALL.len()],
+    large: [Slot; Role::ALL.len()],
+    is_large: [bool; Role::ALL.len()],
+}
 
 impl Slots {
     /// Slices have this side at an unreadable page. With `blocks` they are blocks of
     /// their own, for valgrind.
     pub fn new(side: Side, blocks: bool) -> Self {
-        Slots(Role::ALL.map(|role| {
+        let slot = |role: Role, shape: Shape| {
             let lending = if blocks {
                 Lending::Block
             } else {
                 role.lending()
             };
-            Slot::new(lending, side, role.shape())
-        }))
+            Slot::new(lending, side, shape)
+        };
+        Slots {
+            usual: Role::ALL.map(|role| slot(role, role.shape())),
+            large: Role::ALL.map(|role| slot(role, role.large_shape())),
+            is_large: [false; Role::ALL.len()],
+        }
     }
 
     /// Lends these.
     pub fn put<const N: usize>(&mut self, given: [Given; N]) -> [Part; N] {
-        given.map(|(role, bytes)| self.0[role as usize].put(bytes))
+        given.map(|(role, bytes)| {
+            let at = role as usize;
+            self.is_large[at] = bytes.len() > role.shape().size;
+            let slots = match self.is_large[at] {
+                true => &mut self.large,
+                false => &mut self.usual,
+            };
+            slots[at].put(bytes)
+        })
     }
 
+    /// Where this is lent from now.
     pub fn of(&self, role: Role) -> &Slot {
-        &self.0[role as usize]
+        let at = role as usize;
+        match self.is_large[at] {
+            true => &self.large[at],
+            false => &self.usual[at],
+        }
     }
 }

@@ -136,7 +136,23 @@ fn report(attack: &Attack, options: &Options, different: Option<u64>, seconds: f
         println!();
     }
     let counts = &attack.counts;
-    println!("{:>11}  with a slice of 65,535 bytes or more", counts.long);
+    println!("{:>11}  with a slice of 65,535 bytes or more", counts.large);
+    println!(
+        "{:>11}  with a slice of 1,048,576 bytes or more",
+        counts.largest
+    );
+    for call in Call::ALL {
+        let answers = &counts.long[call as usize];
+        let total: u64 = answers.iter().sum();
+        if total > 0 {
+            print!("{total:>11}  long rows, {:<22}", call.name());
+            for (number, count) in answers.iter().enumerate().filter(|(_, count)| **count > 0) {
+                print!(" {number}: {count}");
+            }
+            println!();
+        }
+    }
+    println!("{:>11}  same content of both sorts", counts.mixed);
     println!(
         "{:>11}  made for a schema of 256 columns or more",
         counts.wide

@@ -4,14 +4,16 @@
 //! of the columns; ours, the raw call, writes to a buffer that is lent. The
 //! `Builder` of the bindings makes the value list too; it keeps its memory. Ours
 //! counts the code points of texts too. Then Varchars that count characters beside those
-//! that count bytes, with the same texts, by the raw call.
+//! that count bytes, with the same texts, by the raw call; long rows beside their short
+//! twins; and long rows of 64 KB to 1 MB.
 
 use cases::column::of_rust_types;
 use cases::rust;
 use cases::schema::write_schema;
 use cases::value::ValueList;
-use differential::bench::{Names, tables, time};
+use differential::bench::{Large, Names, Twins, by_size, by_sort, large, tables, time, twins};
 use differential::bench::{beside, least, names, possessions, say_beside, say_beside_header};
+use differential::bench::{say_large, say_large_header, say_twins, say_twins_header};
 use rook_row::{Builder, RowRef, Schema};
 use rookdb::types::datatype::DataType;
 use rookdb::types::row::{Row, serialize_nullable_typed_row};
@@ -26,7 +28,7 @@ fn bench_build(types: &[DataType], rows: &[Values]) -> [f64; 3] {
     let mut out = vec![0; 65_535];
     let mut counts = vec![0; types.len()];
     let mut raw = |list: &ValueList, out: &mut [u8]| {
-        rook_row::raw::build(&schema, &list.bytes, &list.text, out, &mut counts)
+        rook_row::raw::build(&schema, false, &list.bytes, &list.text, out, &mut counts)
     };
     let built: Vec<_> = rows
         .iter()
@@ -67,7 +69,7 @@ fn bench_fresh(types: &[DataType]) -> [f64; 2] {
                 black_box(Row::new(black_box(types).to_vec()).serialize());
             }),
             time(&times, |_| {
-                let length = rook_row::raw::fresh(black_box(&schema), &mut out);
+                let length = rook_row::raw::fresh(black_box(&schema), false, &mut out);
                 black_box((length.expect("a row"), &out));
             }),
         ]
@@ -78,7 +80,7 @@ fn bench_names(names: &Names) {
     let mut out = vec![0; 65_535];
     let mut counts = vec![0; names.types.len()];
     let mut raw = |schema: &[u8], list: &ValueList, out: &mut [u8]| {
-        let length = rook_row::raw::build(schema, &list.bytes, &list.text, out, &mut counts);
+        let length = rook_row::raw::build(schema, false, &list.bytes, &list.text, out, &mut counts);
         length.expect("a row")
     };
     for (list, row) in names.lists.iter().zip(&names.rows) {
@@ -91,6 +93,48 @@ fn bench_names(names: &Names) {
         black_box((raw(schema, list, &mut out), &out));
     });
     say_beside(&names.name, times);
+}
+
+fn bench_twins(twins: &Twins) {
+    let mut out = vec![0; 65_535];
+    let mut counts = vec![0; twins.types.len()];
+    let mut raw = |is_long: bool, list: &ValueList, out: &mut [u8]| {
+        let (values, text) = (&list.bytes, &list.text);
+        rook_row::raw::build(&twins.schema, is_long, values, text, out, &mut counts).expect("a row")
+    };
+    for is_long in [false, true] {
+        for twin in twins.of(is_long) {
+            let length = raw(is_long, &twin.list, &mut out);
+            assert_eq!(out[..length], twin.row);
+        }
+    }
+    let times = by_sort([&twins.short, &twins.long], |is_long, twin| {
+        black_box((raw(is_long, &twin.list, &mut out), &out));
+    });
+    say_twins(&format!("build, {}", twins.name), times);
+    let none = &[(); 1000][..];
+    let times = by_sort([none, none], |is_long, _| {
+        let length = rook_row::raw::fresh(black_box(&twins.schema), is_long, &mut out);
+        black_box((length.expect("a row"), &out));
+    });
+    say_twins(&format!("fresh, {}", twins.name), times);
+}
+
+fn bench_large(rows: &mut [Large; 3]) {
+    let mut out = vec![0; 1_048_576];
+    let mut counts = vec![0; rows[0].columns];
+    let mut raw = |large: &Large, out: &mut [u8]| {
+        let (values, text) = (&large.list.bytes, &large.list.text);
+        rook_row::raw::build(&large.schema, true, values, text, out, &mut counts).expect("a row")
+    };
+    for large in &*rows {
+        let length = raw(large, &mut out);
+        assert!(out[..length] == large.row);
+    }
+    let times = by_size(rows, |large| {
+        black_box((raw(large, &mut out), &out));
+    });
+    say_large("17 remarks", times);
 }
 
 fn say(name: &str, rust: f64, raw: f64) {
@@ -124,4 +168,10 @@ fn main() {
     for names in names() {
         bench_names(&names);
     }
+    say_twins_header("build and fresh");
+    for twins in twins() {
+        bench_twins(&twins);
+    }
+    say_large_header("build");
+    bench_large(&mut large());
 }

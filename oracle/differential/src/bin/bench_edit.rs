@@ -3,14 +3,20 @@
 //! new row of each; ours changes a buffer that is lent, and is handed the row anew
 //! each time. Ours is the raw call, and the `Editor` of the bindings, which is
 //! handed a value. Then Varchars that count characters beside those that count bytes,
-//! with the same texts, by the raw call.
+//! with the same texts, by the raw call; long rows beside their short twins; and long rows
+//! of 64 KB to 1 MB, with a remark set at the front, so that all behind it moves, and at
+//! the end, to a text that is longer by a byte and shorter by a byte in turn.
 
-use cases::column::of_rust_types;
+use cases::RowSort;
+use cases::column::{ColumnType, of_rust_types};
 use cases::rust;
 use cases::schema::write_schema;
-use cases::value::{Record, ValueList};
-use differential::bench::{Names, beside, least, names, say_beside, say_beside_header};
-use differential::bench::{tables, time};
+use cases::value::{Record, TextRange, ValueList};
+use differential::bench::{
+    Large, Names, Twin, Twins, beside, by_size, by_sort, large, least, names,
+};
+use differential::bench::{say_beside, say_beside_header, say_large, say_large_header, say_twins};
+use differential::bench::{say_twins_header, tables, time, twins};
 use rook_row::{Editor, RowRef, Schema, Value};
 use rookdb::types::datatype::DataType;
 use rookdb::types::row::Row;
@@ -114,6 +120,89 @@ fn bench_names(names: &Names, name: &str, column: usize, value: impl Fn(usize) -
     say_beside(&format!("{}, {name}", names.name), times);
 }
 
+/// Sets of a Varchar to the text of the next row, and of an Int, in short rows and in
+/// their long twins.
+fn bench_twins(twins: &Twins) {
+    let types = &twins.types;
+    let mut buffer = vec![0; 65_535];
+    let is_text = |ty: &ColumnType| matches!(ty, ColumnType::Varchar(_));
+    let is_int = |ty: &ColumnType| *ty == ColumnType::Int;
+    let text = types.iter().position(is_text).expect("a Varchar");
+    let int = types.iter().position(is_int).expect("an Int");
+    for (name, column) in [("Varchar set", text), ("Int set", int)] {
+        let edits = [false, true].map(|is_long| {
+            let all = twins.of(is_long);
+            let next = all.iter().cycle().skip(1);
+            let edit = |(twin, next): (&'_ Twin, &Twin)| {
+                (twin.row.clone(), one(next, column, column == text, is_long))
+            };
+            all.iter().zip(next).map(edit).collect::<Vec<_>>()
+        });
+        let mut raw = |row: &[u8], list: &ValueList| {
+            buffer[..row.len()].copy_from_slice(row);
+            let (values, text) = (&list.bytes, &list.text);
+            let length =
+                rook_row::raw::set(&twins.schema, &mut buffer, row.len(), column, values, text);
+            black_box((length.expect("a good edit"), &buffer));
+        };
+        let [short, long] = &edits;
+        let times = by_sort([short, long], |_, (row, list)| raw(row, list));
+        say_twins(&format!("{}, {name}", twins.name), times);
+    }
+}
+
+/// The value of a Varchar alone, or an Int, in the kinds of the sort.
+fn one(twin: &Twin, column: usize, is_text: bool, is_long: bool) -> ValueList {
+    let of = if is_long {
+        RowSort::Long
+    } else {
+        RowSort::Short
+    };
+    let record = twin.list.all_records().expect("a good list")[column];
+    let text = record.range().and_then(|range| range.of(&twin.list.text));
+    let text = text.unwrap_or_default().to_vec();
+    let length = text.len();
+    let range = TextRange { start: 0, length };
+    let record = match (record.range(), is_text) {
+        (Some(_), _) => record.with_range(range),
+        // Null is given to no set.
+        (None, true) => Record::Varchar(range),
+        (None, false) => Record::Int(7),
+    };
+    ValueList::of_records_of(of, &[record], text)
+}
+
+/// Sets of a column of the large rows, to its text less a byte and to its text.
+fn bench_large(rows: &mut [Large; 3], name: &str, column: usize) {
+    let lists = rows.each_ref().map(|large| {
+        let text = large.text(column);
+        let of = |length: usize| {
+            let record = Record::Varchar(TextRange { start: 0, length });
+            ValueList::of_records_of(RowSort::Long, &[record], text[..length].to_vec())
+        };
+        [of(text.len() - 1), of(text.len())]
+    });
+    let size = |large: &Large| match large.row.len() {
+        65_536 => 0,
+        262_144 => 1,
+        _ => 2,
+    };
+    let before = rows.each_ref().map(|large| large.row.clone());
+    let times = by_size(rows, |large| {
+        let mut length = large.row.len();
+        for list in &lists[size(large)] {
+            let (values, text) = (&list.bytes, &list.text);
+            let row = &mut large.row;
+            let set = rook_row::raw::set(&large.schema, row, length, column, values, text);
+            length = set.expect("a good edit");
+        }
+    });
+    for (large, before) in rows.iter().zip(before) {
+        assert!(large.row == before);
+    }
+    say_large(name, times.map(|two| two / 2.0));
+}
+
 fn main() {
     println!(
         "{:<46}{:>10}{:>8}{:>10}{:>8}{:>10}{:>8}",
@@ -167,4 +256,13 @@ fn main() {
             list(Record::Null, vec![])
         });
     }
+    say_twins_header("edit");
+    for twins in twins() {
+        bench_twins(&twins);
+    }
+    say_large_header("set");
+    let mut large = large();
+    let last = large[0].columns - 1;
+    bench_large(&mut large, "a remark at the front", 1);
+    bench_large(&mut large, "a remark at the end", last);
 }

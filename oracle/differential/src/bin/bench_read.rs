@@ -4,13 +4,14 @@
 //! with what they give looked at: each record of the raw call's list by its kind,
 //! each value of the `Reader`. Ours counts the code points of texts too. Then Varchars
 //! that count characters beside those that count bytes, with the same texts, by the raw
-//! call.
+//! call; long rows beside their short twins; and long rows of 64 KB to 1 MB.
 
 use cases::column::of_rust_types;
 use cases::rust;
 use cases::schema::write_schema;
-use differential::bench::{Names, tables, time};
+use differential::bench::{Large, Names, Twins, by_size, by_sort, large, tables, time, twins};
 use differential::bench::{beside, least, names, possessions, say_beside, say_beside_header};
+use differential::bench::{say_large, say_large_header, say_twins, say_twins_header};
 use rook_row::{Reader, RowRef, Schema};
 use rookdb::types::datatype::DataType;
 use rookdb::types::row::{RowDecoder, deserialize_nullable_row};
@@ -100,6 +101,39 @@ fn bench_names(names: &Names) {
     }
 }
 
+fn bench_twins(twins: &Twins) {
+    let columns = twins.types.len() as u16;
+    let all: Vec<u16> = (0..columns).collect();
+    let mut out = vec![0; 18 * twins.types.len()];
+    let mut counts = vec![0; twins.types.len()];
+    for (which, wanted) in [("all", &all[..]), ("one", &[columns / 2])] {
+        let mut raw = |row: &[u8]| {
+            let length = rook_row::raw::read(&twins.schema, row, wanted, &mut out, &mut counts);
+            black_box((length.expect("a built row"), &out, &counts));
+        };
+        let times = by_sort([&twins.short, &twins.long], |_, twin| raw(&twin.row));
+        say_twins(&format!("{}, {which}", twins.name), times);
+    }
+}
+
+fn bench_large(rows: &mut [Large; 3]) {
+    let all: Vec<u16> = (0..rows[0].columns as u16).collect();
+    let mut out = vec![0; 18 * all.len()];
+    let mut counts = vec![0; all.len()];
+    let mut raw = |large: &Large, counts: &mut [u32]| {
+        let length = rook_row::raw::read(&large.schema, &large.row, &all, &mut out, counts);
+        black_box((length.expect("a built row"), &out, &counts));
+    };
+    for large in &*rows {
+        raw(large, &mut counts);
+        for column in 1..large.columns {
+            assert_eq!(counts[column] as usize, large.text(column).len());
+        }
+    }
+    let times = by_size(rows, |large| raw(large, &mut counts));
+    say_large("all columns", times);
+}
+
 fn main() {
     println!(
         "{:<28}{:>8}{:>8}{:>8}{:>7}{:>8}{:>8}{:>8}{:>8}{:>8}{:>8}{:>6}{:>8}{:>8}{:>6}{:>8}",
@@ -138,4 +172,10 @@ fn main() {
     for names in names() {
         bench_names(&names);
     }
+    say_twins_header("read");
+    for twins in twins() {
+        bench_twins(&twins);
+    }
+    say_large_header("read");
+    bench_large(&mut large());
 }

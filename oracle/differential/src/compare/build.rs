@@ -3,55 +3,67 @@
 //! judges all of it: number, place, length and every lent byte.
 
 use super::rows::{self, Counted, apart, apart_from_rust, chars_sorts, counted};
-use super::rows::{counted_in, fitting, handed_counts};
+use super::rows::{counted_in, fitting, handed_counts, model_sort};
+use super::wide;
 use crate::chars::{self, Shown};
 use crate::lent::{After, any_counts, any_output, called_with, written_with};
 use crate::{Compared, hex, port};
-use cases::LIMIT;
 use cases::column::{ColumnType, RustColumns};
 use cases::expected::{self, Refusal};
 use cases::generate::kinds::Kinds;
-use cases::generate::list::{self, any_list};
+use cases::generate::list::{self, any_list_of};
 use cases::generate::schema::any_type;
 use cases::rng::Rng;
 use cases::rust::{self, Outcome};
 use cases::value::{Record, TextRange, ValueList};
+use cases::{LIMIT, RowSort};
 use model::RowAnswer;
 
-/// Columns, and a value list that was made for them.
+/// Columns, and a value list that was made for them and for a row of a sort.
 pub struct Given {
     pub sort: String,
+    pub of: RowSort,
     pub types: Vec<ColumnType>,
     pub list: ValueList,
 }
 
 pub fn any_given(rng: &mut Rng, kinds: Kinds) -> Given {
     match rng.below(32) {
-        0 => long_row(rng, kinds),
+        0 => row_at_limit(rng, kinds),
         1..=3 => area_end(rng, kinds),
         _ => {
-            let types = rows::any_types(rng, kinds);
-            let (sort, list) = any_list(rng, &types);
-            of_sort(sort, types, list.values)
+            let of = kinds.row_sort(rng);
+            let types = rows::any_types(rng, kinds, of);
+            let (sort, list) = any_list_of(rng, &types, of);
+            let list = kinds.list(rng, list);
+            of_sort(sort, of, types, list.values)
         }
     }
 }
 
-fn of_sort(sort: list::Sort, types: Vec<ColumnType>, list: ValueList) -> Given {
+fn of_sort(sort: list::Sort, of: RowSort, types: Vec<ColumnType>, list: ValueList) -> Given {
     let sort = format!("list {sort:?}");
-    Given { sort, types, list }
+    Given {
+        sort,
+        of,
+        types,
+        list,
+    }
 }
 
 /// A list with a value that the Rust refuses, if the one tried is such.
 pub fn refused_given(rng: &mut Rng, kinds: Kinds) -> Option<Given> {
-    let types = rows::any_types(rng, kinds);
+    let of = RowSort::Short;
+    let types = rows::any_types(rng, kinds, of);
     let sort = rng.pick(&[list::Sort::OtherKind, list::Sort::Unsuitable]);
     let list = list::list(rng, &types, sort)?;
-    Some(of_sort(sort, types, list.values))
+    Some(of_sort(sort, of, types, list.values))
 }
 
-/// A row at the limit or above it, with Varchars that reach so far.
-fn long_row(rng: &mut Rng, kinds: Kinds) -> Given {
+/// A row at the limit of short rows or above it, with Varchars that reach so far; of a
+/// long row it is none.
+fn row_at_limit(rng: &mut Rng, kinds: Kinds) -> Given {
+    let of = kinds.row_sort(rng);
     loop {
         let columns = rng.pick(&[0, 1, 3, 9, 200]);
         let mut types: Vec<_> = (0..columns).map(|_| any_type(rng, 40)).collect();
@@ -66,7 +78,8 @@ fn long_row(rng: &mut Rng, kinds: Kinds) -> Given {
         let types = kinds.types(rng, types);
         let sort = rng.pick(&[list::Sort::RowAtLimit, list::Sort::RowAbove]);
         if let Some(list) = list::list(rng, &types, sort) {
-            return of_sort(sort, types, list.values);
+            let list = kinds.list(rng, list);
+            return of_sort(sort, of, types, list.values);
         }
     }
 }
@@ -107,11 +120,17 @@ fn area_end(rng: &mut Rng, kinds: Kinds) -> Given {
     let list = ValueList::of_records(&records, vec![b'x'; area]);
     // As many characters as bytes.
     let types = kinds.types(rng, types);
+    let of = kinds.row_sort(rng);
     let sort = match range.end() <= area {
         true => "list at the area's end".into(),
         false => "list past the area's end".into(),
     };
-    Given { sort, types, list }
+    Given {
+        sort,
+        of,
+        types,
+        list,
+    }
 }
 
 /// What the Rust comes to, where it has these values.
@@ -124,6 +143,7 @@ pub fn rust_row(columns: &RustColumns, list: &ValueList) -> Option<Outcome<Vec<u
 /// What a build is lent.
 struct Lent<'a> {
     schema: &'a [u8],
+    of: RowSort,
     list: &'a ValueList,
     output: Vec<u8>,
     counts: Vec<u32>,
@@ -133,7 +153,7 @@ impl Lent<'_> {
     fn port(&self) -> After<RowAnswer> {
         let inputs = [self.schema, &self.list.bytes, &self.list.text];
         let call = |[schema, values, text]: [&mut [u8]; 3], out: &mut [u8], counts: &mut [u32]| {
-            port::build(schema, values, text, out, counts)
+            port::build(schema, model_sort(self.of), values, text, out, counts)
         };
         called_with(&self.output, &self.counts, inputs, call)
     }
@@ -141,13 +161,13 @@ impl Lent<'_> {
     fn model(&self) -> After<RowAnswer> {
         let (values, text) = (&self.list.bytes, &self.list.text);
         written_with(&self.output, &self.counts, |out, counts| {
-            model::build(self.schema, values, text, out, counts)
+            model::build(self.schema, model_sort(self.of), values, text, out, counts)
         })
     }
 
     /// The row of the Rust and the counts of its texts, or the refusal.
     fn told(&self) -> Option<Result<Counted, Refusal>> {
-        rows::by_rust(self.schema, |columns| {
+        rows::by_rust(self.schema, self.of, |columns| {
             let row = expected::build(columns, self.list).map_err(Refusal::of)?;
             let points = expected::built_points(columns, &row);
             let row = fitting(row, &self.output)?;
@@ -157,7 +177,8 @@ impl Lent<'_> {
 
     fn input(&self) -> String {
         format!(
-            "schema {}, values {}, text of {} bytes {}, {} bytes of output, {} numbers",
+            "{:?} row, schema {}, values {}, text of {} bytes {}, {} bytes of output, {} numbers",
+            self.of,
             hex(self.schema),
             hex(&self.list.bytes),
             self.list.text.len(),
@@ -182,7 +203,7 @@ impl Lent<'_> {
     /// of the number in 01's table, else 01 alone.
     fn judge(&self, number: u32) -> &'static str {
         rows::judged(match number {
-            0 => rows::is_known(self.schema),
+            0 => rows::is_known(self.schema, self.of),
             10 => self.asked_count() == Some(Outcome::Internal),
             11 => self.asked() == Some(Outcome::Internal),
             12 => self.asked() == Some(Outcome::TypeMismatch),
@@ -195,43 +216,62 @@ impl Lent<'_> {
         chars::build(self.schema, &self.list.bytes, &self.list.text, answer)
     }
 
+    /// The columns, if the Rust is a judge of the row.
+    fn known(&self) -> Option<Vec<ColumnType>> {
+        let types = rows::columns(self.schema, self.of).ok()?;
+        (self.of == RowSort::Short).then_some(types)
+    }
+
     fn asked(&self) -> Option<Outcome<Vec<u8>>> {
-        let types = rows::columns(self.schema).ok()?;
-        rust_row(&RustColumns::of(&types)?, self.list)
+        rust_row(&RustColumns::of(&self.known()?)?, self.list)
     }
 
     /// What the Rust says of the number of good records.
     fn asked_count(&self) -> Option<Outcome<Vec<u8>>> {
-        let types = rows::columns(self.schema).ok()?;
         let records = self.list.all_records().ok()?;
+        let types = self.known()?;
         Some(expected::counted(&RustColumns::of(&types)?, records.len()))
     }
 }
 
 /// An output for the result, with room or not; for a refusal of any length.
-fn output_for(rng: &mut Rng, schema: &[u8], list: &ValueList) -> (String, Vec<u8>) {
-    let (out, counts) = (&mut [0; LIMIT], &mut [0; 256]);
-    let answer = model::build(schema, &list.bytes, &list.text, out, counts);
+fn output_for(rng: &mut Rng, schema: &[u8], of: RowSort, list: &ValueList) -> (String, Vec<u8>) {
+    let mut out = vec![0; of.limit()];
+    let (values, text) = (&list.bytes, &list.text);
+    let answer = model::build(
+        schema,
+        model_sort(of),
+        values,
+        text,
+        &mut out,
+        &mut [0; 256],
+    );
     if answer.number == 0 {
         let (room, output) = any_output(rng, answer.length);
         return (format!("output {room:?}"), output);
     }
     let (name, room) = match rng.below(4) {
         0 => ("empty", 0),
-        1 => ("above every row's length", LIMIT + 2000),
+        1 => ("above every row's length", of.limit() + 2000),
         _ => ("short", rng.between(1, 300)),
     };
     (format!("refused, output {name}"), rng.bytes(room))
 }
 
 pub fn compare(rng: &mut Rng) -> Compared {
-    let Given { sort, types, list } = any_given(rng, Kinds::All);
-    let (schema_sort, schema) = rows::any_schema_for(rng, &types, Kinds::All);
-    let (room, output) = output_for(rng, &schema, &list);
-    let columns = rows::columns(&schema).map_or(3, |types| types.len());
+    let Given {
+        sort,
+        of,
+        types,
+        list,
+    } = any_given(rng, Kinds::All);
+    let (schema_sort, schema) = rows::any_schema_for(rng, &types, Kinds::All, of);
+    let (room, output) = output_for(rng, &schema, of, &list);
+    let columns = rows::columns(&schema, of).map_or(3, |types| types.len());
     let (numbers, counts) = any_counts(rng, columns);
     let lent = Lent {
         schema: &schema,
+        of,
         list: &list,
         output,
         counts,
@@ -247,10 +287,16 @@ pub fn compare(rng: &mut Rng) -> Compared {
         lent.judge(number).to_string(),
         match (answer.length, list.text.len()) {
             (LIMIT, _) => "row of 65,535 bytes".into(),
+            (1_048_576, _) => "row of 1,048,576 bytes".into(),
             (_, LIMIT) => "text area of 65,535 bytes".into(),
             (_, 65_536) => "text area of 65,536 bytes".into(),
+            (_, 1_048_576) => "text area of 1,048,576 bytes".into(),
+            (_, 1_048_577) => "text area of 1,048,577 bytes".into(),
+            (65_537.., _) => "row above 65,536 bytes".into(),
             _ => "row and text area of other lengths".into(),
         },
+        format!("{of:?} row wanted"),
+        wide::list_sort(&list).into(),
     ];
     sorts.extend(chars_sorts(&schema, lent.shown(answer)));
     Compared {
@@ -262,16 +308,17 @@ pub fn compare(rng: &mut Rng) -> Compared {
 #[cfg(test)]
 mod tests {
     use super::Lent;
-    use cases::LIMIT;
     use cases::column::ColumnType;
     use cases::schema::write_schema;
     use cases::value::{DATES, Record, TIMES, TIMESTAMPS, TextRange, ValueList};
+    use cases::{LIMIT, RowSort};
 
     /// Number, place and length of a build in an output of this room, which the
     /// model and the Rust confirm.
     fn built(types: &[ColumnType], list: &ValueList, room: usize) -> (u32, usize, usize) {
         let lent = Lent {
             schema: &write_schema(types),
+            of: RowSort::Short,
             list,
             output: vec![0xAA; room],
             counts: vec![7; types.len()],

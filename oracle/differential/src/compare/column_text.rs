@@ -5,6 +5,7 @@ use super::rows::{self, Given, apart, apart_from_rust, chars_sorts, counted};
 use crate::chars;
 use crate::lent::{asked, told};
 use crate::{Compared, hex, port};
+use cases::RowSort;
 use cases::column::ColumnType;
 use cases::expected::{self, Refusal};
 use cases::generate::kinds::Kinds;
@@ -26,7 +27,7 @@ fn column(rng: &mut Rng, types: &[ColumnType]) -> usize {
 
 /// Where the text of the Rust's read stands and how long it is, or the refusal.
 fn wanted(schema: &[u8], row: &[u8], column: usize) -> Option<Result<(usize, usize), Refusal>> {
-    rows::by_rust(schema, |columns| {
+    rows::by_rust(schema, RowSort::of_row(row), |columns| {
         let range = expected::text(columns, row, column)?;
         Ok((range.start, range.length))
     })
@@ -63,10 +64,11 @@ pub fn compare(rng: &mut Rng) -> Compared {
     let number = port.answer.number;
     let difference = apart("model", &port, &model, input)
         .or_else(|| apart_from_rust(&part(port.answer), &rust, input));
-    let judge = rows::judge_of(&schema, number, |types| {
+    let of = RowSort::of_row(&row);
+    let judge = rows::judge_of(&schema, of, number, |types| {
         rust::read(types, &row, &[column as u16])
     });
-    let types = rows::columns(&schema).unwrap_or_default();
+    let types = rows::columns(&schema, of).unwrap_or_default();
     sorts.extend([
         match types.get(column) {
             Some(ColumnType::Varchar(_)) => "column Varchar".into(),

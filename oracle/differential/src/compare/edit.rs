@@ -4,22 +4,23 @@
 //! number, place, length and every lent byte. A history from a fresh row leaves
 //! what the builder makes of the last accepted values.
 
-use super::rows::{self, apart, apart_from_rust, chars_sorts, fitting, handed};
+use super::rows::{self, apart, apart_from_rust, chars_sorts, fitting, handed, model_sort};
 use crate::chars::{self, Shown};
 use crate::lent::{After, called, written};
 use crate::{Compared, hex, port};
 use cases::column::{ColumnType, RustColumns};
 use cases::expected::{self, Refusal};
-use cases::generate::history::history;
+use cases::generate::history::history_of;
 use cases::generate::kinds::Kinds;
 use cases::generate::made;
-use cases::generate::row::{any_row, sound_row};
+use cases::generate::row::sound_row_of;
 use cases::history::Call;
 use cases::rng::Rng;
 use cases::row::{is_sound, zero_null_slots};
 use cases::rust::{self, Outcome};
 use cases::schema::write_schema;
-use cases::value::{self, Record, ValueList, append};
+use cases::value::{self, Record, ValueList, append_up_to};
+use cases::{LIMIT, RowSort};
 use model::RowAnswer;
 use std::collections::BTreeMap;
 
@@ -70,9 +71,14 @@ impl Lent<'_> {
         self.buffer.get(..self.row_length)
     }
 
+    /// The sort of the row, short past its buffer.
+    fn of(&self) -> RowSort {
+        self.row().map_or(RowSort::Short, RowSort::of_row)
+    }
+
     /// The row of the Rust, or the refusal.
     fn told(&self) -> Option<Result<Vec<u8>, Refusal>> {
-        rows::by_rust(self.schema, |columns| {
+        rows::by_rust(self.schema, self.of(), |columns| {
             let row = self.row().ok_or(Refusal::Number(14, 0))?;
             let row = expected::edit(columns, row, self.call).map_err(Refusal::of)?;
             fitting(row, self.buffer)
@@ -101,7 +107,7 @@ impl Lent<'_> {
     /// of the number in 01's table, else 01 alone.
     fn judge(&self, number: u32) -> &'static str {
         rows::judged(match number {
-            0 => rows::is_known(self.schema),
+            0 => rows::is_known(self.schema, self.of()),
             9 | 11 => self.asked() == Some(Outcome::Internal),
             12 => self.asked() == Some(Outcome::TypeMismatch),
             _ => false,
@@ -119,7 +125,10 @@ impl Lent<'_> {
 
     /// What the Rust comes to, where it has this value.
     fn asked(&self) -> Option<Outcome<Vec<u8>>> {
-        let types = rows::columns(self.schema).ok()?;
+        if self.of() == RowSort::Long {
+            return None;
+        }
+        let types = rows::columns(self.schema, RowSort::Short).ok()?;
         let columns = RustColumns::of(&types)?;
         let row = self.row().filter(|row| is_sound(&columns, row))?;
         rust_edit(&columns, row, self.call)
@@ -144,34 +153,44 @@ pub fn rust_edit(columns: &RustColumns, row: &[u8], call: &Call) -> Option<Outco
     }
 }
 
-/// The last accepted values: of each column null, or a record with its text.
-struct Sheet(Vec<(Record, Vec<u8>)>);
+/// The last accepted values of a history on a row of this sort: of each column null, or
+/// a record with its text.
+struct Sheet {
+    of: RowSort,
+    entries: Vec<(Record, Vec<u8>)>,
+}
 
 impl Sheet {
-    fn of_nulls(columns: usize) -> Self {
-        Sheet(vec![(Record::Null, vec![]); columns])
+    fn of_nulls(columns: usize, of: RowSort) -> Self {
+        let entries = vec![(Record::Null, vec![]); columns];
+        Sheet { of, entries }
     }
 
     fn accept(&mut self, call: &Call) {
         match call {
-            Call::SetNull { column } => self.0[*column] = (Record::Null, vec![]),
+            Call::SetNull { column } => self.entries[*column] = (Record::Null, vec![]),
             Call::Set { column, values } => {
-                let record = values.records(1).expect("an accepted list")[0];
+                let record = values.records_of(1, self.of).expect("an accepted list")[0];
                 let range = record.range().and_then(|range| range.of(&values.text));
-                self.0[*column] = (record, range.unwrap_or_default().to_vec());
+                self.entries[*column] = (record, range.unwrap_or_default().to_vec());
             }
         }
     }
 
-    /// The entries as one list, the texts end to end.
+    /// The entries as one list, the texts end to end, in the kinds that a row of the sort
+    /// reads into, whatever the calls used.
     fn list(&self) -> ValueList {
         let mut text = Vec::new();
+        let limit = self.of.limit();
         let entry = |(record, bytes): &(Record, Vec<u8>)| match record.range() {
-            Some(_) => record.with_range(append(bytes, &mut text).expect("the texts of a row")),
+            Some(_) => {
+                let range = append_up_to(limit, bytes, &mut text);
+                record.with_range(range.expect("the texts of a row"))
+            }
             None => *record,
         };
-        let records: Vec<Record> = self.0.iter().map(entry).collect();
-        ValueList::of_records(&records, text)
+        let records: Vec<Record> = self.entries.iter().map(entry).collect();
+        ValueList::of_records_of(self.of, &records, text)
     }
 }
 
@@ -182,11 +201,14 @@ const SHORT: usize = 12;
 const LONG: usize = 400;
 
 /// A row to begin with, and its sort.
-fn any_start(rng: &mut Rng, types: &[ColumnType]) -> (&'static str, Vec<u8>) {
+fn any_start(rng: &mut Rng, types: &[ColumnType], of: RowSort) -> (&'static str, Vec<u8>) {
     match rng.below(16) {
-        0..=7 => (FRESH, made::fresh(types)),
-        8..=14 => ("from a sound row", sound_row(rng, types)),
-        _ => ("from any row", any_row(rng, types).1),
+        0..=7 => (FRESH, made::fresh_of(types, of)),
+        8..=14 => ("from a sound row", sound_row_of(rng, types, of)),
+        _ => {
+            let (_, row) = rows::any_row(rng, types, Kinds::All, of);
+            ("from any row", row)
+        }
     }
 }
 
@@ -210,9 +232,11 @@ fn false_length(rng: &mut Rng, length: usize, buffer: usize) -> Option<usize> {
     }
 }
 
-/// How many calls a history has: mostly a few, seldom hundreds.
-fn any_length(rng: &mut Rng) -> usize {
+/// How many calls a history has: mostly a few, seldom hundreds; few on a row that no
+/// short one is as long as.
+fn any_length(rng: &mut Rng, row: usize) -> usize {
     match rng.below(40) {
+        _ if row > LIMIT => rng.between(1, 6),
         0 => rng.between(SHORT + 1, LONG),
         _ => rng.between(1, SHORT),
     }
@@ -229,25 +253,28 @@ pub fn compare(rng: &mut Rng) -> Compared {
 
 /// A history of these calls, checked after each.
 pub fn compare_with(calls: &Calls, rng: &mut Rng) -> Compared {
-    let types = rows::any_types(rng, Kinds::All);
-    let (start, row) = any_start(rng, &types);
-    let (schema_sort, schema) = rows::any_schema_for(rng, &types, Kinds::All);
+    let of = Kinds::All.row_sort(rng);
+    let types = rows::any_types(rng, Kinds::All, of);
+    let (start, row) = any_start(rng, &types, of);
+    let (schema_sort, schema) = rows::any_schema_for(rng, &types, Kinds::All, of);
     let spare = any_spare(rng);
     let mut buffer = rng.bytes(row.len() + spare);
     buffer[..row.len()].copy_from_slice(&row);
     let mut length = row.len();
     // Whether the sheet tells what the calls leave.
     let told = start == FRESH && schema == write_schema(&types);
-    let mut sheet = Sheet::of_nulls(types.len());
+    let mut sheet = Sheet::of_nulls(types.len(), of);
     let mut sorts = BTreeMap::from([(schema_sort, 1), (format!("history {start}"), 1)]);
     let mut count = |sort: String| *sorts.entry(sort).or_default() += 1;
     chars_sorts(&schema, None).for_each(&mut count);
-    let calls_made = any_length(rng);
+    rows::long_sort(&row).into_iter().for_each(&mut count);
+    let calls_made = any_length(rng, row.len());
     let long = calls_made > SHORT;
     if long {
         count(format!("history of {} to {LONG} calls", SHORT + 1));
     }
-    for call in &history(rng, &types, calls_made) {
+    let history = history_of(rng, &types, of, calls_made);
+    for call in &Kinds::All.calls(rng, history) {
         let stated = false_length(rng, length, row.len() + spare);
         let lent = Lent {
             schema: &schema,
@@ -286,22 +313,30 @@ pub fn compare_with(calls: &Calls, rng: &mut Rng) -> Compared {
     let mut difference = None;
     if told {
         count("what a history leaves".into());
+        if of == RowSort::Long {
+            count("what a history of a long row leaves".into());
+        }
         let mut left = buffer[..length].to_vec();
         zero_null_slots(&types, &mut left);
         let list = sheet.list();
         let input = || format!("schema {}, last accepted {list:?}", hex(&schema));
         let columns = RustColumns::of(&types);
-        let by_rust = columns.map(|columns| expected::build(&columns, &list));
+        let by_rust = columns
+            .filter(|_| of == RowSort::Short)
+            .map(|columns| expected::build(&columns, &list));
         difference = apart_from_rust(&Ok(left.clone()), &by_rust, input);
         let model = written(&vec![0; length], |out| {
-            model::build(&schema, &list.bytes, &list.text, out, &mut [0; 256])
+            let (list, text) = (&list.bytes, &list.text);
+            model::build(&schema, model_sort(of), list, text, out, &mut [0; 256])
         });
         let left = Ok(left);
         difference = difference.or_else(|| apart("model", &left, &handed(&model), input));
         let built = called(
             &vec![0; length],
             [&schema, &list.bytes, &list.text],
-            |[schema, list, text], out| port::build(schema, list, text, out, &mut [0; 256]),
+            |[schema, list, text], out| {
+                port::build(schema, model_sort(of), list, text, out, &mut [0; 256])
+            },
         );
         difference = difference.or_else(|| apart("port", &left, &handed(&built), input));
     }

@@ -1,13 +1,15 @@
-//! Schemas: the refusals, and the counts, sizes and places of a good one. The
-//! model judges, and `RowLayout`.
+//! Schemas of short rows: the refusals, and the counts, sizes and places of a good one.
+//! The model judges, and `RowLayout`.
 
 use super::rows::{any_bytes, apart, apart_from_rust, chars_sorts, counted};
 use crate::probe::{self, LayoutProbe};
 use crate::{Compared, hex, lent};
+use cases::RowSort;
 use cases::column::{ColumnType, to_rust_types};
 use cases::generate::kinds::Kinds;
 use cases::rng::Rng;
 use cases::schema::{read_schema, write_schema};
+use model::Sort;
 use model::layout::Place;
 use rookdb::types::row_layout::{PhysicalSchema, RowLayout};
 
@@ -52,12 +54,12 @@ pub fn rust(types: &[ColumnType]) -> Option<Told> {
 }
 
 fn model(schema: &[u8]) -> Told {
-    let types = match model::schema::check(schema) {
+    let types = match model::schema::check(schema, Sort::Short) {
         Ok(types) => types,
         Err((number, place)) => return refused(number, place),
     };
-    let packed = model::layout::Layout::packed(&types);
-    let padded = model::layout::Layout::padded(&types);
+    let packed = model::layout::Layout::packed(&types, Sort::Short);
+    let padded = model::layout::Layout::padded(&types, Sort::Short);
     let probe = LayoutProbe {
         number: 0,
         place: 0,
@@ -97,7 +99,7 @@ fn port_places(types: &[ColumnType]) -> Vec<(usize, usize)> {
 }
 
 pub fn compare(rng: &mut Rng) -> Compared {
-    let (sort, schema) = any_bytes(rng, Kinds::All);
+    let (sort, schema) = any_bytes(rng, Kinds::All, RowSort::Short);
     let input = || format!("schema {}", hex(&schema));
     let mut port = Told {
         probe: probed(&schema),

@@ -14,6 +14,7 @@ pub mod rows;
 pub mod same_content;
 pub mod text;
 pub mod value;
+pub mod wide;
 
 pub const ALL: [Comparison; 13] = [
     ("text", text::compare),

@@ -2,11 +2,12 @@
 //! the whole text, or the refusal. The model judges number, place, length and every
 //! lent byte.
 
-use super::rows::{self, apart, counted, fitting, handed};
+use super::rows::{self, apart, apart_from_rust, counted, fitting, handed};
 use crate::lent::{After, any_output, called, written};
 use crate::{Compared, hex, port};
+use cases::RowSort;
 use cases::expected::Refusal;
-use cases::generate::row_list::any_list;
+use cases::generate::kinds::Kinds;
 use cases::printed::printed;
 use cases::rng::Rng;
 use model::RowAnswer;
@@ -22,22 +23,45 @@ fn told(list: &[u8], output: &[u8]) -> Result<Vec<u8>, Refusal> {
     fitting(printed(list)?.into_bytes(), output)
 }
 
+/// Whether a row of the list is long; the Rust tells nothing of such a list but that it
+/// is no list of rows.
+fn has_long_rows(list: &[u8]) -> bool {
+    let mut rest = list;
+    while let Some((length, behind)) = rest.split_first_chunk()
+        && let Some((row, behind)) = behind.split_at_checked(u16::from_le_bytes(*length).into())
+    {
+        if RowSort::of_row(row) == RowSort::Long {
+            return true;
+        }
+        rest = behind;
+    }
+    false
+}
+
 pub fn compare(rng: &mut Rng) -> Compared {
-    let (sort, list) = any_list(rng);
-    let needed = printed(&list).map_or(0, |text| text.len());
+    let (sort, list) = Kinds::All.row_list(rng);
+    let long = has_long_rows(&list);
+    let needed = model::print::lines(&list).map_or(0, |text| text.len());
     let (room, output) = any_output(rng, needed);
     let input = || format!("list {}, {} bytes of output", hex(&list), output.len());
     let port = by_port(&list, &output);
     let model = written(&output, |out| model::occupations_print(&list, out));
-    let difference = apart("model", &port, &model, input)
-        .or_else(|| apart("Rust", &handed(&port), &told(&list, &output), input));
+    let difference = apart("model", &port, &model, input).or_else(|| {
+        let rust = told(&list, &output);
+        let judges = !long || rust == Err(Refusal::Number(16, 0));
+        apart_from_rust(&handed(&port), &judges.then_some(rust), input)
+    });
     let number = port.answer.number;
     Compared {
         sorts: counted(vec![
             format!("list {sort:?}"),
             format!("output {room:?}"),
             format!("answer {number}"),
-            rows::judged(number != 14).into(),
+            rows::judged(number != 14 && (!long || number == 16)).into(),
+            match long {
+                true => "list with long rows".into(),
+                false => "list of short rows".into(),
+            },
         ]),
         difference,
     }

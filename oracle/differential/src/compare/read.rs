@@ -7,9 +7,9 @@ use super::rows::{counted_in, fitting, handed_counts};
 use crate::chars::{self, Shown};
 use crate::lent::{After, Room, any_counts, any_output, called_with, numbers, written_with};
 use crate::{Compared, hex, port};
+use cases::RowSort;
 use cases::expected::{self, Refusal};
 use cases::generate::kinds::Kinds;
-use cases::generate::row::any_row;
 use cases::generate::schema::any_type;
 use cases::generate::wanted::{any_wanted, subsets};
 use cases::rng::Rng;
@@ -36,8 +36,9 @@ fn output_for(rng: &mut Rng, schema: &[u8], row: &[u8], wanted: &[u16]) -> (Room
 }
 
 /// A list of counts, and whether it has a number for each column of the schema.
-fn counts_for(rng: &mut Rng, schema: &[u8]) -> (Room, Vec<u32>) {
-    let columns = rows::columns(schema).map_or(3, |types| types.len());
+fn counts_for(rng: &mut Rng, schema: &[u8], row: &[u8]) -> (Room, Vec<u32>) {
+    let types = rows::columns(schema, RowSort::of_row(row));
+    let columns = types.map_or(3, |types| types.len());
     any_counts(rng, columns)
 }
 
@@ -60,7 +61,7 @@ impl Lent<'_> {
     /// The value list of what the Rust reads and the counts of its texts, or the
     /// refusal.
     fn told(&self) -> Option<Result<Counted, Refusal>> {
-        rows::by_rust(self.schema, |columns| {
+        rows::by_rust(self.schema, RowSort::of_row(self.row), |columns| {
             let values = expected::read(columns, self.row, self.wanted)?;
             let list = fitting(expected::list(columns, self.row, &values), &self.output)?;
             let points = expected::points(columns, self.row, &values);
@@ -91,7 +92,7 @@ impl Lent<'_> {
     }
 
     fn judge(&self, number: u32) -> &'static str {
-        rows::judge_of(self.schema, number, |types| {
+        rows::judge_of(self.schema, RowSort::of_row(self.row), number, |types| {
             rust::read(types, self.row, self.wanted)
         })
     }
@@ -113,7 +114,7 @@ pub fn compare(rng: &mut Rng) -> Compared {
     } = rows::any_given(rng, Kinds::All);
     let (wanted_sort, wanted) = any_wanted(rng, types.len());
     let (room, output) = output_for(rng, &schema, &row, &wanted);
-    let (numbers, counts) = counts_for(rng, &schema);
+    let (numbers, counts) = counts_for(rng, &schema, &row);
     let lent = Lent {
         schema: &schema,
         row: &row,
@@ -140,9 +141,10 @@ pub fn compare(rng: &mut Rng) -> Compared {
 /// The reads of every subset of the columns of a row, five columns at most.
 pub fn every_subset(rng: &mut Rng) -> Compared {
     let columns = rng.pick(&[0, 1, 2, 2, 3, 3, 4, 4, 5]);
+    let of = Kinds::All.row_sort(rng);
     let types = (0..columns).map(|_| any_type(rng, 40)).collect();
     let types = Kinds::All.types(rng, types);
-    let (sort, row) = any_row(rng, &types);
+    let (sort, row) = rows::any_row(rng, &types, Kinds::All, of);
     let schema = write_schema(&types);
     let mut sorts = vec![
         (format!("row {sort:?}"), 1),
@@ -150,6 +152,7 @@ pub fn every_subset(rng: &mut Rng) -> Compared {
         ("subsets read".into(), 1 << columns),
     ];
     sorts.extend(counted(chars_sorts(&schema, None).collect()));
+    sorts.extend(counted(rows::long_sort(&row).into_iter().collect()));
     let mut difference = None;
     for wanted in subsets(columns) {
         let (_, output) = output_for(rng, &schema, &row, &wanted);

@@ -6,12 +6,16 @@ use crate::lent::After;
 use cases::column::{ColumnType, RustColumns, to_rust_types};
 use cases::expected::Refusal;
 use cases::generate::kinds::Kinds;
-use cases::generate::row::any_row;
-use cases::generate::schema::{self, any_schema, any_type};
+use cases::generate::row;
+use cases::generate::row::any_row_of;
+use cases::generate::schema::{self, any_schema_of, any_type};
+use cases::layout::Layout;
 use cases::rng::Rng;
+use cases::row_sort::LONG;
 use cases::rust::Outcome;
-use cases::schema::{read_schema, write_schema};
-use model::RowAnswer;
+use cases::schema::{read_schema_of, write_schema};
+use cases::{LIMIT, RowSort};
+use model::{RowAnswer, Sort};
 use rookdb::types::datatype::DataType;
 
 /// A schema and a row.
@@ -23,46 +27,95 @@ pub struct Given {
     pub row: Vec<u8>,
 }
 
-/// Columns of a good schema: often a few with short slots, so that little hides a
-/// fault and much is run.
-pub fn any_types(rng: &mut Rng, kinds: Kinds) -> Vec<ColumnType> {
+/// Columns of a good schema for rows of a sort: often a few with short slots, so that
+/// little hides a fault and much is run.
+pub fn any_types(rng: &mut Rng, kinds: Kinds, of: RowSort) -> Vec<ColumnType> {
     let columns = match rng.below(64) {
         0 => rng.pick(&[0, 100, 255, 256, 256]),
         1..=7 => {
             let types = schema::any_types(rng);
-            return kinds.types(rng, types);
+            return kinds.types_of(rng, types, of);
         }
         8..=40 => rng.between(1, 3),
         _ => rng.between(2, 12),
     };
     let types = (0..columns).map(|_| any_type(rng, 40)).collect();
-    kinds.types(rng, types)
+    kinds.types_of(rng, types, of)
+}
+
+/// A row of any sort; where there are long ones, now and then with the mark changed, or,
+/// of columns that no short row has room for, too short to have one.
+pub fn any_row(
+    rng: &mut Rng,
+    types: &[ColumnType],
+    kinds: Kinds,
+    of: RowSort,
+) -> (row::Sort, Vec<u8>) {
+    let (sort, mut row) = any_row_of(rng, types, of);
+    if kinds == Kinds::All && rng.one_in(24) && row.len() >= 4 {
+        row[3] ^= (LONG >> 8) as u8;
+    }
+    if of == RowSort::Long && rng.one_in(6) && Layout::padded(types).minimum > LIMIT {
+        row.truncate(rng.between(2, 3));
+        row.push(0xC0);
+        row.truncate(3);
+    }
+    (sort, row)
 }
 
 pub fn any_given(rng: &mut Rng, kinds: Kinds) -> Given {
-    let types = any_types(rng, kinds);
-    let (sort, row) = any_row(rng, &types);
-    let (schema_sort, schema) = any_schema_for(rng, &types, kinds);
+    let of = kinds.row_sort(rng);
+    let types = any_types(rng, kinds, of);
+    let (sort, row) = any_row(rng, &types, kinds, of);
+    let (schema_sort, schema) = any_schema_for(rng, &types, kinds, of);
+    let mut sorts = vec![schema_sort, format!("row {sort:?}")];
+    sorts.extend(long_sort(&row));
     Given {
-        sorts: vec![schema_sort, format!("row {sort:?}")],
+        sorts,
         schema,
         types,
         row,
     }
 }
 
-/// Schema bytes, good or not.
-pub fn any_bytes(rng: &mut Rng, kinds: Kinds) -> (schema::Sort, Vec<u8>) {
-    let (sort, schema) = any_schema(rng);
+/// What is told of a long row's length.
+pub fn long_sort(row: &[u8]) -> Option<String> {
+    (RowSort::of_row(row) == RowSort::Long).then(|| {
+        let length = match row.len() {
+            0..=65_535 => "up to 65,535 bytes",
+            65_536..=1_048_575 => "up to 1,048,575 bytes",
+            1_048_576 => "1,048,576 bytes",
+            _ => "above 1,048,576 bytes",
+        };
+        format!("long row of {length}")
+    })
+}
+
+/// The model's sort for one.
+pub fn model_sort(of: RowSort) -> Sort {
+    match of {
+        RowSort::Short => Sort::Short,
+        RowSort::Long => Sort::Long,
+    }
+}
+
+/// Schema bytes for rows of a sort, good or not.
+pub fn any_bytes(rng: &mut Rng, kinds: Kinds, of: RowSort) -> (schema::Sort, Vec<u8>) {
+    let (sort, schema) = any_schema_of(rng, of);
     (sort, kinds.schema(rng, schema).bytes)
 }
 
 /// The schema of these columns; seldom one that differs by a column, or any. Where
 /// Varchars count characters, now and then one that counts otherwise.
-pub fn any_schema_for(rng: &mut Rng, types: &[ColumnType], kinds: Kinds) -> (String, Vec<u8>) {
+pub fn any_schema_for(
+    rng: &mut Rng,
+    types: &[ColumnType],
+    kinds: Kinds,
+    of: RowSort,
+) -> (String, Vec<u8>) {
     match rng.below(32) {
         0 => {
-            let (sort, schema) = any_bytes(rng, kinds);
+            let (sort, schema) = any_bytes(rng, kinds, of);
             (format!("schema {sort:?}"), schema)
         }
         1 => (
@@ -129,23 +182,35 @@ fn other_schema(rng: &mut Rng, types: &[ColumnType]) -> Vec<u8> {
     write_schema(&types)
 }
 
-/// The columns of a schema, or the refusal that was added.
-pub fn columns(schema: &[u8]) -> Result<Vec<ColumnType>, Refusal> {
-    read_schema(schema).map_err(|refusal| Refusal::Number(refusal.number, refusal.place))
+/// The columns of a schema for rows of a sort, or the refusal that was added.
+pub fn columns(schema: &[u8], of: RowSort) -> Result<Vec<ColumnType>, Refusal> {
+    let types = read_schema_of(schema, of);
+    types.map_err(|refusal| Refusal::Number(refusal.number, refusal.place))
 }
 
-/// Whether the Rust knows the columns of a schema, one that is not refused.
-pub fn is_known(schema: &[u8]) -> bool {
-    columns(schema).is_ok_and(|types| to_rust_types(&types).is_some())
+/// The columns of a schema, of short rows, if the Rust knows them.
+fn known(schema: &[u8], of: RowSort) -> Option<Vec<DataType>> {
+    match of {
+        RowSort::Short => to_rust_types(&columns(schema, of).ok()?),
+        RowSort::Long => None,
+    }
+}
+
+/// Whether the Rust knows such rows of a schema, one that is not refused.
+pub fn is_known(schema: &[u8], of: RowSort) -> bool {
+    known(schema, of).is_some()
 }
 
 /// What the Rust tells of a schema's columns, or the refusal of the schema; `None`
-/// if the Rust does not know one of the columns: then the model judges alone.
+/// if the Rust does not know one of the columns, or the sort of the rows: then the
+/// model judges alone.
 pub fn by_rust<T>(
     schema: &[u8],
+    of: RowSort,
     tell: impl FnOnce(&RustColumns) -> Result<T, Refusal>,
 ) -> Option<Result<T, Refusal>> {
-    match columns(schema) {
+    match columns(schema, of) {
+        Ok(_) if of == RowSort::Long => None,
         Ok(types) => Some(tell(&RustColumns::of(&types)?)),
         Err(refusal) => Some(Err(refusal)),
     }
@@ -170,13 +235,15 @@ pub fn judge<T>(number: u32, rust: impl FnOnce() -> Outcome<T>) -> &'static str 
     })
 }
 
-/// Who judges what is told of rows of a schema, whose columns the Rust must know.
+/// Who judges what is told of rows of a schema, whose columns and sort the Rust must
+/// know.
 pub fn judge_of<T>(
     schema: &[u8],
+    of: RowSort,
     number: u32,
     rust: impl FnOnce(&[DataType]) -> Outcome<T>,
 ) -> &'static str {
-    match to_rust_types(&columns(schema).unwrap_or_default()) {
+    match known(schema, of) {
         Some(types) => judge(number, || rust(&types)),
         None => judged(false),
     }
@@ -249,6 +316,7 @@ pub fn apart_from_rust<P: PartialEq + std::fmt::Debug>(
 #[cfg(test)]
 mod tests {
     use super::{apart_from_rust, by_rust, is_known};
+    use cases::RowSort::{self, Long, Short};
     use cases::expected::Refusal;
 
     #[test]
@@ -261,19 +329,33 @@ mod tests {
 
     #[test]
     fn a_refused_schema_is_told() {
-        let told = by_rust(&[2, 17], |columns| Ok(columns.types.len()));
+        let told = by_rust(&[2, 17], Short, |columns| Ok(columns.types.len()));
         assert_eq!(told, Some(Err(Refusal::Number(1, 1))));
-        let told = by_rust(&[2, 8], |columns| Ok(columns.rust.len()));
+        let told = by_rust(&[2, 8], Short, |columns| Ok(columns.rust.len()));
         assert_eq!(told, Some(Ok(2)));
-        assert!(is_known(&[2, 8]) && !is_known(&[2, 17]));
+        assert!(is_known(&[2, 8], Short) && !is_known(&[2, 17], Short));
     }
 
     #[test]
     fn of_kind_16_the_rust_tells_nothing() {
-        let told = by_rust(&[2, 16, 9, 0], |columns| Ok(columns.types.len()));
+        let told = by_rust(&[2, 16, 9, 0], Short, |columns| Ok(columns.types.len()));
         assert_eq!(told, None);
-        assert!(!is_known(&[2, 16, 9, 0]));
-        let told = by_rust(&[2, 16, 9], |columns| Ok(columns.types.len()));
+        assert!(!is_known(&[2, 16, 9, 0], Short));
+        let told = by_rust(&[2, 16, 9], Short, |columns| Ok(columns.types.len()));
         assert_eq!(told, Some(Err(Refusal::Number(1, 1))));
+    }
+
+    #[test]
+    fn of_long_rows_the_rust_tells_nothing() {
+        let told = by_rust(&[2, 8], Long, |columns| Ok(columns.types.len()));
+        assert_eq!(told, None);
+        assert!(!is_known(&[2, 8], Long));
+        // Of their schemas all is told but what is too much for a short row.
+        let told = by_rust(&[2, 17], Long, |columns| Ok(columns.types.len()));
+        assert_eq!(told, Some(Err(Refusal::Number(1, 1))));
+        let wide = [9, 0xFF, 0xFF];
+        let of = |of: RowSort| by_rust(&wide, of, |columns| Ok(columns.types.len()));
+        assert_eq!(of(Short), Some(Err(Refusal::Number(2, 3))));
+        assert_eq!(of(Long), None);
     }
 }

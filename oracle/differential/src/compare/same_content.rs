@@ -5,21 +5,27 @@ use super::rows::{self, apart, apart_from_rust, chars_sorts, counted};
 use crate::chars;
 use crate::lent::{asked, told};
 use crate::{Compared, hex, port};
+use cases::RowSort;
 use cases::expected::{self, Refusal};
 use cases::generate::kinds::Kinds;
-use cases::generate::pair::any_pair;
 use cases::rng::Rng;
 use cases::rust::{self, Outcome};
 
-/// What the Rust's reads come to.
+/// What the Rust's reads come to, of short rows.
 fn wanted(schema: &[u8], a: &[u8], b: &[u8]) -> Option<Result<bool, Refusal>> {
-    rows::by_rust(schema, |columns| expected::same_content(columns, a, b))
+    match [a, b].map(RowSort::of_row) {
+        [of, RowSort::Short] => {
+            rows::by_rust(schema, of, |columns| expected::same_content(columns, a, b))
+        }
+        _ => None,
+    }
 }
 
 pub fn compare(rng: &mut Rng) -> Compared {
-    let types = rows::any_types(rng, Kinds::All);
-    let (pair_sort, (a, b)) = any_pair(rng, &types);
-    let (schema_sort, schema) = rows::any_schema_for(rng, &types, Kinds::All);
+    let of = Kinds::All.row_sort(rng);
+    let types = rows::any_types(rng, Kinds::All, of);
+    let (pair_sort, (a, b)) = Kinds::All.pair(rng, &types, of);
+    let (schema_sort, schema) = rows::any_schema_for(rng, &types, Kinds::All, of);
     let input = || format!("schema {}, a {}, b {}", hex(&schema), hex(&a), hex(&b));
     let port = asked([&schema, &a, &b], |[schema, a, b]| {
         port::same_content(schema, a, b)
@@ -33,7 +39,9 @@ pub fn compare(rng: &mut Rng) -> Compared {
     let difference = apart("model", &port, &model, input)
         .or_else(|| apart_from_rust(&flag, &wanted(&schema, &a, &b), input));
     // The read that refuses is that of the first row, else of the second.
-    let judge = rows::judge_of(&schema, answer.number, |types| {
+    let sorts = [&a, &b].map(|row| RowSort::of_row(row));
+    let both = sorts.into_iter().max().expect("two rows");
+    let judge = rows::judge_of(&schema, both, answer.number, |types| {
         match rust::read_all(types, &a) {
             Outcome::Ok(_) => rust::read_all(types, &b),
             refused => refused,
@@ -48,6 +56,7 @@ pub fn compare(rng: &mut Rng) -> Compared {
             number => format!("answer {number}"),
         },
         judge.to_string(),
+        format!("{:?} and {:?} row", sorts[0], sorts[1]),
     ];
     let shown = |row: &[u8]| {
         let answer = (answer.number, answer.place);

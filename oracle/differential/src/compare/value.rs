@@ -17,6 +17,7 @@ use cases::rng::Rng;
 use cases::rust::{self, Outcome};
 use cases::schema::{read_records, write_schema};
 use cases::value::{Record, TextRange, ValueList, body_length, in_domain, is_value, to_rust};
+use model::Sort;
 use model::schema::Type;
 use rookdb::types::datatype::DataType;
 use rookdb::types::value::DataValue;
@@ -252,8 +253,8 @@ pub fn any_list(rng: &mut Rng, ty: &ColumnType) -> (StoreSort, ValueList) {
 
 /// What 01 says of a list's one value: its stored form, or 10, 11 or 12.
 fn model_form(ty: &ColumnType, list: &ValueList) -> Handed {
-    let values =
-        model::value::check_list(&list.bytes, 1, list.text.len()).map_err(|_place| 10_u32)?;
+    let values = model::value::check_list(&list.bytes, 1, list.text.len(), Sort::Short)
+        .map_err(|_place| 10_u32)?;
     let ty = model_type(ty);
     if !values[0].matches(ty) {
         return Err(11);
@@ -299,6 +300,7 @@ fn room(rng: &mut Rng, length: usize) -> usize {
 pub fn store(rng: &mut Rng) -> Compared {
     let ty = any_column(rng, Kinds::All);
     let (mut sort, list) = any_list(rng, &ty);
+    let list = Kinds::All.values(rng, list);
     let mut schema = write_schema(std::slice::from_ref(&ty));
     if rng.one_in(32) {
         sort = StoreSort::BadSchema;
@@ -424,7 +426,7 @@ pub fn any_slot(rng: &mut Rng, ty: &ColumnType) -> (SlotSort, Vec<u8>) {
 /// What 01 says of bytes at a place: the value's record, or the refusal.
 fn model_record(ty: &ColumnType, bytes: &[u8], start: usize) -> Handed {
     let value = model::stored::read(model_type(ty), bytes, start);
-    value.map(|value| value.record()).ok_or(8)
+    value.map(|value| value.record(Sort::Short)).ok_or(8)
 }
 
 /// What the Rust says of them; `None` where it reads a date that 01 does not, and

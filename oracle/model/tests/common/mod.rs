@@ -3,7 +3,10 @@
 
 use model::schema::Type;
 use model::value::{self, Range, Value};
-use model::{FlagAnswer, RowAnswer, TextAnswer};
+use model::{FlagAnswer, RowAnswer, Sort, TextAnswer};
+
+/// The limit of short rows.
+pub const LIMIT: usize = 65_535;
 
 /// Bytes written in hexadecimal, blanks between them as you like.
 pub fn hex(digits: &str) -> Vec<u8> {
@@ -126,18 +129,32 @@ pub fn with_counts(
 pub const NUMBERS: usize = 256;
 
 pub fn fresh(schema: &[u8], room: usize) -> (RowAnswer, Vec<u8>) {
-    with_output(room, |out| model::fresh(schema, out))
+    fresh_of(Sort::Short, schema, room)
+}
+
+pub fn fresh_of(sort: Sort, schema: &[u8], room: usize) -> (RowAnswer, Vec<u8>) {
+    with_output(room, |out| model::fresh(schema, sort, out))
 }
 
 pub fn build_in(schema: &[u8], list: &[u8], text: &[u8], room: usize) -> (RowAnswer, Vec<u8>) {
+    build_of(Sort::Short, schema, list, text, room)
+}
+
+pub fn build_of(
+    sort: Sort,
+    schema: &[u8],
+    list: &[u8],
+    text: &[u8],
+    room: usize,
+) -> (RowAnswer, Vec<u8>) {
     let (answer, row, _) = with_counts(room, NUMBERS, |out, counts| {
-        model::build(schema, list, text, out, counts)
+        model::build(schema, sort, list, text, out, counts)
     });
     (answer, row)
 }
 
 pub fn build(schema: &[u8], values: &[Value], text: &[u8]) -> (RowAnswer, Vec<u8>) {
-    build_in(schema, &value::list(values), text, ROOM)
+    build_in(schema, &value::list(values, Sort::Short), text, ROOM)
 }
 
 /// A row that the build must give.
@@ -162,8 +179,11 @@ pub fn read_all(schema: &[u8], row: &[u8]) -> Result<Vec<Value>, (u32, usize)> {
         assert_eq!(answer.length, 0);
         return Err((answer.number, answer.place));
     }
-    let columns = model::schema::check(schema).expect("a good schema").len();
-    Ok(value::check_list(&list, columns, row.len()).expect("a value list"))
+    let sort = Sort::of_row(row);
+    let columns = model::schema::check(schema, sort)
+        .expect("a good schema")
+        .len();
+    Ok(value::check_list(&list, columns, row.len(), sort).expect("a value list"))
 }
 
 /// An edit of a row in a buffer of this room. The bytes past the row that it
@@ -206,7 +226,8 @@ pub fn set(
     value: Value,
     text: &[u8],
 ) -> (RowAnswer, Vec<u8>) {
-    set_in(schema, row, ROOM, column, &value.record(), text)
+    let list = value.record(Sort::of_row(row));
+    set_in(schema, row, ROOM, column, &list, text)
 }
 
 pub fn set_null(schema: &[u8], row: &[u8], column: usize) -> (RowAnswer, Vec<u8>) {
