@@ -7,20 +7,20 @@ use borrow.Author.Tests.{eq-eqb, ne_eqb}
 use lib.ListN.{length, get_or}
 use Rattle.error.specs.declared.Refusal.{Refusal}
 use Rattle.error.specs.declared.Refusal.TheVariants.{BadValueList}
-use Rattle.error.specs.Answer.{unchanged, unchangedBoth}
-use Rattle.error.specs.Result.{Result, ok, refused, onResult}
-use Rattle.row_format.specs.Header.{sortIn}
+use Rattle.error.specs.Answer.{unchanged, unchanged_both}
+use Rattle.error.specs.Result.{Result, ok, refused, on_result}
+use Rattle.row_format.specs.Header.{sort_in}
 use Rattle.datatype.specs.declared.DataType.{DataType}
-use Rattle.datatype.specs.Schema.{Parsed, schemaOf}
+use Rattle.datatype.specs.Schema.{Parsed, schema_of}
 use Rattle.datatype.specs.Check.{type_at}
 use Rattle.value.specs.declared.DataValue.{DataValue}
 use Rattle.value.specs.declared.DataValue.TheVariants.{Null}
 use Rattle.value_list.specs.Lists.{Values, judged, checked}
 use Rattle.value_list.specs.Forms.{ListOf}
-use Rattle.value_list.proofs.Lists.{list_read}
-use Rattle.stored_form.specs.Stored.{storedIn}
+use Rattle.value_list.proofs.Lists.{list_read_lem}
+use Rattle.stored_form.specs.Stored.{stored_in}
 use Rattle.row_column.proofs.Framing.{same_good}
-use Rattle.row_build.specs.Build.{buildValues, buildRow, buildCall}
+use Rattle.row_build.specs.Build.{build_values, build_row, build_call}
 use Rattle.row_edit.specs.Edit.{opening, written}
 use Rattle.all_calls.specs.EitherForm.{EitherForm}
 
@@ -28,7 +28,7 @@ use Rattle.all_calls.specs.EitherForm.{EitherForm}
 
 module _ {vs : List DataValue} {list : List ℕ} (l : ListOf vs list) (k : Bool) (n area : ℕ) where
   checked-is : checked k n area list ≡ judged k n area (length list) (ok vs)
-  checked-is = ap (judged k n area (length list)) (list_read l)
+  checked-is = ap (judged k n area (length list)) (list_read_lem l)
 
   miscounted-is : (length vs ≡ n → ⊥) → checked k n area list ≡ refused (BadValueList (length list))
   miscounted-is h = checked-is ∙ rw (ne_eqb (length vs) n h)
@@ -44,48 +44,48 @@ checked-same {vs} l l' k n area h =
 
 -- a call that goes on behind a result in two ways that are the same
 same-result : {A B : Type 0} (q : Result A) (bad : Refusal → B) {f g : A → B} → ((x : A) → q ≡ ok x → f x ≡ g x)
-    → onResult q bad f ≡ onResult q bad g
+    → on_result q bad f ≡ on_result q bad g
 same-result (ok x) bad h = h x refl
 same-result (refused e) bad h = refl
 
 module _ (sort : Bool) (schema area out counts : List ℕ) where
   row_of : (ts : List DataType) (list : List ℕ) (q : Values) → checked sort (length ts) (length area) list ≡ q
-      → buildRow sort ts list area out counts
-      ≡ onResult q (unchangedBoth out counts) (λ vs. buildValues sort ts vs area out counts)
-  row_of ts list q e = ap (λ (p : Values). onResult p (unchangedBoth out counts) (λ vs. buildValues sort ts vs area out counts)) e
+      → build_row sort ts list area out counts
+      ≡ on_result q (unchanged_both out counts) (λ vs. build_values sort ts vs area out counts)
+  row_of ts list q e = ap (λ (p : Values). on_result p (unchanged_both out counts) (λ vs. build_values sort ts vs area out counts)) e
 
   build-same : {vs : List DataValue} {list list' : List ℕ} → ListOf vs list → ListOf vs list'
-      → ((ts : List DataType) → schemaOf sort schema ≡ ok ts → length vs ≡ length ts)
-      → buildCall sort schema list area out counts ≡ buildCall sort schema list' area out counts
+      → ((ts : List DataType) → schema_of sort schema ≡ ok ts → length vs ≡ length ts)
+      → build_call sort schema list area out counts ≡ build_call sort schema list' area out counts
   build-same {list = list} {list' = list'} l l' h =
-      same-result (schemaOf sort schema) (unchangedBoth out counts)
+      same-result (schema_of sort schema) (unchanged_both out counts)
       (λ ts e. row_of ts list (checked sort (length ts) (length area) list') (checked-same l l' sort (length ts) (length area) (h ts e)))
 
   build-miscounted : {vs : List DataValue} {list : List ℕ} → ListOf vs list → (ts : List DataType)
-      → schemaOf sort schema ≡ ok ts → (length vs ≡ length ts → ⊥)
-      → buildCall sort schema list area out counts ≡ unchangedBoth out counts (BadValueList (length list))
+      → schema_of sort schema ≡ ok ts → (length vs ≡ length ts → ⊥)
+      → build_call sort schema list area out counts ≡ unchanged_both out counts (BadValueList (length list))
   build-miscounted {list = list} l ts e h =
-      ap (λ (p : Parsed). onResult p (unchangedBoth out counts) (λ us. buildRow sort us list area out counts)) e
+      ap (λ (p : Parsed). on_result p (unchanged_both out counts) (λ us. build_row sort us list area out counts)) e
       ∙ row_of ts list (refused (BadValueList (length list))) (miscounted-is l sort (length ts) (length area) h)
 
 module _ (schema buf : List ℕ) (n i : ℕ) (area : List ℕ) where
   abbrev k : Bool
-  k = sortIn buf n
+  k = sort_in buf n
 
   given-same : {vs : List DataValue} {list list' : List ℕ} → ListOf vs list → ListOf vs list' → length vs ≡ 1
-      → (t : DataType) → onResult (checked k 1 (length area) list) refused (λ us. storedIn i t (get_or us 0 Null) area)
-      ≡ onResult (checked k 1 (length area) list') refused (λ us. storedIn i t (get_or us 0 Null) area)
+      → (t : DataType) → on_result (checked k 1 (length area) list) refused (λ us. stored_in i t (get_or us 0 Null) area)
+      ≡ on_result (checked k 1 (length area) list') refused (λ us. stored_in i t (get_or us 0 Null) area)
   given-same l l' h t =
-      ap (λ (q : Values). onResult q refused (λ us. storedIn i t (get_or us 0 Null) area))
+      ap (λ (q : Values). on_result q refused (λ us. stored_in i t (get_or us 0 Null) area))
       (checked-same l l' k 1 (length area) h)
 
-pub either-form : {vs : List DataValue} {list list' : List ℕ} (l : ListOf vs list) (l' : ListOf vs list') → EitherForm l l'
-either-form l l' =
+pub either_form : {vs : List DataValue} {list list' : List ℕ} (l : ListOf vs list) (l' : ListOf vs list') → EitherForm l l'
+either_form l l' =
     record {
       build = λ sort schema area out counts h. build-same sort schema area out counts l l' h;
       miscounted = λ sort schema area out counts ts e h. build-miscounted sort schema area out counts l ts e h;
       set = λ schema buf n i area h.
-          same-result (schemaOf (sortIn buf n) schema) (unchanged buf)
-          (λ ts e. same_good (opening (sortIn buf n) ts buf n i) (unchanged buf)
-          (λ p g. ap (written (sortIn buf n) ts p buf n i) (given-same schema buf n i area l l' h (type_at ts i))));
+          same-result (schema_of (sort_in buf n) schema) (unchanged buf)
+          (λ ts e. same_good (opening (sort_in buf n) ts buf n i) (unchanged buf)
+          (λ p g. ap (written (sort_in buf n) ts p buf n i) (given-same schema buf n i area l l' h (type_at ts i))));
     }

@@ -8,35 +8,35 @@ use lib.ListN.{length, get_or, take}
 use Rattle.laws.proofs.Bytes.{AllBytes}
 use Rattle.error.specs.declared.Refusal.{Refusal}
 use Rattle.error.specs.declared.Answer.TheVariants.{Done}
-use Rattle.error.specs.Answer.{Counted, unchangedBoth}
+use Rattle.error.specs.Answer.{Counted, unchanged_both}
 use Rattle.error.specs.Result.{ok, refused}
-use Rattle.row_format.specs.Places.{varlens, minimum, offsetWidth}
-use Rattle.row_format.specs.Header.{isLong}
-use Rattle.row_format.proofs.Sorts.{limit-le}
+use Rattle.row_format.specs.Places.{varlens, minimum, offset_width}
+use Rattle.row_format.specs.Header.{is_long}
+use Rattle.row_format.proofs.Sorts.{limit_le}
 use Rattle.datatype.specs.declared.DataType.{DataType}
 use Rattle.datatype.specs.Types.{shape_of}
-use Rattle.datatype.specs.Schema.{schemaOf}
+use Rattle.datatype.specs.Schema.{schema_of}
 use Rattle.value.specs.declared.DataValue.{DataValue}
 use Rattle.value.specs.declared.DataValue.TheVariants.{Null}
 use Rattle.value.specs.Ranges.{range_of}
 use Rattle.value_list.specs.Lists.{Values, list_of}
-use Rattle.stored_form.specs.Points.{pointsIn}
+use Rattle.stored_form.specs.Points.{points_in}
 use Rattle.row_column.specs.declared.Frame.TheVariants.{Good}
 use Rattle.row_column.specs.declared.ColumnRead.{ColumnRead}
 use Rattle.row_column.specs.declared.ColumnRead.TheVariants as Column
 use Rattle.row_column.specs.Frame.{frame_of}
-use Rattle.row_column.specs.Column.{columnValue}
+use Rattle.row_column.specs.Column.{column_value}
 use Rattle.row_column.proofs.Framing.{fine}
-use Rattle.row_decode.specs.Read.{isWanted, wantedValue, onColumn, readFrom, handOut}
+use Rattle.row_decode.specs.Read.{is_wanted, wanted_value, on_column, read_from, hand_out}
 use Rattle.row_build.proofs.Built.{IsDone, placed-both-done}
 use Rattle.round_trip.proofs.Columns.{column-read}
 use Rattle.round_trip.proofs.Types.{column-digits, column-scale}
 use Rattle.all_calls.specs.Inside.{ValuesInside, ReadInside}
-use Rattle.all_calls.proofs.Steps.{by_result, by-frame}
+use Rattle.all_calls.proofs.Steps.{by_result, by_frame}
 
 module _ (schema r : List ℕ) (octets : AllBytes r) where
   abbrev k : Bool
-  k = isLong r
+  k = is_long r
 
   abbrev Inside : DataValue → Type 0
   Inside v = (range_of v).start + (range_of v).length ≤ length r
@@ -54,29 +54,29 @@ module _ (schema r : List ℕ) (octets : AllBytes r) where
   with_first v vs h rest zero l = h
   with_first v vs h rest (suc j) l = rest j (omega arith)
 
-  on-inside : (c : ColumnRead) (q : Values) → IfInside c → AllInside q → AllInside (onColumn c q)
-  on-inside (Column.Value v) (ok vs) h rest = with_first v vs h rest
-  on-inside (Column.Value v) (refused e) h rest = tt
-  on-inside (Column.Refused e) q h rest = tt
+  on_inside : (c : ColumnRead) (q : Values) → IfInside c → AllInside q → AllInside (on_column c q)
+  on_inside (Column.Value v) (ok vs) h rest = with_first v vs h rest
+  on_inside (Column.Value v) (refused e) h rest = tt
+  on_inside (Column.Refused e) q h rest = tt
 
-  wanted-inside : (b : Bool) (c : ColumnRead) → IfInside c → IfInside (wantedValue b c)
+  wanted-inside : (b : Bool) (c : ColumnRead) → IfInside c → IfInside (wanted_value b c)
   wanted-inside true c h = h
   wanted-inside false c h = omega arith
 
-  module _ (ts : List DataType) (good : schemaOf k schema ≡ ok ts) (p : Bool) (frame : frame_of k ts r ≡ Good p) where
-    column-inside : (i : ℕ) → i < length ts → (c : ColumnRead) → columnValue (offsetWidth k) p ts i r ≡ c → IfInside c
+  module _ (ts : List DataType) (good : schema_of k schema ≡ ok ts) (p : Bool) (frame : frame_of k ts r ≡ Good p) where
+    column-inside : (i : ℕ) → i < length ts → (c : ColumnRead) → column_value (offset_width k) p ts i r ≡ c → IfInside c
     column-inside i h (Column.Refused e) q = tt
     column-inside i h (Column.Value v) q =
-        let f = fine k (length ts) (varlens (map shape_of ts)) (λ x. minimum (offsetWidth k) x (map shape_of ts)) r frame in
-        (column-read (offsetWidth k) p ts r octets (omega (arith, f.short, limit-le k)) f.long i h
+        let f = fine k (length ts) (varlens (map shape_of ts)) (λ x. minimum (offset_width k) x (map shape_of ts)) r frame in
+        (column-read (offset_width k) p ts r octets (omega (arith, f.short, limit_le k)) f.long i h
         (column-digits k schema good i h) (column-scale k schema good i h) q).placed.inside
 
-    reads-inside : (wanted : ℕ → Bool) (n i : ℕ) → i + n ≡ length ts → AllInside (readFrom (offsetWidth k) p ts wanted r i n)
+    reads-inside : (wanted : ℕ → Bool) (n i : ℕ) → i + n ≡ length ts → AllInside (read_from (offset_width k) p ts wanted r i n)
     reads-inside wanted zero i e = λ j h. absurd (omega arith)
     reads-inside wanted (suc n) i e =
-        on-inside (wantedValue (wanted i) (columnValue (offsetWidth k) p ts i r)) _
-        (wanted-inside (wanted i) (columnValue (offsetWidth k) p ts i r)
-        (column-inside i (omega arith) (columnValue (offsetWidth k) p ts i r) refl))
+        on_inside (wanted_value (wanted i) (column_value (offset_width k) p ts i r)) _
+        (wanted-inside (wanted i) (column_value (offset_width k) p ts i r)
+        (column-inside i (omega arith) (column_value (offset_width k) p ts i r) refl))
         (reads-inside wanted n (suc i) (omega arith))
 
   -- ---- the call
@@ -84,17 +84,17 @@ module _ (schema r : List ℕ) (octets : AllBytes r) where
   abbrev IfDone : Counted → Type 0
   IfDone o = (n : ℕ) (after numbers : List ℕ) → o ≡ (Done n, (after, numbers)) → ValuesInside r n after
 
-  none_done : (out counts : List ℕ) (e : Refusal) → IfDone (unchangedBoth out counts e)
+  none_done : (out counts : List ℕ) (e : Refusal) → IfDone (unchanged_both out counts e)
   none_done out counts e n after numbers h = absurd (subst IsDone (sym h) tt)
 
-  handed-inside : (out counts : List ℕ) (u : Values) → AllInside u → IfDone (handOut k out counts r u)
+  handed-inside : (out counts : List ℕ) (u : Values) → AllInside u → IfDone (hand_out k out counts r u)
   handed-inside out counts (refused e) h = none_done out counts e
   handed-inside out counts (ok vs) h = λ n after numbers q.
-      record { values = vs; list = (placed-both-done out counts (list_of k vs) (map (pointsIn r) vs) q).bytes.part; inside = h }
+      record { values = vs; list = (placed-both-done out counts (list_of k vs) (map (points_in r) vs) q).bytes.part; inside = h }
 
 pub read-inside : (schema r wanted out counts : List ℕ) → ReadInside schema r wanted out counts
 read-inside schema r wanted out counts octets =
-    by_result (IfDone schema r octets) (schemaOf (isLong r) schema) (none_done schema r octets out counts) (λ ts good.
-    by-frame (IfDone schema r octets) (frame_of (isLong r) ts r) (none_done schema r octets out counts) (λ p frame.
-    handed-inside schema r octets out counts (readFrom (offsetWidth (isLong r)) p ts (isWanted wanted) r 0 (length ts))
-    (reads-inside schema r octets ts good p frame (isWanted wanted) (length ts) 0 (omega arith))))
+    by_result (IfDone schema r octets) (schema_of (is_long r) schema) (none_done schema r octets out counts) (λ ts good.
+    by_frame (IfDone schema r octets) (frame_of (is_long r) ts r) (none_done schema r octets out counts) (λ p frame.
+    handed-inside schema r octets out counts (read_from (offset_width (is_long r)) p ts (is_wanted wanted) r 0 (length ts))
+    (reads-inside schema r octets ts good p frame (is_wanted wanted) (length ts) 0 (omega arith))))

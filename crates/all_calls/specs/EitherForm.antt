@@ -6,24 +6,24 @@ use mathlib.Core.List.{List}
 use mathlib.Core.Path.{◌≡◌}
 use lib.ListN.{length}
 use Rattle.error.specs.declared.Refusal.TheVariants.{BadValueList}
-use Rattle.error.specs.Answer.{unchangedBoth}
+use Rattle.error.specs.Answer.{unchanged_both}
 use Rattle.error.specs.Result.{ok}
 use Rattle.datatype.specs.declared.DataType.{DataType}
-use Rattle.datatype.specs.Schema.{schemaOf}
+use Rattle.datatype.specs.Schema.{schema_of}
 use Rattle.value.specs.declared.DataValue.{DataValue}
 use Rattle.value_list.specs.Forms.{ListOf}
-use Rattle.row_build.specs.Build.{buildCall}
-use Rattle.row_edit.specs.Edit.{setCall}
+use Rattle.row_build.specs.Build.{build_call}
+use Rattle.row_edit.specs.Edit.{set_call}
 
 -- Two lists of the same values are answered alike by a build and by a set, with every byte and number that these leave,
 -- where the number of values is the one that is due; of another number either gives 10 at its own length.
 pub record EitherForm {vs : List DataValue} {list list' : List ℕ} (l : ListOf vs list) (l' : ListOf vs list')
     : Type 0 where
   pub build : (sort : Bool) (schema area out counts : List ℕ)
-      → ((ts : List DataType) → schemaOf sort schema ≡ ok ts → length vs ≡ length ts)
-      → buildCall sort schema list area out counts ≡ buildCall sort schema list' area out counts
-  pub miscounted : (sort : Bool) (schema area out counts : List ℕ) (ts : List DataType) → schemaOf sort schema ≡ ok ts
+      → ((ts : List DataType) → schema_of sort schema ≡ ok ts → length vs ≡ length ts)
+      → build_call sort schema list area out counts ≡ build_call sort schema list' area out counts
+  pub miscounted : (sort : Bool) (schema area out counts : List ℕ) (ts : List DataType) → schema_of sort schema ≡ ok ts
       → (length vs ≡ length ts → ⊥)
-      → buildCall sort schema list area out counts ≡ unchangedBoth out counts (BadValueList (length list))
+      → build_call sort schema list area out counts ≡ unchanged_both out counts (BadValueList (length list))
   pub set : (schema buf : List ℕ) (n i : ℕ) (area : List ℕ) → length vs ≡ 1
-      → setCall schema buf n i list area ≡ setCall schema buf n i list' area
+      → set_call schema buf n i list area ≡ set_call schema buf n i list' area

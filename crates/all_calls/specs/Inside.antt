@@ -7,17 +7,17 @@ use lib.ListN.{length, get_or, take}
 use mir.Syntax.{w8}
 use mir.Val.{Fits}
 use Rattle.error.specs.declared.Answer.TheVariants.{Done}
-use Rattle.row_format.specs.Header.{isLong}
+use Rattle.row_format.specs.Header.{is_long}
 use Rattle.value.specs.declared.DataValue.{DataValue}
 use Rattle.value.specs.declared.DataValue.TheVariants.{Null}
 use Rattle.value.specs.Ranges.{range_of}
 use Rattle.value_list.specs.Lists.{list_of}
-use Rattle.row_decode.specs.Read.{readCall}
+use Rattle.row_decode.specs.Read.{read_call}
 
 -- the first n bytes of the output are the list of values whose ranges, of those that have one, lie in r
 pub record ValuesInside (r : List ℕ) (n : ℕ) (after : List ℕ) : Type 0 where
   pub values : List DataValue
-  pub list : take n after ≡ list_of (isLong r) values
+  pub list : take n after ≡ list_of (is_long r) values
   pub inside : (i : ℕ) → i < length values
       → (range_of (get_or values i Null)).start + (range_of (get_or values i Null)).length ≤ length r
 
@@ -25,4 +25,4 @@ pub record ValuesInside (r : List ℕ) (n : ℕ) (after : List ℕ) : Type 0 whe
 abbrev pub ReadInside : (schema r wanted out counts : List ℕ) → Type 0
 ReadInside schema r wanted out counts =
     ((j : ℕ) → Fits w8 (get_or r j 0)) → (n : ℕ) (after numbers : List ℕ)
-    → readCall schema r wanted out counts ≡ (Done n, (after, numbers)) → ValuesInside r n after
+    → read_call schema r wanted out counts ≡ (Done n, (after, numbers)) → ValuesInside r n after

@@ -11,12 +11,12 @@ use Rattle.error.specs.declared.Answer.{Answer}
 use Rattle.error.specs.declared.Answer.TheVariants.{Done, Refused}
 use Rattle.error.specs.Answer.{Outcome, Counted}
 use Rattle.datatype.specs.Check.{types_in}
-use Rattle.row_decode.specs.Read.{readCall}
-use Rattle.row_build.specs.Build.{freshCall, buildCall}
-use Rattle.row_edit.specs.Edit.{setCall, setNullCall}
+use Rattle.row_decode.specs.Read.{read_call}
+use Rattle.row_build.specs.Build.{fresh_call, build_call}
+use Rattle.row_edit.specs.Edit.{set_call, set_null_call}
 use Rattle.row_handle.specs.declared.RowHandle.{RowHandle}
-use Rattle.row_handle.specs.Handle.{Handled, handleSet, handleSetNull}
-use Rattle.occupation_list.specs.Print.{printCall}
+use Rattle.row_handle.specs.Handle.{Handled, handle_set, handle_set_null}
+use Rattle.occupation_list.specs.Print.{print_call}
 
 -- the calls, each with all that it gets
 pub data Call : Type 0 where
@@ -35,69 +35,69 @@ pub record Lent : Type 0 where
   pub counts : List ℕ
   pub handle : Option RowHandle
 
-abbrev pub bytesAlone : List ℕ → Lent
-bytesAlone b = record { bytes = b; counts = []; handle = none }
+abbrev pub bytes_alone : List ℕ → Lent
+bytes_alone b = record { bytes = b; counts = []; handle = none }
 
-abbrev pub withCounts : List ℕ → List ℕ → Lent
-withCounts b ns = record { bytes = b; counts = ns; handle = none }
+abbrev pub with_counts : List ℕ → List ℕ → Lent
+with_counts b ns = record { bytes = b; counts = ns; handle = none }
 
-abbrev pub withHandle : List ℕ → RowHandle → Lent
-withHandle b h = record { bytes = b; counts = []; handle = some h }
+abbrev pub with_handle : List ℕ → RowHandle → Lent
+with_handle b h = record { bytes = b; counts = []; handle = some h }
 
-abbrev pub lentTo : Call → Lent
-lentTo (fresh sort schema out) = bytesAlone out
-lentTo (build sort schema list area out counts) = withCounts out counts
-lentTo (read schema row wanted out counts) = withCounts out counts
-lentTo (set schema buf n i list area) = bytesAlone buf
-lentTo (set-null schema buf n i) = bytesAlone buf
-lentTo (handle-set schema buf h i list area) = withHandle buf h
-lentTo (handle-set-null schema buf h i) = withHandle buf h
-lentTo (print list out) = bytesAlone out
+abbrev pub lent_to : Call → Lent
+lent_to (fresh sort schema out) = bytes_alone out
+lent_to (build sort schema list area out counts) = with_counts out counts
+lent_to (read schema row wanted out counts) = with_counts out counts
+lent_to (set schema buf n i list area) = bytes_alone buf
+lent_to (set-null schema buf n i) = bytes_alone buf
+lent_to (handle-set schema buf h i list area) = with_handle buf h
+lent_to (handle-set-null schema buf h i) = with_handle buf h
+lent_to (print list out) = bytes_alone out
 
 -- what it answers, and what it leaves there
 abbrev pub Left : Type 0
 Left = Answer × Lent
 
-abbrev pub ofOutcome : Outcome → Left
-ofOutcome o = (o.0, bytesAlone o.1)
+abbrev pub of_outcome : Outcome → Left
+of_outcome o = (o.0, bytes_alone o.1)
 
-abbrev pub ofCounted : Counted → Left
-ofCounted o = (o.0, withCounts o.1.0 o.1.1)
+abbrev pub of_counted : Counted → Left
+of_counted o = (o.0, with_counts o.1.0 o.1.1)
 
-abbrev pub ofHandled : Handled → Left
-ofHandled o = (o.0, withHandle o.1.0 o.1.1)
+abbrev pub of_handled : Handled → Left
+of_handled o = (o.0, with_handle o.1.0 o.1.1)
 
-abbrev pub leftBy : Call → Left
-leftBy (fresh sort schema out) = ofOutcome (freshCall sort schema out)
-leftBy (build sort schema list area out counts) = ofCounted (buildCall sort schema list area out counts)
-leftBy (read schema row wanted out counts) = ofCounted (readCall schema row wanted out counts)
-leftBy (set schema buf n i list area) = ofOutcome (setCall schema buf n i list area)
-leftBy (set-null schema buf n i) = ofOutcome (setNullCall schema buf n i)
-leftBy (handle-set schema buf h i list area) = ofHandled (handleSet schema buf h i list area)
-leftBy (handle-set-null schema buf h i) = ofHandled (handleSetNull schema buf h i)
-leftBy (print list out) = ofOutcome (printCall list out)
+abbrev pub left_by : Call → Left
+left_by (fresh sort schema out) = of_outcome (fresh_call sort schema out)
+left_by (build sort schema list area out counts) = of_counted (build_call sort schema list area out counts)
+left_by (read schema row wanted out counts) = of_counted (read_call schema row wanted out counts)
+left_by (set schema buf n i list area) = of_outcome (set_call schema buf n i list area)
+left_by (set-null schema buf n i) = of_outcome (set_null_call schema buf n i)
+left_by (handle-set schema buf h i list area) = of_handled (handle_set schema buf h i list area)
+left_by (handle-set-null schema buf h i) = of_handled (handle_set_null schema buf h i)
+left_by (print list out) = of_outcome (print_call list out)
 
 -- the numbers that are due in its list of counts: one for each column
-abbrev pub countsDue : Call → ℕ
-countsDue (fresh sort schema out) = 0
-countsDue (build sort schema list area out counts) = length (types_in schema)
-countsDue (read schema row wanted out counts) = length (types_in schema)
-countsDue (set schema buf n i list area) = 0
-countsDue (set-null schema buf n i) = 0
-countsDue (handle-set schema buf h i list area) = 0
-countsDue (handle-set-null schema buf h i) = 0
-countsDue (print list out) = 0
+abbrev pub counts_due : Call → ℕ
+counts_due (fresh sort schema out) = 0
+counts_due (build sort schema list area out counts) = length (types_in schema)
+counts_due (read schema row wanted out counts) = length (types_in schema)
+counts_due (set schema buf n i list area) = 0
+counts_due (set-null schema buf n i) = 0
+counts_due (handle-set schema buf h i list area) = 0
+counts_due (handle-set-null schema buf h i) = 0
+counts_due (print list out) = 0
 
 -- "A refusal changes no lent byte."
 abbrev pub RefusalChangesNothing : (c : Call) → Type 0
-RefusalChangesNothing c = (e : Refusal) → (leftBy c).0 ≡ Refused e → (leftBy c).1 ≡ lentTo c
+RefusalChangesNothing c = (e : Refusal) → (left_by c).0 ≡ Refused e → (left_by c).1 ≡ lent_to c
 
 -- "An output's bytes past the result are as before", and the numbers past those that are due
 pub record PastKept (c : Call) (n : ℕ) : Type 0 where
-  pub same_length : length (leftBy c).1.bytes ≡ length (lentTo c).bytes
-  pub bytes_past : drop n (leftBy c).1.bytes ≡ drop n (lentTo c).bytes
-  pub same_count : length (leftBy c).1.counts ≡ length (lentTo c).counts
-  pub counts_past : drop (countsDue c) (leftBy c).1.counts ≡ drop (countsDue c) (lentTo c).counts
+  pub same_length : length (left_by c).1.bytes ≡ length (lent_to c).bytes
+  pub bytes_past : drop n (left_by c).1.bytes ≡ drop n (lent_to c).bytes
+  pub same_count : length (left_by c).1.counts ≡ length (lent_to c).counts
+  pub counts_past : drop (counts_due c) (left_by c).1.counts ≡ drop (counts_due c) (lent_to c).counts
 
 abbrev pub PastResultKept : (c : Call) → Type 0
-PastResultKept c = (n : ℕ) → (leftBy c).0 ≡ Done n → PastKept c n
+PastResultKept c = (n : ℕ) → (left_by c).0 ≡ Done n → PastKept c n

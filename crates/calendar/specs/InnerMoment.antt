@@ -1,9 +1,9 @@
 -- For the proofs: what a stored Timestamp is as a moment.
 use Rattle.std.specs.Prelude.{cond, ℤ}
-use Rattle.temporal.specs.Ranges.{isTimestamp}
+use Rattle.temporal.specs.Ranges.{is_timestamp}
 use Rattle.calendar.specs.declared.Moment.{Moment}
 use Rattle.calendar.specs.declared.Moment.TheVariants.{Micros, OutOfRange}
-use Rattle.calendar.specs.Moment.{sinceYearOne}
+use Rattle.calendar.specs.Moment.{since_year_one}
 
-abbrev pub momentOf : ℤ → Moment
-momentOf z = cond (isTimestamp z) (Micros (sinceYearOne z)) OutOfRange
+abbrev pub moment_of : ℤ → Moment
+moment_of z = cond (is_timestamp z) (Micros (since_year_one z)) OutOfRange

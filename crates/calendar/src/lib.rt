@@ -3,10 +3,10 @@ ghost use Rattle.std.specs.Prelude.{◌≡◌, ◌+◌, ◌/◌, ◌%◌, ◌≤
 ghost use Rattle.std.proofs.lemmas.List.Edits.{sets};
 ghost use Rattle.std.specs.Int.{w64};
 ghost use Rattle.std.proofs.Common.{to_z};
-ghost use Rattle.calendar.specs.Calendar.{monthFrom, dateOf};
-ghost use Rattle.calendar.specs.InnerDays.{marchDays, FromMarch};
-ghost use Rattle.calendar.specs.Moment.{asciiDigits, dateText, timeText, momentText};
-ghost use Rattle.calendar.specs.InnerMoment.{momentOf};
+ghost use Rattle.calendar.specs.Calendar.{month_from, date_of};
+ghost use Rattle.calendar.specs.InnerDays.{march_days, FromMarch};
+ghost use Rattle.calendar.specs.Moment.{ascii_digits, date_text, time_text, moment_text};
+ghost use Rattle.calendar.specs.InnerMoment.{moment_of};
 
 // Microseconds since 0001-01-01 00:00:00.
 #[derive(Drop)]
@@ -17,7 +17,7 @@ pub enum Moment {
 
 // Of the 8 bytes of a Timestamp: 2^64 - 62,135,596,800,000,000 stands for the first microsecond of the year 1.
 pub fn moment_of(stored: u64) -> Moment
-    ensures { result ≡ momentOf (to_z w64 stored) }
+    ensures { result ≡ moment_of (to_z w64 stored) }
 {
     if stored <= 253_402_300_799_999_999 {
         return Moment::Micros(stored + 62_135_596_800_000_000);
@@ -64,7 +64,7 @@ struct MonthDay {
 // From March on the months are so even that one product has the month in its high half, and the day in its low half.
 fn month_day(day: u32) -> MonthDay
     requires { day < 366 }
-    ensures { (result.month, result.day) ≡ monthFrom marchDays 3 day }
+    ensures { (result.month, result.day) ≡ month_from march_days 3 day }
 {
     let n = day * 2141 + 197_913;
     MonthDay {
@@ -84,7 +84,7 @@ pub struct Date {
 // The date of a day, 0001-01-01 being day 0.
 fn date_of(days: u32) -> Date
     requires { days < 3652059 }
-    ensures { result ≡ dateOf days }
+    ensures { result ≡ date_of days }
 {
     let y = year_day(days);
     let m = month_day(y.day);
@@ -113,7 +113,7 @@ fn digit_pair(n: u32) -> u16
 
 fn write_pair(out: &mut [u8], at: usize, n: u32)
     requires { (at + 2 ≤ length out.old) × (n < 100) }
-    ensures { out.new ≡ sets out.old at (asciiDigits 2 n) }
+    ensures { out.new ≡ sets out.old at (ascii_digits 2 n) }
 {
     let pair = digit_pair(n);
     out[at] = (pair % 256) as u8;
@@ -123,7 +123,7 @@ fn write_pair(out: &mut [u8], at: usize, n: u32)
 // Two digits after a mark.
 fn write_marked(out: &mut [u8], at: usize, mark: u8, n: u32)
     requires { (at + 3 ≤ length out.old) × (n < 100) }
-    ensures { out.new ≡ sets out.old at (mark ∷ asciiDigits 2 n) }
+    ensures { out.new ≡ sets out.old at (mark ∷ ascii_digits 2 n) }
 {
     let pair = digit_pair(n);
     out[at] = mark;
@@ -133,7 +133,7 @@ fn write_marked(out: &mut [u8], at: usize, mark: u8, n: u32)
 
 fn write_date(out: &mut [u8], at: usize, year: u32, month: u32, day: u32)
     requires { (at + 10 ≤ length out.old) × ((year < 10000) × ((month < 100) × (day < 100))) }
-    ensures { out.new ≡ sets out.old at (dateText year month day) }
+    ensures { out.new ≡ sets out.old at (date_text year month day) }
 {
     write_pair(out, at, year / 100);
     write_pair(out, at + 2, year % 100);
@@ -144,7 +144,7 @@ fn write_date(out: &mut [u8], at: usize, year: u32, month: u32, day: u32)
 // A time after a space. The remainders reuse the quotients.
 fn write_time(out: &mut [u8], at: usize, seconds: u32)
     requires { (at + 9 ≤ length out.old) × (seconds < 86400) }
-    ensures { out.new ≡ sets out.old at (32 ∷ timeText seconds) }
+    ensures { out.new ≡ sets out.old at (32 ∷ time_text seconds) }
 {
     let hours = seconds / 3600;
     let minutes = seconds / 60;
@@ -156,7 +156,7 @@ fn write_time(out: &mut [u8], at: usize, seconds: u32)
 // A date and a time to the second, in 19 bytes.
 pub fn write_moment(out: &mut [u8], at: usize, micros: u64)
     requires { (at + 19 ≤ length out.old) × (micros < 315537897600000000) }
-    ensures { out.new ≡ sets out.old at (momentText micros) }
+    ensures { out.new ≡ sets out.old at (moment_text micros) }
 {
     let seconds = micros / 1_000_000;
     let days = seconds / 86_400;

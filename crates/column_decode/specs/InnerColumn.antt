@@ -2,14 +2,14 @@
 use Rattle.std.specs.Prelude.{ℕ, ◌+◌, ◌≤◌, ◌<◌, Bool, List, ◌≡◌, length}
 use Rattle.std.proofs.lemmas.List.Edits.{sets}
 use Rattle.error.specs.declared.Refusal.{Refusal}
-use Rattle.row_format.specs.Places.{rowLimit}
+use Rattle.row_format.specs.Places.{row_limit}
 use Rattle.row_layout.specs.declared.RowLayout.{RowLayout}
 use Rattle.datatype.specs.declared.Record.TheVariants as Record
-use Rattle.datatype.specs.Schema.{columnRecordAt}
+use Rattle.datatype.specs.Schema.{column_record_at}
 use Rattle.datatype.specs.Check.{type_at, types_in}
-use Rattle.datatype.specs.InnerSteps.{typeIn}
+use Rattle.datatype.specs.InnerSteps.{type_in}
 use Rattle.value.specs.declared.DataValue.{DataValue}
-use Rattle.value_list.specs.Records.{recordOf}
+use Rattle.value_list.specs.Records.{record_of}
 use Rattle.slot_record.specs.declared.Recorded.{Recorded}
 use Rattle.slot_record.specs.declared.Recorded.TheVariants as Recorded
 use Rattle.row_column.specs.declared.ColumnRead.{ColumnRead}
@@ -18,20 +18,20 @@ use Rattle.row_column.specs.InnerWalk.{Reachable}
 
 -- a column's record, for rows of a sort, written at `end`, with the count f of its value
 abbrev pub stepped : Bool → List ℕ → ℕ → (DataValue → ℕ) → ColumnRead → Recorded × List ℕ
-stepped k buf end f (Value v) = (Recorded.Done (end + length (recordOf k v)) (f v), sets buf end (recordOf k v))
+stepped k buf end f (Value v) = (Recorded.Done (end + length (record_of k v)) (f v), sets buf end (record_of k v))
 stepped k buf end f (Refused e) = (Recorded.Refused e, buf)
 
 -- the count of what is no text
-abbrev pub noPoints : DataValue → ℕ
-noPoints v = 0
+abbrev pub no_points : DataValue → ℕ
+no_points v = 0
 
 -- what the walk has come to: a record of the schema, and room for the column's own
 pub record DecodeAt (s : List ℕ) (at : ℕ) (l : RowLayout) (p : Bool) (b : RowLayout) (r buf : List ℕ) (end : ℕ) : Type
     0 where
   pub here : at < length s
   pub few : b.num_columns < 256
-  pub good : (e : Refusal) → columnRecordAt s at ≡ Record.Refused e → ⊥
-  pub typed : typeIn (columnRecordAt s at) ≡ type_at (types_in s) b.num_columns
+  pub good : (e : Refusal) → column_record_at s at ≡ Record.Refused e → ⊥
+  pub typed : type_in (column_record_at s at) ≡ type_at (types_in s) b.num_columns
   pub reach : Reachable l p b (type_at (types_in s) b.num_columns) r
-  pub short : length r ≤ rowLimit l.is_long
+  pub short : length r ≤ row_limit l.is_long
   pub room : end + 18 ≤ length buf

@@ -1,14 +1,14 @@
 // row.rs, `RowDecoder::decode`: one column of a row, its value written as a record of a value list.
 ghost use Rattle.std.specs.Prelude.{◌≡◌, false, ◌+◌, ◌*◌, ◌<◌, ◌≤◌, eqb, length, drop};
 ghost use Rattle.laws.specs.Bits.{bit_at};
-ghost use Rattle.row_format.specs.Places.{offsetWidth, rowLimit, bitmapStart};
-ghost use Rattle.row_layout.specs.Range.{varlenRange};
+ghost use Rattle.row_format.specs.Places.{offset_width, row_limit, bitmap_start};
+ghost use Rattle.row_layout.specs.Range.{varlen_range};
 ghost use Rattle.datatype.specs.declared.DataType.TheVariants.{Char as CharType, Varchar as VarcharType};
 ghost use Rattle.datatype.specs.Check.{type_at, types_in};
-ghost use Rattle.row_column.specs.Column.{readBytes, varlenValue};
-ghost use Rattle.row_column.specs.InnerWalk.{walkedPlace, walkedColumn, Reachable, InRow};
-ghost use Rattle.stored_form.specs.Points.{pointsIn};
-ghost use Rattle.column_decode.specs.InnerColumn.{stepped, noPoints, DecodeAt};
+ghost use Rattle.row_column.specs.Column.{read_bytes, varlen_value};
+ghost use Rattle.row_column.specs.InnerWalk.{walked_place, walked_column, Reachable, InRow};
+ghost use Rattle.stored_form.specs.Points.{points_in};
+ghost use Rattle.column_decode.specs.InnerColumn.{stepped, no_points, DecodeAt};
 
 use datatype::{Record, schema_kinds};
 use error::Refusal;
@@ -17,8 +17,8 @@ use row_layout::{RowLayout, VarlenRange};
 use slot_record::Recorded;
 
 fn write_column(buf: &mut [u8], end: usize, is_long: bool, column: ColumnRead) -> Recorded
-    requires { (end + 18 ≤ length buf.old) × InRow (rowLimit is_long) column }
-    ensures { (result, buf.new) ≡ stepped is_long buf.old end noPoints column }
+    requires { (end + 18 ≤ length buf.old) × InRow (row_limit is_long) column }
+    ensures { (result, buf.new) ≡ stepped is_long buf.old end no_points column }
 {
     match column {
         ColumnRead::Value(v) => {
@@ -41,12 +41,12 @@ fn decode_varchar(
     buf: &mut [u8],
     end: usize,
 ) -> Recorded
-    requires { ((rank < varlens) × (table + varlens * offsetWidth is_long ≤ length row.now))
-        × ((length row.now ≤ rowLimit is_long) × (end + 18 ≤ length buf.old)) }
+    requires { ((rank < varlens) × (table + varlens * offset_width is_long ≤ length row.now))
+        × ((length row.now ≤ row_limit is_long) × (end + 18 ≤ length buf.old)) }
     ensures { (result, buf.new)
-        ≡ stepped is_long buf.old end (pointsIn row.now)
-        (varlenValue (VarcharType by_points n) i row.now
-        (varlenRange (offsetWidth is_long) table varlens rank row.now)) }
+        ≡ stepped is_long buf.old end (points_in row.now)
+        (varlen_value (VarcharType by_points n) i row.now
+        (varlen_range (offset_width is_long) table varlens rank row.now)) }
 {
     match row_layout::varlen_range(row, is_long, table, varlens, rank) {
         VarlenRange::Null => Recorded::Done(record_encode::write_null(buf, end), 0),
@@ -68,11 +68,11 @@ fn decode_char(
     end: usize,
 ) -> Recorded
     requires { Reachable layout packed before (CharType n) row.now
-        × ((length row.now ≤ rowLimit layout.is_long) × (end + 18 ≤ length buf.old)) }
+        × ((length row.now ≤ row_limit layout.is_long) × (end + 18 ≤ length buf.old)) }
     ensures { (result, buf.new)
-        ≡ stepped layout.is_long buf.old end (pointsIn row.now)
-        (readBytes (CharType n) before.num_columns row.now
-        (walkedPlace layout packed before (CharType n)) (walkedPlace layout packed before (CharType n) + n)) }
+        ≡ stepped layout.is_long buf.old end (points_in row.now)
+        (read_bytes (CharType n) before.num_columns row.now
+        (walked_place layout packed before (CharType n)) (walked_place layout packed before (CharType n) + n)) }
 {
     let start = layout.fixed_data_start() + before.slot_start(packed, 1);
     let is_long = layout.is_long;
@@ -92,8 +92,8 @@ fn decode_value(
 ) -> Recorded
     requires { DecodeAt schema.now at layout packed before row.now buf.old end }
     ensures { (result, buf.new)
-        ≡ stepped layout.is_long buf.old end noPoints
-        (walkedColumn layout packed before (type_at (types_in schema.now) before.num_columns)
+        ≡ stepped layout.is_long buf.old end no_points
+        (walked_column layout packed before (type_at (types_in schema.now) before.num_columns)
         row.now) }
 {
     match datatype::record_at(schema, at) {
@@ -117,10 +117,10 @@ fn decode_body(
     end: usize,
 ) -> Recorded
     requires { DecodeAt schema.now at layout packed before row.now buf.old end
-        × (eqb (bit_at before.num_columns (drop bitmapStart row.now)) 1 ≡ false) }
+        × (eqb (bit_at before.num_columns (drop bitmap_start row.now)) 1 ≡ false) }
     ensures { (result, buf.new)
-        ≡ stepped layout.is_long buf.old end (pointsIn row.now)
-        (walkedColumn layout packed before (type_at (types_in schema.now) before.num_columns)
+        ≡ stepped layout.is_long buf.old end (points_in row.now)
+        (walked_column layout packed before (type_at (types_in schema.now) before.num_columns)
         row.now) }
 {
     let kind = schema[at];
@@ -165,10 +165,10 @@ pub fn decode_present(
     end: usize,
 ) -> Recorded
     requires { DecodeAt schema.now at layout packed before row.now buf.old end
-        × (eqb (bit_at before.num_columns (drop bitmapStart row.now)) 1 ≡ false) }
+        × (eqb (bit_at before.num_columns (drop bitmap_start row.now)) 1 ≡ false) }
     ensures { (result, buf.new)
-        ≡ stepped layout.is_long buf.old end (pointsIn row.now)
-        (walkedColumn layout packed before (type_at (types_in schema.now) before.num_columns)
+        ≡ stepped layout.is_long buf.old end (points_in row.now)
+        (walked_column layout packed before (type_at (types_in schema.now) before.num_columns)
         row.now) }
 {
     let kind = schema[at];

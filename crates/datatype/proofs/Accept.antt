@@ -7,17 +7,17 @@ use lib.Dec.{ltb}
 use lib.ListN.{length}
 use Rattle.error.specs.declared.Refusal.{Refusal}
 use Rattle.error.specs.declared.Refusal.TheVariants.{BadSchema, NoRoom}
-use Rattle.error.specs.Result.{ok, refused, onResult}
-use Rattle.row_format.specs.Places.{minimum, offsetWidth, rowLimit}
+use Rattle.error.specs.Result.{ok, refused, on_result}
+use Rattle.row_format.specs.Places.{minimum, offset_width, row_limit}
 use Rattle.row_layout.specs.declared.RowLayout.{RowLayout}
-use Rattle.row_layout.specs.InnerLayout.{Bounded, noColumns, ofSort}
+use Rattle.row_layout.specs.InnerLayout.{Bounded, no_columns, of_sort}
 use Rattle.datatype.specs.declared.DataType.{DataType}
 use Rattle.datatype.specs.declared.SchemaCheck.{SchemaCheck}
 use Rattle.datatype.specs.declared.SchemaCheck.TheVariants.{Good, Refused}
 use Rattle.datatype.specs.Types.{shape_of}
-use Rattle.datatype.specs.Schema.{Parsed, columnRecords, limited, schemaOf}
-use Rattle.datatype.specs.Check.{columnsOf, layoutFor, types_in}
-use Rattle.datatype.specs.InnerCheck.{Accepted, checkedSchema}
+use Rattle.datatype.specs.Schema.{Parsed, column_records, limited, schema_of}
+use Rattle.datatype.specs.Check.{columns_of, layout_for, types_in}
+use Rattle.datatype.specs.InnerCheck.{Accepted, checked_schema}
 
 abbrev IsTypes : Parsed → Type 0
 IsTypes (ok ts) = Unit {0}
@@ -25,54 +25,54 @@ IsTypes (refused e) = ⊥
 
 unlimited : (k : Bool) (len : ℕ) (q : Parsed) {ts : List DataType} → limited k len q ≡ ok ts → q ≡ ok ts
 unlimited k len (refused e) f = f
-unlimited k len (ok us) f = within (ltb (rowLimit k) (minimum (offsetWidth k) false (map shape_of us))) (BadSchema len) f
+unlimited k len (ok us) f = within (ltb (row_limit k) (minimum (offset_width k) false (map shape_of us))) (BadSchema len) f
   where
     within : (t : Bool) (e : Refusal) {vs : List DataType} → cond t (refused e) (ok us) ≡ ok vs → ok us ≡ ok vs
     within true e g = absurd (subst IsTypes (sym g) tt)
     within false e g = g
 
-abbrev layoutIn : SchemaCheck → RowLayout
-layoutIn (Good l) = l
-layoutIn (Refused e) = noColumns
+abbrev layout_in : SchemaCheck → RowLayout
+layout_in (Good l) = l
+layout_in (Refused e) = no_columns
 
-abbrev reasonIn : SchemaCheck → Refusal
-reasonIn (Good l) = NoRoom
-reasonIn (Refused e) = e
+abbrev reason_in : SchemaCheck → Refusal
+reason_in (Good l) = NoRoom
+reason_in (Refused e) = e
 
 abbrev IsGood : SchemaCheck → Type 0
 IsGood (Good l) = Unit {0}
 IsGood (Refused e) = ⊥
 
-good-columns : (k : Bool) (p : Parsed) {l : RowLayout} → checkedSchema k p ≡ Good l → (p ≡ ok (columnsOf p)) × (layoutFor k (columnsOf p) ≡ l)
-good-columns k (ok ts) e = (refl, ap layoutIn e)
+good-columns : (k : Bool) (p : Parsed) {l : RowLayout} → checked_schema k p ≡ Good l → (p ≡ ok (columns_of p)) × (layout_for k (columns_of p) ≡ l)
+good-columns k (ok ts) e = (refl, ap layout_in e)
 good-columns k (refused q) e = absurd (subst IsGood (sym e) tt)
 
-pub on-refused : {A : Type 0} (k : Bool) (p : Parsed) {e : Refusal} (bad : Refusal → A) (f : List DataType → A) → checkedSchema k p ≡ Refused e → bad e ≡ onResult p bad f
-on-refused k (ok ts) bad f q = absurd (subst IsGood q tt)
-on-refused k (refused r) bad f q = ap bad (sym (ap reasonIn q))
+pub on_refused : {A : Type 0} (k : Bool) (p : Parsed) {e : Refusal} (bad : Refusal → A) (f : List DataType → A) → checked_schema k p ≡ Refused e → bad e ≡ on_result p bad f
+on_refused k (ok ts) bad f q = absurd (subst IsGood q tt)
+on_refused k (refused r) bad f q = ap bad (sym (ap reason_in q))
 
-module _ (k : Bool) (s : List ℕ) {l : RowLayout} (e : checkedSchema k (schemaOf k s) ≡ Good l) where
-  good : (schemaOf k s ≡ ok (columnsOf (schemaOf k s))) × (layoutFor k (columnsOf (schemaOf k s)) ≡ l)
-  good = good-columns k (schemaOf k s) e
+module _ (k : Bool) (s : List ℕ) {l : RowLayout} (e : checked_schema k (schema_of k s) ≡ Good l) where
+  good : (schema_of k s ≡ ok (columns_of (schema_of k s))) × (layout_for k (columns_of (schema_of k s)) ≡ l)
+  good = good-columns k (schema_of k s) e
 
-  all-records : columnRecords 256 s 0 ≡ ok (columnsOf (schemaOf k s))
-  unfolding schemaOf
-  all-records = unlimited k (length s) (columnRecords 256 s 0) good.0
+  all-records : column_records 256 s 0 ≡ ok (columns_of (schema_of k s))
+  unfolding schema_of
+  all-records = unlimited k (length s) (column_records 256 s 0) good.0
 
-  same-columns : types_in s ≡ columnsOf (schemaOf k s)
+  same-columns : types_in s ≡ columns_of (schema_of k s)
   unfolding types_in
-  same-columns = ap columnsOf all-records
+  same-columns = ap columns_of all-records
 
   -- the layout is of the sort that was asked
   pub sort-is : l.is_long ≡ k
   sort-is = sym (ap (λ (m : RowLayout). m.is_long) good.1)
 
   -- so that the sort may be put in once more, for a caller that knows it: the compiler then does not ask the layout
-  pub sort-again : ofSort k l ≡ l
-  sort-again = subst (λ (q : Bool). ofSort q l ≡ l) sort-is refl
+  pub sort_again : of_sort k l ≡ l
+  sort_again = subst (λ (q : Bool). of_sort q l ≡ l) sort-is refl
 
   pub accepted : Bounded l → Accepted s l
-  accepted b = record { schema = all-records ∙ ap ok (sym same-columns); layout = subst (λ (q : Bool). layoutFor q (types_in s) ≡ l) (sym sort-is) (ap (layoutFor k) same-columns ∙ good.1); bounded = b }
+  accepted b = record { schema = all-records ∙ ap ok (sym same-columns); layout = subst (λ (q : Bool). layout_for q (types_in s) ≡ l) (sym sort-is) (ap (layout_for k) same-columns ∙ good.1); bounded = b }
 
-  pub on-good : {A : Type 0} (bad : Refusal → A) (f : List DataType → A) → f (types_in s) ≡ onResult (schemaOf k s) bad f
-  on-good bad f = sym (ap (λ (p : Parsed). onResult p bad f) good.0 ∙ ap f (sym same-columns))
+  pub on_good : {A : Type 0} (bad : Refusal → A) (f : List DataType → A) → f (types_in s) ≡ on_result (schema_of k s) bad f
+  on_good bad f = sym (ap (λ (p : Parsed). on_result p bad f) good.0 ∙ ap f (sym same-columns))

@@ -5,12 +5,12 @@ use mathlib.Core.Bool.{Bool, true, false, cond, ◌||◌, false≢true}
 use native.Mathlib.Omega.{arith}
 use borrow.Author.Tests.{ne_eqb, eqb-true, eqb-false}
 use lib.Dec.{eqb}
-use Rattle.laws.proofs.Truths.{or-none}
+use Rattle.laws.proofs.Truths.{or_none}
 use Rattle.datatype.specs.declared.DataType.{DataType}
 use Rattle.datatype.specs.declared.DataType.TheVariants as T
 use Rattle.datatype.specs.Types.{size_of}
-use Rattle.datatype.specs.Schema.{Kind, unknown, plain, sized, digits, columnKind}
-use Rattle.datatype.specs.InnerSteps.{plainSize, isVarcharKind}
+use Rattle.datatype.specs.Schema.{Kind, unknown, plain, sized, digits, column_kind}
+use Rattle.datatype.specs.InnerSteps.{plain_size, is_varchar_kind}
 
 -- a kind that is followed by a body, or none
 pub data Bodied : Kind → Type 0 where
@@ -31,17 +31,17 @@ pub data Body (k : ℕ) : Kind → Type 0 where
 
 module _ (k : ℕ) where
   -- a line of the table without a body, and one with it
-  past : (t : Bool) (u : DataType) (q : Kind) → (size_of u ≡ 0 → ⊥) → (plainSize q ≡ 0 → Body k q)
-      → plainSize (cond t (plain u) q) ≡ 0 → Body k (cond t (plain u) q)
+  past : (t : Bool) (u : DataType) (q : Kind) → (size_of u ≡ 0 → ⊥) → (plain_size q ≡ 0 → Body k q)
+      → plain_size (cond t (plain u) q) ≡ 0 → Body k (cond t (plain u) q)
   past true u q h f e = absurd (h e)
   past false u q h f e = f e
 
-  told : (t : Bool) (x q : Kind) → (t ≡ true → Body k x) → (plainSize q ≡ 0 → Body k q)
-      → plainSize (cond t x q) ≡ 0 → Body k (cond t x q)
+  told : (t : Bool) (x q : Kind) → (t ≡ true → Body k x) → (plain_size q ≡ 0 → Body k q)
+      → plain_size (cond t x q) ≡ 0 → Body k (cond t x q)
   told true x q p f e = p refl
   told false x q p f e = f e
 
-  pub body_of : plainSize (columnKind k) ≡ 0 → Body k (columnKind k)
+  pub body_of : plain_size (column_kind k) ≡ 0 → Body k (column_kind k)
   body_of =
       past (eqb k 1) T.SmallInt _ (λ e. omega (arith, e))
       (past (eqb k 2) T.Int _ (λ e. omega (arith, e))
@@ -60,22 +60,22 @@ module _ (k : ℕ) where
       (past (eqb k 15) T.Timestamp _ (λ e. omega (arith, e))
       (told (eqb k 16) (sized (T.Varchar true)) unknown (λ e. sixteen (eqb-true k 16 e)) (λ e. nothing))))))))))))))))
 
-  bodied-in : {q : Kind} → Body k q → Bodied q
-  bodied-in (six e) = pair
-  bodied-in (seven e) = pair
-  bodied-in (nine e) = word
-  bodied-in (ten e) = word
-  bodied-in (eleven e) = word
-  bodied-in (fourteen e) = word
-  bodied-in (sixteen e) = word
-  bodied-in nothing = no
+  bodied_in : {q : Kind} → Body k q → Bodied q
+  bodied_in (six e) = pair
+  bodied_in (seven e) = pair
+  bodied_in (nine e) = word
+  bodied_in (ten e) = word
+  bodied_in (eleven e) = word
+  bodied_in (fourteen e) = word
+  bodied_in (sixteen e) = word
+  bodied_in nothing = no
 
-  pub bodied : plainSize (columnKind k) ≡ 0 → Bodied (columnKind k)
-  bodied e = bodied-in (body_of e)
+  pub bodied : plain_size (column_kind k) ≡ 0 → Bodied (column_kind k)
+  bodied e = bodied_in (body_of e)
 
   -- none of their numbers
-  pub no_kind : plainSize (columnKind k) ≡ 0 → (k ≡ 6 → ⊥) → (k ≡ 7 → ⊥) → (k ≡ 9 → ⊥) → (k ≡ 10 → ⊥) → (k ≡ 11 → ⊥)
-      → (k ≡ 14 → ⊥) → (k ≡ 16 → ⊥) → columnKind k ≡ unknown
+  pub no_kind : plain_size (column_kind k) ≡ 0 → (k ≡ 6 → ⊥) → (k ≡ 7 → ⊥) → (k ≡ 9 → ⊥) → (k ≡ 10 → ⊥) → (k ≡ 11 → ⊥)
+      → (k ≡ 14 → ⊥) → (k ≡ 16 → ⊥) → column_kind k ≡ unknown
   no_kind z a b c d f g h = of (body_of z)
     where
       of : {q : Kind} → Body k q → q ≡ unknown
@@ -93,18 +93,18 @@ module _ (k : ℕ) where
   either true x y p q = p
   either false x y p q = q
 
-  passed-by : (x y : Kind) → Bodied y → Bodied (cond false x y)
-  passed-by x y p = p
+  passed_by : (x y : Kind) → Bodied y → Bodied (cond false x y)
+  passed_by x y p = p
 
-  body-size : {q : Kind} → Bodied q → plainSize q ≡ 0
-  body-size no = refl
-  body-size word = refl
-  body-size pair = refl
+  body_size : {q : Kind} → Bodied q → plain_size q ≡ 0
+  body_size no = refl
+  body_size word = refl
+  body_size pair = refl
 
   module _ (a : k ≡ 1 → ⊥) (b : k ≡ 2 → ⊥) (c : k ≡ 3 → ⊥) (d : k ≡ 4 → ⊥) (e : k ≡ 5 → ⊥) (f : k ≡ 8 → ⊥)
       (g : k ≡ 12 → ⊥) (h : k ≡ 13 → ⊥) where
-    bodied-left : (k ≡ 15 → ⊥) → Bodied (columnKind k)
-    bodied-left i =
+    bodied_left : (k ≡ 15 → ⊥) → Bodied (column_kind k)
+    bodied_left i =
         rw (
           ne_eqb k 1 a,
           ne_eqb k 2 b,
@@ -116,27 +116,27 @@ module _ (k : ℕ) where
           ne_eqb k 13 h,
           ne_eqb k 15 i,
         )
-        (search (passed-by, either, no, word, pair) depth 9)
+        (search (passed_by, either, no, word, pair) depth 9)
 
-    pub not_plain : (k ≡ 15 → ⊥) → plainSize (columnKind k) ≡ 0
-    not_plain i = body-size (bodied-left i)
+    pub not_plain : (k ≡ 15 → ⊥) → plain_size (column_kind k) ≡ 0
+    not_plain i = body_size (bodied_left i)
 
-    pub last-plain : (plainSize (columnKind k) ≡ 0 → ⊥) → columnKind k ≡ plain T.Timestamp
-    last-plain some = by_number (eqb k 15) refl
+    pub last_plain : (plain_size (column_kind k) ≡ 0 → ⊥) → column_kind k ≡ plain T.Timestamp
+    last_plain some = by_number (eqb k 15) refl
       where
-        by_number : (t : Bool) → eqb k 15 ≡ t → columnKind k ≡ plain T.Timestamp
+        by_number : (t : Bool) → eqb k 15 ≡ t → column_kind k ≡ plain T.Timestamp
         by_number true u = rw (eqb-true k 15 u)
         by_number false u = absurd (some (not_plain (eqb-false k 15 u)))
 
   -- 11 and 16 are Varchars, whose n is in code points for 16; no other kind is
-  pub varchar-kind : isVarcharKind k ≡ true → columnKind k ≡ sized (T.Varchar (eqb k 16))
+  pub varchar-kind : is_varchar_kind k ≡ true → column_kind k ≡ sized (T.Varchar (eqb k 16))
   varchar-kind e = of (eqb k 11) (eqb k 16) refl refl e
     where
-      of : (t u : Bool) → eqb k 11 ≡ t → eqb k 16 ≡ u → (t || u) ≡ true → columnKind k ≡ sized (T.Varchar u)
+      of : (t u : Bool) → eqb k 11 ≡ t → eqb k 16 ≡ u → (t || u) ≡ true → column_kind k ≡ sized (T.Varchar u)
       of true true f g h = absurd (omega (arith, eqb-true k 11 f, eqb-true k 16 g))
       of true false f g h = rw (eqb-true k 11 f)
       of false true f g h = rw (eqb-true k 16 g)
       of false false f g h = absurd (false≢true h)
 
-  pub no-varchar : isVarcharKind k ≡ false → (k ≡ 11 → ⊥) × (k ≡ 16 → ⊥)
-  no-varchar e = let n = or-none (eqb k 11) (eqb k 16) e in (eqb-false k 11 n.0, eqb-false k 16 n.1)
+  pub no-varchar : is_varchar_kind k ≡ false → (k ≡ 11 → ⊥) × (k ≡ 16 → ⊥)
+  no-varchar e = let n = or_none (eqb k 11) (eqb k 16) e in (eqb-false k 11 n.0, eqb-false k 16 n.1)

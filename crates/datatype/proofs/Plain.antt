@@ -9,22 +9,22 @@ use lib.Dec.{ltb}
 use lib.ListN.{length, get_or, take, drop}
 use Rattle.error.specs.declared.Refusal.{Refusal}
 use Rattle.error.specs.declared.Refusal.TheVariants.{BadRecord, BadSchema}
-use Rattle.laws.specs.Bytes.{fromLe}
+use Rattle.laws.specs.Bytes.{from_le}
 use Rattle.row_format.specs.declared.Shape.{Shape}
 use Rattle.row_format.specs.declared.Shape.TheVariants.{Fixed}
 use Rattle.row_layout.specs.declared.RowLayout.{RowLayout}
-use Rattle.row_layout.specs.InnerLayout.{withColumn}
+use Rattle.row_layout.specs.InnerLayout.{with_column}
 use Rattle.datatype.specs.declared.DataType.{DataType}
 use Rattle.datatype.specs.declared.DataType.TheVariants as T
 use Rattle.datatype.specs.declared.Record.{Record}
 use Rattle.datatype.specs.declared.Record.TheVariants.{Column, Refused}
-use Rattle.datatype.specs.Types.{size_of, alignmentOf, isVarlen, shape_of}
-use Rattle.datatype.specs.Schema.{Kind, unknown, plain, sized, digits, columnKind, goodDigits, unlessCut, columnRecordOf, columnRecordAt}
-use Rattle.datatype.specs.InnerSteps.{plainSize, plainType, bodyShape, typeIn, passed}
+use Rattle.datatype.specs.Types.{size_of, alignment_of, is_varlen, shape_of}
+use Rattle.datatype.specs.Schema.{Kind, unknown, plain, sized, digits, column_kind, good_digits, unless_cut, column_record_of, column_record_at}
+use Rattle.datatype.specs.InnerSteps.{plain_size, plain_type, body_shape, type_in, passed}
 use Rattle.datatype.proofs.KindTable.{Body, six, seven, nine, ten, eleven, fourteen, sixteen, nothing, body_of}
 
 -- a plain kind is told by its size
-pub is_plain : (q : Kind) → (plainSize q ≡ 0 → ⊥) → q ≡ plain (plainType q)
+pub is_plain : (q : Kind) → (plain_size q ≡ 0 → ⊥) → q ≡ plain (plain_type q)
 is_plain unknown h = absurd (h refl)
 is_plain (plain t) h = refl
 is_plain (sized t) h = absurd (h refl)
@@ -33,7 +33,7 @@ is_plain (digits t) h = absurd (h refl)
 -- ---- its column takes as many bytes as its alignment
 
 data Square : Kind → Type 0 where
-  square : {t : DataType} → isVarlen t ≡ false → alignmentOf t ≡ size_of t → Square (plain t)
+  square : {t : DataType} → is_varlen t ≡ false → alignment_of t ≡ size_of t → Square (plain t)
   none : Square unknown
   sized-kind : {t : ℕ → DataType} → Square (sized t)
   digits-kind : {t : ℕ → ℕ → DataType} → Square (digits t)
@@ -42,61 +42,61 @@ chosen : (t : Bool) (x y : Kind) → Square x → Square y → Square (cond t x 
 chosen true x y p q = p
 chosen false x y p q = q
 
-squares : (k : ℕ) → Square (columnKind k)
+squares : (k : ℕ) → Square (column_kind k)
 squares k = search (chosen, square, none, sized-kind, digits-kind) depth 19
 
 pub record Plain (q : Kind) : Type 0 where
-  pub fixed : isVarlen (plainType q) ≡ false
-  pub aligned : alignmentOf (plainType q) ≡ plainSize q
-  pub sized : size_of (plainType q) ≡ plainSize q
+  pub fixed : is_varlen (plain_type q) ≡ false
+  pub aligned : alignment_of (plain_type q) ≡ plain_size q
+  pub sized : size_of (plain_type q) ≡ plain_size q
 
-facts : {q : Kind} → Square q → (plainSize q ≡ 0 → ⊥) → Plain q
+facts : {q : Kind} → Square q → (plain_size q ≡ 0 → ⊥) → Plain q
 facts (square e f) h = record { fixed = e; aligned = f; sized = refl }
 facts none h = absurd (h refl)
 facts sized-kind h = absurd (h refl)
 facts digits-kind h = absurd (h refl)
 
-pub plain-facts : (k : ℕ) → (plainSize (columnKind k) ≡ 0 → ⊥) → Plain (columnKind k)
-plain-facts k h = facts (squares k) h
+pub plain_facts : (k : ℕ) → (plain_size (column_kind k) ≡ 0 → ⊥) → Plain (column_kind k)
+plain_facts k h = facts (squares k) h
 
 -- ---- the record at a place
 
 -- one that is not cut off, where none is refused
-uncut : (s : List ℕ) (at : ℕ) (r : Record) → ((e : Refusal) → unlessCut s at r ≡ Refused e → ⊥) → (at + 3 ≤ length s) × (unlessCut s at r ≡ r)
+uncut : (s : List ℕ) (at : ℕ) (r : Record) → ((e : Refusal) → unless_cut s at r ≡ Refused e → ⊥) → (at + 3 ≤ length s) × (unless_cut s at r ≡ r)
 uncut s at r good = of (ltb (length s) (at + 3)) refl
   where
-    of : (x : Bool) → ltb (length s) (at + 3) ≡ x → (at + 3 ≤ length s) × (unlessCut s at r ≡ r)
+    of : (x : Bool) → ltb (length s) (at + 3) ≡ x → (at + 3 ≤ length s) × (unless_cut s at r ≡ r)
     of true e = absurd (good (BadRecord at) (rw e))
     of false e = (ltb-false (length s) (at + 3) e, rw e)
 
 module _ (s : List ℕ) (at : ℕ) where
   abbrev kind : Kind
-  kind = columnKind (get_or s at 0)
+  kind = column_kind (get_or s at 0)
 
-  pub plain-record : (plainSize kind ≡ 0 → ⊥) → columnRecordAt s at ≡ Column (plainType kind) (at + 1)
-  plain-record h = ap (λ (q : Kind). columnRecordOf q s at) (is_plain kind h)
+  pub plain_record : (plain_size kind ≡ 0 → ⊥) → column_record_at s at ≡ Column (plain_type kind) (at + 1)
+  plain_record h = ap (λ (q : Kind). column_record_of q s at) (is_plain kind h)
 
   -- a column of z bytes that was added to a layout
-  pub plain-added : (b : RowLayout) {z : ℕ} {l : RowLayout} → z ≡ plainSize kind → (z ≡ 0 → ⊥) → l ≡ withColumn b (Fixed z z) → l ≡ withColumn b (shape_of (plainType kind))
-  plain-added b {z} e n f =
-      let h : plainSize kind ≡ 0 → ⊥ = λ g. n (e ∙ g) in
-      let p = plain-facts (get_or s at 0) h in
+  pub plain_added : (b : RowLayout) {z : ℕ} {l : RowLayout} → z ≡ plain_size kind → (z ≡ 0 → ⊥) → l ≡ with_column b (Fixed z z) → l ≡ with_column b (shape_of (plain_type kind))
+  plain_added b {z} e n f =
+      let h : plain_size kind ≡ 0 → ⊥ = λ g. n (e ∙ g) in
+      let p = plain_facts (get_or s at 0) h in
       f ∙ rw (e, p.fixed, p.aligned, p.sized)
 
   -- n, where no record is refused
-  pub sized-record : ((e : Refusal) → columnRecordAt s at ≡ Refused e → ⊥) → (t : ℕ → DataType) → kind ≡ sized t → (at + 3 ≤ length s) × (typeIn (columnRecordAt s at) ≡ t (fromLe (take 2 (drop (at + 1) s))))
-  sized-record good t k =
-      let here = ap (λ (q : Kind). columnRecordOf q s at) k in
-      let u = uncut s at (Column (t (fromLe (take 2 (drop (at + 1) s)))) (at + 3)) (λ e f. good e (here ∙ f)) in
-      (u.0, ap typeIn (here ∙ u.1))
+  pub sized_record : ((e : Refusal) → column_record_at s at ≡ Refused e → ⊥) → (t : ℕ → DataType) → kind ≡ sized t → (at + 3 ≤ length s) × (type_in (column_record_at s at) ≡ t (from_le (take 2 (drop (at + 1) s))))
+  sized_record good t k =
+      let here = ap (λ (q : Kind). column_record_of q s at) k in
+      let u = uncut s at (Column (t (from_le (take 2 (drop (at + 1) s)))) (at + 3)) (λ e f. good e (here ∙ f)) in
+      (u.0, ap type_in (here ∙ u.1))
 
 -- ---- a body, by the number of its kind
 
-module _ (k : ℕ) (body : plainSize (columnKind k) ≡ 0) (known : columnKind k ≡ unknown → ⊥) (a n : ℕ) where
-  pub short-kind : k ≤ 7 → Fixed ((a + 2) / 2) 1 ≡ bodyShape (columnKind k) a n
-  short-kind h = of (columnKind k) (body_of k body) known
+module _ (k : ℕ) (body : plain_size (column_kind k) ≡ 0) (known : column_kind k ≡ unknown → ⊥) (a n : ℕ) where
+  pub short-kind : k ≤ 7 → Fixed ((a + 2) / 2) 1 ≡ body_shape (column_kind k) a n
+  short-kind h = of (column_kind k) (body_of k body) known
     where
-      of : (q : Kind) → Body k q → (q ≡ unknown → ⊥) → Fixed ((a + 2) / 2) 1 ≡ bodyShape q a n
+      of : (q : Kind) → Body k q → (q ≡ unknown → ⊥) → Fixed ((a + 2) / 2) 1 ≡ body_shape q a n
       of q (six e) f = refl
       of q (seven e) f = refl
       of q (nine e) f = absurd (omega (arith, h, e))
@@ -106,10 +106,10 @@ module _ (k : ℕ) (body : plainSize (columnKind k) ≡ 0) (known : columnKind k
       of q (sixteen e) f = absurd (omega (arith, h, e))
       of q nothing f = absurd (f refl)
 
-  pub long-kind : 7 < k → (k ≡ 11 → ⊥) → (k ≡ 14 → ⊥) → (k ≡ 16 → ⊥) → Fixed n 1 ≡ bodyShape (columnKind k) a n
-  long-kind h x y z = of (columnKind k) (body_of k body) known
+  pub long-kind : 7 < k → (k ≡ 11 → ⊥) → (k ≡ 14 → ⊥) → (k ≡ 16 → ⊥) → Fixed n 1 ≡ body_shape (column_kind k) a n
+  long-kind h x y z = of (column_kind k) (body_of k body) known
     where
-      of : (q : Kind) → Body k q → (q ≡ unknown → ⊥) → Fixed n 1 ≡ bodyShape q a n
+      of : (q : Kind) → Body k q → (q ≡ unknown → ⊥) → Fixed n 1 ≡ body_shape q a n
       of q (six e) f = absurd (omega (arith, h, e))
       of q (seven e) f = absurd (omega (arith, h, e))
       of q (nine e) f = refl
@@ -127,43 +127,43 @@ unspoilt false c e good = absurd (good refl)
 
 module _ (s : List ℕ) (at : ℕ) (b : RowLayout) where
   abbrev Passed : Kind → Type 0
-  Passed q = (at + 3 ≤ length s) × (passed at b (columnRecordOf q s at) ≡ record { at = at + 3; before = withColumn b (bodyShape q (get_or s (at + 1) 0) (fromLe (take 2 (drop (at + 1) s)))) })
+  Passed q = (at + 3 ≤ length s) × (passed at b (column_record_of q s at) ≡ record { at = at + 3; before = with_column b (body_shape q (get_or s (at + 1) 0) (from_le (take 2 (drop (at + 1) s)))) })
 
-  pass-digits : (t : ℕ → ℕ → DataType) → ((p z : ℕ) → shape_of (t p z) ≡ shape_of (t p 0)) → ((e : Refusal) → columnRecordOf (digits t) s at ≡ Refused e → ⊥) → Passed (digits t)
-  pass-digits t same good =
+  pass_digits : (t : ℕ → ℕ → DataType) → ((p z : ℕ) → shape_of (t p z) ≡ shape_of (t p 0)) → ((e : Refusal) → column_record_of (digits t) s at ≡ Refused e → ⊥) → Passed (digits t)
+  pass_digits t same good =
       let p : ℕ = get_or s (at + 1) 0 in
       let z : ℕ = get_or s (at + 2) 0 in
       let c : Record = Column (t p z) (at + 3) in
-      let u = uncut s at (cond (goodDigits p z) c (Refused (BadSchema at))) good in
-      let v = unspoilt (goodDigits p z) c (BadSchema at) (λ e. good (BadSchema at) (u.1 ∙ e)) in
-      (u.0, ap (passed at b) (u.1 ∙ v) ∙ ap (λ (y : Shape). record { at = at + 3; before = withColumn b y }) (same p z))
+      let u = uncut s at (cond (good_digits p z) c (Refused (BadSchema at))) good in
+      let v = unspoilt (good_digits p z) c (BadSchema at) (λ e. good (BadSchema at) (u.1 ∙ e)) in
+      (u.0, ap (passed at b) (u.1 ∙ v) ∙ ap (λ (y : Shape). record { at = at + 3; before = with_column b y }) (same p z))
 
-  pass-sized : (t : ℕ → DataType) → ((e : Refusal) → columnRecordOf (sized t) s at ≡ Refused e → ⊥) → Passed (sized t)
-  pass-sized t good = let u = uncut s at (Column (t (fromLe (take 2 (drop (at + 1) s)))) (at + 3)) good in (u.0, ap (passed at b) u.1)
+  pass_sized : (t : ℕ → DataType) → ((e : Refusal) → column_record_of (sized t) s at ≡ Refused e → ⊥) → Passed (sized t)
+  pass_sized t good = let u = uncut s at (Column (t (from_le (take 2 (drop (at + 1) s)))) (at + 3)) good in (u.0, ap (passed at b) u.1)
 
-  pass-body : {k : ℕ} (q : Kind) → Body k q → ((e : Refusal) → columnRecordOf q s at ≡ Refused e → ⊥) → Passed q
-  pass-body q (six e) good = pass-digits T.Numeric (λ p z. refl) good
-  pass-body q (seven e) good = pass-digits T.Decimal (λ p z. refl) good
-  pass-body q (nine e) good = pass-sized T.Char good
-  pass-body q (ten e) good = pass-sized T.Character good
-  pass-body q (eleven e) good = pass-sized (T.Varchar false) good
-  pass-body q (fourteen e) good = pass-sized T.Bit good
-  pass-body q (sixteen e) good = pass-sized (T.Varchar true) good
-  pass-body q nothing good = absurd (good (BadRecord at) refl)
+  pass_body : {k : ℕ} (q : Kind) → Body k q → ((e : Refusal) → column_record_of q s at ≡ Refused e → ⊥) → Passed q
+  pass_body q (six e) good = pass_digits T.Numeric (λ p z. refl) good
+  pass_body q (seven e) good = pass_digits T.Decimal (λ p z. refl) good
+  pass_body q (nine e) good = pass_sized T.Char good
+  pass_body q (ten e) good = pass_sized T.Character good
+  pass_body q (eleven e) good = pass_sized (T.Varchar false) good
+  pass_body q (fourteen e) good = pass_sized T.Bit good
+  pass_body q (sixteen e) good = pass_sized (T.Varchar true) good
+  pass_body q nothing good = absurd (good (BadRecord at) refl)
 
-  module _ (good : (e : Refusal) → columnRecordAt s at ≡ Refused e → ⊥) (none : plainSize (columnKind (get_or s at 0)) ≡ 0) where
-    pub known-body : columnKind (get_or s at 0) ≡ unknown → ⊥
-    known-body u = good (BadRecord at) (ap (λ (q : Kind). columnRecordOf q s at) u)
+  module _ (good : (e : Refusal) → column_record_at s at ≡ Refused e → ⊥) (none : plain_size (column_kind (get_or s at 0)) ≡ 0) where
+    pub known_body : column_kind (get_or s at 0) ≡ unknown → ⊥
+    known_body u = good (BadRecord at) (ap (λ (q : Kind). column_record_of q s at) u)
 
-    body : Passed (columnKind (get_or s at 0))
-    body = pass-body (columnKind (get_or s at 0)) (body_of (get_or s at 0) none) good
+    body : Passed (column_kind (get_or s at 0))
+    body = pass_body (column_kind (get_or s at 0)) (body_of (get_or s at 0) none) good
 
-    pub pass-here : at + 3 ≤ length s
-    pass-here = body.0
+    pub pass_here : at + 3 ≤ length s
+    pass_here = body.0
 
-    pub body-passed : passed at b (columnRecordAt s at)
+    pub body_passed : passed at b (column_record_at s at)
         ≡ record {
           at = at + 3;
-          before = withColumn b (bodyShape (columnKind (get_or s at 0)) (get_or s (at + 1) 0) (fromLe (take 2 (drop (at + 1) s))));
+          before = with_column b (body_shape (column_kind (get_or s at 0)) (get_or s (at + 1) 0) (from_le (take 2 (drop (at + 1) s))));
         }
-    body-passed = body.1
+    body_passed = body.1

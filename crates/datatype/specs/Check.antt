@@ -6,19 +6,19 @@ use Rattle.row_layout.specs.Layout.{layout_of}
 use Rattle.datatype.specs.declared.DataType.{DataType}
 use Rattle.datatype.specs.declared.DataType.TheVariants.{Varchar}
 use Rattle.datatype.specs.Types.{shape_of}
-use Rattle.datatype.specs.Schema.{Parsed, columnRecords}
+use Rattle.datatype.specs.Schema.{Parsed, column_records}
 
 -- column i's type; the layout of all columns, for rows of a sort
 abbrev pub type_at : List DataType → ℕ → DataType
 type_at ts i = get_or ts i (Varchar false 0)
 
-abbrev pub layoutFor : Bool → List DataType → RowLayout
-layoutFor k ts = layout_of k (map shape_of ts)
+abbrev pub layout_for : Bool → List DataType → RowLayout
+layout_for k ts = layout_of k (map shape_of ts)
 
 -- the columns that records say, none where they are refused
-abbrev pub columnsOf : Parsed → List DataType
-columnsOf (ok ts) = ts
-columnsOf (refused r) = []
+abbrev pub columns_of : Parsed → List DataType
+columns_of (ok ts) = ts
+columns_of (refused r) = []
 
 unfoldable pub types_in : List ℕ → List DataType
-types_in s = columnsOf (columnRecords 256 s 0)
+types_in s = columns_of (column_records 256 s 0)

@@ -2,8 +2,8 @@
 use Rattle.std.specs.Prelude.{ℕ, zero, suc, ◌+◌, Bool, true, false, cond, ◌&&◌, List, [], map, eqb, leb, ltb, length, get_or, take, drop}
 use Rattle.error.specs.declared.Refusal.TheVariants.{BadRecord, BadSchema}
 use Rattle.error.specs.Result.{Result, ok, refused, before}
-use Rattle.laws.specs.Bytes.{fromLe}
-use Rattle.row_format.specs.Places.{offsetWidth, rowLimit, minimum}
+use Rattle.laws.specs.Bytes.{from_le}
+use Rattle.row_format.specs.Places.{offset_width, row_limit, minimum}
 use Rattle.datatype.specs.declared.DataType.{DataType}
 use Rattle.datatype.specs.declared.DataType.TheVariants.{SmallInt, Int, BigInt, Real, DoublePrecision, Numeric, Decimal, Bool as Boolean, Char, Character, Varchar, Date, Time, Bit, Timestamp}
 use Rattle.datatype.specs.declared.Record.{Record}
@@ -22,8 +22,8 @@ pub data Kind : Type 0 where
 -- "Schema kinds: 1 SmallInt, 2 Int, 3 BigInt, 4 Real, 5 DoublePrecision, 6 Numeric and 7 Decimal (precision, scale, a
 -- byte each), 8 Bool, 9 Char, 10 Character, 11 Varchar (n, two bytes), 12 Date, 13 Time, 14 Bit (n, two bytes), 15
 -- Timestamp"; 02, request 3: "Schema kind 16, body n in two bytes, is a Varchar of at most n code points"
-abbrev pub columnKind : ℕ → Kind
-columnKind k =
+abbrev pub column_kind : ℕ → Kind
+column_kind k =
     cond (eqb k 1) (plain SmallInt)
     (cond (eqb k 2) (plain Int)
     (cond (eqb k 3) (plain BigInt)
@@ -43,47 +43,47 @@ columnKind k =
     unknown)))))))))))))))
 
 -- 2: "precision outside 1 to 38; scale above precision"
-abbrev pub goodDigits : ℕ → ℕ → Bool
-goodDigits p s = leb 1 p && leb p 38 && leb s p
+abbrev pub good_digits : ℕ → ℕ → Bool
+good_digits p s = leb 1 p && leb p 38 && leb s p
 
 -- 1: "schema record of unknown kind, or cut off"
-abbrev pub unlessCut : List ℕ → ℕ → Record → Record
-unlessCut s at r = cond (ltb (length s) (at + 3)) (Refused (BadRecord at)) r
+abbrev pub unless_cut : List ℕ → ℕ → Record → Record
+unless_cut s at r = cond (ltb (length s) (at + 3)) (Refused (BadRecord at)) r
 
 -- a record's type and the place after it
-abbrev pub columnRecordOf : Kind → List ℕ → ℕ → Record
-columnRecordOf unknown s at = Refused (BadRecord at)
-columnRecordOf (plain t) s at = Column t (at + 1)
-columnRecordOf (sized t) s at = unlessCut s at (Column (t (fromLe (take 2 (drop (at + 1) s)))) (at + 3))
-columnRecordOf (digits t) s at =
-    unlessCut s at
-    (cond (goodDigits (get_or s (at + 1) 0) (get_or s (at + 2) 0))
+abbrev pub column_record_of : Kind → List ℕ → ℕ → Record
+column_record_of unknown s at = Refused (BadRecord at)
+column_record_of (plain t) s at = Column t (at + 1)
+column_record_of (sized t) s at = unless_cut s at (Column (t (from_le (take 2 (drop (at + 1) s)))) (at + 3))
+column_record_of (digits t) s at =
+    unless_cut s at
+    (cond (good_digits (get_or s (at + 1) 0) (get_or s (at + 2) 0))
     (Column (t (get_or s (at + 1) 0) (get_or s (at + 2) 0)) (at + 3)) (Refused (BadSchema at)))
 
-abbrev pub columnRecordAt : List ℕ → ℕ → Record
-columnRecordAt s at = columnRecordOf (columnKind (get_or s at 0)) s at
+abbrev pub column_record_at : List ℕ → ℕ → Record
+column_record_at s at = column_record_of (column_kind (get_or s at 0)) s at
 
 -- ---- the whole schema
 
 abbrev pub Parsed : Type 0
 Parsed = Result (List DataType)
 
-abbrev pub onColumnRecord : Record → (ℕ → Parsed) → Parsed
-onColumnRecord (Column t next) rest = before t (rest next)
-onColumnRecord (Refused r) rest = refused r
+abbrev pub on_column_record : Record → (ℕ → Parsed) → Parsed
+on_column_record (Column t next) rest = before t (rest next)
+on_column_record (Refused r) rest = refused r
 
 -- at most n records from a place on. "The first bad schema record decides"; 2: "a 257th record begins", "whatever its
 -- kind"
-abbrev pub columnRecords : ℕ → List ℕ → ℕ → Parsed
-columnRecords zero s at = cond (ltb at (length s)) (refused (BadSchema at)) (ok [])
-columnRecords (suc n) s at = cond (ltb at (length s)) (onColumnRecord (columnRecordAt s at) (columnRecords n s)) (ok [])
+abbrev pub column_records : ℕ → List ℕ → ℕ → Parsed
+column_records zero s at = cond (ltb at (length s)) (refused (BadSchema at)) (ok [])
+column_records (suc n) s at = cond (ltb at (length s)) (on_column_record (column_record_at s at) (column_records n s)) (ok [])
 
 -- 2: "after the last record, padded minimum above 65,535 (place: schema length)", for short rows, and by the limit of
 -- long rows for those
 abbrev pub limited : Bool → ℕ → Parsed → Parsed
 limited k len (ok ts) =
-    cond (ltb (rowLimit k) (minimum (offsetWidth k) false (map shape_of ts))) (refused (BadSchema len)) (ok ts)
+    cond (ltb (row_limit k) (minimum (offset_width k) false (map shape_of ts))) (refused (BadSchema len)) (ok ts)
 limited k len (refused r) = refused r
 
-unfoldable pub schemaOf : Bool → List ℕ → Parsed
-schemaOf k s = limited k (length s) (columnRecords 256 s 0)
+unfoldable pub schema_of : Bool → List ℕ → Parsed
+schema_of k s = limited k (length s) (column_records 256 s 0)

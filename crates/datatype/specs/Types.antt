@@ -24,60 +24,60 @@ size_of Time = 8
 size_of (Bit n) = (n + 7) / 8
 size_of Timestamp = 8
 
-abbrev pub alignmentOf : DataType → ℕ
-alignmentOf SmallInt = 2
-alignmentOf Int = 4
-alignmentOf BigInt = 8
-alignmentOf Real = 4
-alignmentOf DoublePrecision = 8
-alignmentOf (Numeric p s) = 1
-alignmentOf (Decimal p s) = 1
-alignmentOf Boolean = 1
-alignmentOf (Char n) = 1
-alignmentOf (Character n) = 1
-alignmentOf (Varchar p n) = 1
-alignmentOf Date = 4
-alignmentOf Time = 8
-alignmentOf (Bit n) = 1
-alignmentOf Timestamp = 8
+abbrev pub alignment_of : DataType → ℕ
+alignment_of SmallInt = 2
+alignment_of Int = 4
+alignment_of BigInt = 8
+alignment_of Real = 4
+alignment_of DoublePrecision = 8
+alignment_of (Numeric p s) = 1
+alignment_of (Decimal p s) = 1
+alignment_of Boolean = 1
+alignment_of (Char n) = 1
+alignment_of (Character n) = 1
+alignment_of (Varchar p n) = 1
+alignment_of Date = 4
+alignment_of Time = 8
+alignment_of (Bit n) = 1
+alignment_of Timestamp = 8
 
-abbrev pub isVarlen : DataType → Bool
-isVarlen SmallInt = false
-isVarlen Int = false
-isVarlen BigInt = false
-isVarlen Real = false
-isVarlen DoublePrecision = false
-isVarlen (Numeric p s) = false
-isVarlen (Decimal p s) = false
-isVarlen Boolean = false
-isVarlen (Char n) = false
-isVarlen (Character n) = false
-isVarlen (Varchar p n) = true
-isVarlen Date = false
-isVarlen Time = false
-isVarlen (Bit n) = false
-isVarlen Timestamp = false
+abbrev pub is_varlen : DataType → Bool
+is_varlen SmallInt = false
+is_varlen Int = false
+is_varlen BigInt = false
+is_varlen Real = false
+is_varlen DoublePrecision = false
+is_varlen (Numeric p s) = false
+is_varlen (Decimal p s) = false
+is_varlen Boolean = false
+is_varlen (Char n) = false
+is_varlen (Character n) = false
+is_varlen (Varchar p n) = true
+is_varlen Date = false
+is_varlen Time = false
+is_varlen (Bit n) = false
+is_varlen Timestamp = false
 
 abbrev pub shape_of : DataType → Shape
-shape_of t = cond (isVarlen t) Varlen (Fixed (size_of t) (alignmentOf t))
+shape_of t = cond (is_varlen t) Varlen (Fixed (size_of t) (alignment_of t))
 
 -- what a type was declared with: precision, scale and n, 0 where it has none
-abbrev pub precisionOf : DataType → ℕ
-precisionOf SmallInt = 0
-precisionOf Int = 0
-precisionOf BigInt = 0
-precisionOf Real = 0
-precisionOf DoublePrecision = 0
-precisionOf (Numeric p s) = p
-precisionOf (Decimal p s) = p
-precisionOf Boolean = 0
-precisionOf (Char n) = 0
-precisionOf (Character n) = 0
-precisionOf (Varchar p n) = 0
-precisionOf Date = 0
-precisionOf Time = 0
-precisionOf (Bit n) = 0
-precisionOf Timestamp = 0
+abbrev pub precision_of : DataType → ℕ
+precision_of SmallInt = 0
+precision_of Int = 0
+precision_of BigInt = 0
+precision_of Real = 0
+precision_of DoublePrecision = 0
+precision_of (Numeric p s) = p
+precision_of (Decimal p s) = p
+precision_of Boolean = 0
+precision_of (Char n) = 0
+precision_of (Character n) = 0
+precision_of (Varchar p n) = 0
+precision_of Date = 0
+precision_of Time = 0
+precision_of (Bit n) = 0
+precision_of Timestamp = 0
 
 abbrev pub scale_of : DataType → ℕ
 scale_of SmallInt = 0
@@ -115,19 +115,19 @@ length_of Timestamp = 0
 
 -- whether n counts code points, as 02, request 3, has it for kind 16: "a Varchar of at most n code points"; else it
 -- counts bytes, of a Bit bits
-abbrev pub countsPoints : DataType → Bool
-countsPoints SmallInt = false
-countsPoints Int = false
-countsPoints BigInt = false
-countsPoints Real = false
-countsPoints DoublePrecision = false
-countsPoints (Numeric p s) = false
-countsPoints (Decimal p s) = false
-countsPoints Boolean = false
-countsPoints (Char n) = false
-countsPoints (Character n) = false
-countsPoints (Varchar p n) = p
-countsPoints Date = false
-countsPoints Time = false
-countsPoints (Bit n) = false
-countsPoints Timestamp = false
+abbrev pub counts_points : DataType → Bool
+counts_points SmallInt = false
+counts_points Int = false
+counts_points BigInt = false
+counts_points Real = false
+counts_points DoublePrecision = false
+counts_points (Numeric p s) = false
+counts_points (Decimal p s) = false
+counts_points Boolean = false
+counts_points (Char n) = false
+counts_points (Character n) = false
+counts_points (Varchar p n) = p
+counts_points Date = false
+counts_points Time = false
+counts_points (Bit n) = false
+counts_points Timestamp = false

@@ -3,11 +3,11 @@ pub mod schema_kinds;
 
 ghost use Rattle.std.specs.Prelude.{◌≡◌, false, ◌<◌, ◌≤◌, length};
 ghost use Rattle.row_layout.specs.InnerLayout.{Bounded, Small};
-ghost use Rattle.row_format.specs.Places.{offsetWidth, rowLimit};
-ghost use Rattle.datatype.specs.Types.{size_of, alignmentOf, isVarlen, shape_of, precisionOf, scale_of, length_of, countsPoints};
-ghost use Rattle.datatype.specs.Schema.{unknown, goodDigits, columnKind, columnRecordOf, columnRecordAt, schemaOf};
-ghost use Rattle.datatype.specs.InnerSteps.{plainSize, isVarcharKind, bodyShape, Passable, passed};
-ghost use Rattle.datatype.specs.InnerCheck.{BoundedIn, checkedSchema, finished};
+ghost use Rattle.row_format.specs.Places.{offset_width, row_limit};
+ghost use Rattle.datatype.specs.Types.{size_of, alignment_of, is_varlen, shape_of, precision_of, scale_of, length_of, counts_points};
+ghost use Rattle.datatype.specs.Schema.{unknown, good_digits, column_kind, column_record_of, column_record_at, schema_of};
+ghost use Rattle.datatype.specs.InnerSteps.{plain_size, is_varchar_kind, body_shape, Passable, passed};
+ghost use Rattle.datatype.specs.InnerCheck.{BoundedIn, checked_schema, finished};
 
 use error::Refusal;
 use row_format::Shape;
@@ -35,7 +35,7 @@ pub enum DataType {
 
 impl DataType {
     pub fn alignment(self) -> usize
-        ensures { (result ≡ alignmentOf self) × ((0 < result) × (result ≤ 8)) }
+        ensures { (result ≡ alignment_of self) × ((0 < result) × (result ≤ 8)) }
     {
         match self {
             DataType::SmallInt => 2,
@@ -92,7 +92,7 @@ impl DataType {
     }
 
     pub fn is_variable_length(self) -> bool
-        ensures { result ≡ isVarlen self }
+        ensures { result ≡ is_varlen self }
     {
         match self {
             DataType::SmallInt => false,
@@ -121,7 +121,7 @@ impl DataType {
 
     // The digits of a Numeric or Decimal; 0 for other types.
     pub fn precision(self) -> u8
-        ensures { result ≡ precisionOf self }
+        ensures { result ≡ precision_of self }
     {
         match self {
             DataType::SmallInt => 0,
@@ -208,7 +208,7 @@ impl DataType {
 
     // Whether that n counts code points; false for all types but such a Varchar.
     pub fn counts_points(self) -> bool
-        ensures { result ≡ countsPoints self }
+        ensures { result ≡ counts_points self }
     {
         match self {
             DataType::SmallInt => false,
@@ -256,15 +256,15 @@ pub enum Record {
 
 // Whether NUMERIC(precision, scale) is a type.
 fn good_digits(precision: u8, scale: u8) -> bool
-    ensures { result ≡ goodDigits precision scale }
+    ensures { result ≡ good_digits precision scale }
 {
     (1 <= precision) & (precision <= 38) & (scale <= precision)
 }
 
 // A record of a kind that is followed by two bytes, or of no kind.
 fn body_at(schema: &[u8], at: usize, kind: u8) -> Record
-    requires { (at < length schema.now) × (plainSize (columnKind kind) ≡ 0) }
-    ensures { result ≡ columnRecordOf (columnKind kind) schema.now at }
+    requires { (at < length schema.now) × (plain_size (column_kind kind) ≡ 0) }
+    ensures { result ≡ column_record_of (column_kind kind) schema.now at }
 {
     if schema.len() - at < 3 {
         return Record::Refused(Refusal::BadRecord(at));
@@ -306,7 +306,7 @@ fn body_at(schema: &[u8], at: usize, kind: u8) -> Record
 
 // The bytes of a column whose kind is followed by no body, which are its alignment too; 0 for other kinds.
 pub fn plain_size(kind: u8) -> usize
-    ensures { (result ≡ plainSize (columnKind kind)) × (result ≤ 8) }
+    ensures { (result ≡ plain_size (column_kind kind)) × (result ≤ 8) }
 {
     match kind {
         schema_kinds::SMALL_INT => 2,
@@ -324,7 +324,7 @@ pub fn plain_size(kind: u8) -> usize
 
 pub fn record_at(schema: &[u8], at: usize) -> Record
     requires { at < length schema.now }
-    ensures { result ≡ columnRecordAt schema.now at }
+    ensures { result ≡ column_record_at schema.now at }
 {
     let kind = schema[at];
     let next = at + 1;
@@ -344,7 +344,7 @@ pub fn record_at(schema: &[u8], at: usize) -> Record
 
 // Whether a kind is a Varchar's, n in bytes or in code points.
 pub fn is_varchar(kind: u8) -> bool
-    ensures { result ≡ isVarcharKind kind }
+    ensures { result ≡ is_varchar_kind kind }
 {
     (kind == schema_kinds::VARCHAR) | (kind == schema_kinds::VARCHAR_CHARS)
 }
@@ -359,8 +359,8 @@ pub struct Step {
 // What the layout sees of a kind that is followed by a body: `first` is the body's first byte, n both. Of these kinds
 // Numeric and Decimal come first.
 fn body_shape(kind: u8, first: u8, n: u16) -> Shape
-    requires { (plainSize (columnKind kind) ≡ 0) × (columnKind kind ≡ unknown → ⊥) }
-    ensures { (result ≡ bodyShape (columnKind kind) first n) × Small result }
+    requires { (plain_size (column_kind kind) ≡ 0) × (column_kind kind ≡ unknown → ⊥) }
+    ensures { (result ≡ body_shape (column_kind kind) first n) × Small result }
 {
     if is_varchar(kind) {
         return Shape::Varlen;
@@ -378,7 +378,7 @@ fn body_shape(kind: u8, first: u8, n: u16) -> Shape
 // at no more of the type than the layout does, and is short, so that the compiler puts it into each loop that walks.
 pub fn next_column(schema: &[u8], at: usize, before: RowLayout) -> Step
     requires { Passable schema.now at × ((before.num_columns < 256) × Bounded before) }
-    ensures { (result ≡ passed at before (columnRecordAt schema.now at)) × Bounded result.before }
+    ensures { (result ≡ passed at before (column_record_at schema.now at)) × Bounded result.before }
 {
     let kind = schema[at];
     let size = plain_size(kind);
@@ -416,7 +416,7 @@ pub fn finish(layout: RowLayout, at: usize) -> SchemaCheck
 
 // The check of a schema for the rows of a sort.
 pub fn check_schema(schema: &[u8], is_long: bool) -> SchemaCheck
-    ensures { (result ≡ checkedSchema is_long (schemaOf is_long schema.now)) × BoundedIn result }
+    ensures { (result ≡ checked_schema is_long (schema_of is_long schema.now)) × BoundedIn result }
 {
     let mut layout = RowLayout::new().of_sort(is_long);
     let mut at = 0;

@@ -23,12 +23,12 @@ placed out x = cond (ltb (length out) (length x)) (unchanged out NoRoom) (Done (
 abbrev pub Counted : Type 0
 Counted = Answer × (List ℕ × List ℕ)
 
-abbrev pub unchangedBoth : List ℕ → List ℕ → Refusal → Counted
-unchangedBoth out counts e = (Refused e, (out, counts))
+abbrev pub unchanged_both : List ℕ → List ℕ → Refusal → Counted
+unchanged_both out counts e = (Refused e, (out, counts))
 
 -- 02, request 1: "a list of fewer numbers than columns gives 14": x goes to the output, and ns, a number for each
 -- column, to the list, whose other numbers are as before
-abbrev pub placedBoth : List ℕ → List ℕ → List ℕ → List ℕ → Counted
-placedBoth out counts x ns =
-    cond (ltb (length out) (length x) || ltb (length counts) (length ns)) (unchangedBoth out counts NoRoom)
+abbrev pub placed_both : List ℕ → List ℕ → List ℕ → List ℕ → Counted
+placed_both out counts x ns =
+    cond (ltb (length out) (length x) || ltb (length counts) (length ns)) (unchanged_both out counts NoRoom)
     (Done (length x), (sets out 0 x, sets counts 0 ns))

@@ -7,9 +7,9 @@ pub data Result (A : Type 0) : Type 0 where
   refused : Refusal → Result A
 
 -- gone on with the result, or with what refused it
-abbrev pub onResult : {A B : Type 0} → Result A → (Refusal → B) → (A → B) → B
-onResult (ok x) bad k = k x
-onResult (refused e) bad k = bad e
+abbrev pub on_result : {A B : Type 0} → Result A → (Refusal → B) → (A → B) → B
+on_result (ok x) bad k = k x
+on_result (refused e) bad k = bad e
 
 -- one more in front of a list
 abbrev pub before : {A : Type 0} → A → Result (List A) → Result (List A)

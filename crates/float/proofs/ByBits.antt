@@ -12,28 +12,28 @@ use lib.Ieee.Nearest.{div_same}
 use lib.Ieee.Bits.{to_bits-of_bits}
 use borrow.Author.Tests.{eqb-true, eq-eqb}
 use Rattle.laws.proofs.Truths.{and_left, and_right, same}
-use Rattle.float.specs.Same.{sameFloat, sameValue}
-use Rattle.float.specs.Patterns.{withoutSign, zeroPattern, nanPattern, sameBits, Alike, nans, zeros, equal}
-use Rattle.float.proofs.Nan.{nan_pattern}
+use Rattle.float.specs.Same.{same_float, same_value}
+use Rattle.float.specs.Patterns.{without_sign, zero_pattern, nan_pattern, same_bits, Alike, nans, zeros, equal}
+use Rattle.float.proofs.Nan.{nan_pattern_lem}
 
--- ---- the three cases of `sameBits`
+-- ---- the three cases of `same_bits`
 
 either : {A : Type 0} (x y : Bool) → (x || y) ≡ true → (x ≡ true → A) → (y ≡ true → A) → A
 either true y e f g = f refl
 either false y e f g = g e
 
 module _ (f : Format) (a b : ℕ) where
-  alike-bits : Alike f a b → sameBits f a b ≡ true
-  alike-bits (nans p q) = rw (p, q)
-  alike-bits (zeros p q) = simp (p, q, or-true)
-  alike-bits (equal e) = simp (eq-eqb a b e, or-true)
+  alike_bits : Alike f a b → same_bits f a b ≡ true
+  alike_bits (nans p q) = rw (p, q)
+  alike_bits (zeros p q) = simp (p, q, or-true)
+  alike_bits (equal e) = simp (eq-eqb a b e, or-true)
 
-  bits-alike : sameBits f a b ≡ true → Alike f a b
-  bits-alike h =
-      either (nanPattern f a && nanPattern f b) ((zeroPattern f a && zeroPattern f b) || eqb a b) h
-      (λ n. nans (and_left (nanPattern f a) (nanPattern f b) n) (and_right (nanPattern f a) (nanPattern f b) n))
-      (λ r. either (zeroPattern f a && zeroPattern f b) (eqb a b) r
-      (λ z. zeros (eqb-true (withoutSign f a) 0 (and_left (zeroPattern f a) (zeroPattern f b) z)) (eqb-true (withoutSign f b) 0 (and_right (zeroPattern f a) (zeroPattern f b) z)))
+  bits_alike : same_bits f a b ≡ true → Alike f a b
+  bits_alike h =
+      either (nan_pattern f a && nan_pattern f b) ((zero_pattern f a && zero_pattern f b) || eqb a b) h
+      (λ n. nans (and_left (nan_pattern f a) (nan_pattern f b) n) (and_right (nan_pattern f a) (nan_pattern f b) n))
+      (λ r. either (zero_pattern f a && zero_pattern f b) (eqb a b) r
+      (λ z. zeros (eqb-true (without_sign f a) 0 (and_left (zero_pattern f a) (zero_pattern f b) z)) (eqb-true (without_sign f b) 0 (and_right (zero_pattern f a) (zero_pattern f b) z)))
       (λ e. equal (eqb-true a b e)))
 
 -- ---- floats that are `eq` have equal bits, but for the sign of a zero
@@ -45,11 +45,11 @@ module _ (f : Format) (s : Bool) (m : ℕ) (e : ℤ) (n : ℕ) (d : ℤ) (h : m 
       div_same (m * up e * 2 ^ low f) (down e) (n * up d * 2 ^ low f) (down d) (down_pos e) (down_pos d)
       (rw (mul_right_comm (m * up e) (2 ^ low f) (down d), h) (mul_right_comm (n * up d) (down e) (2 ^ low f)))
 
-  same-toBits : to_bits f (fin s m e) ≡ to_bits f (fin s n d)
+  same_to_bits : to_bits f (fin s m e) ≡ to_bits f (fin s n d)
   unfolding to_bits
-  same-toBits = rw same_count
+  same_to_bits = rw same_count
 
-zero-magnitude : (f : Format) (s : Bool) (e : ℤ) → withoutSign f (to_bits f (fin s 0 e)) ≡ 0
+zero-magnitude : (f : Format) (s : Bool) (e : ℤ) → without_sign f (to_bits f (fin s 0 e)) ≡ 0
 unfolding to_bits
 zero-magnitude binary32 true e = simp (zero-mul, zero-div)
 zero-magnitude binary32 false e = simp (zero-mul, zero-div)
@@ -73,54 +73,54 @@ eq-alike f (fin s m e) (inf t) h = absurd (false≢true h)
 eq-alike f (fin s m e) (fin t n d) h =
     let a = m * up e * down d in
     let b = n * up d * down e in
-    let same_number : a ≡ b = eqb-true a b (and_left (eqb a b) (beq s t || eqb a 0) h) in
+    let same_number_lem : a ≡ b = eqb-true a b (and_left (eqb a b) (beq s t || eqb a 0) h) in
     signs s t (eqb a 0) (and_right (eqb a b) (beq s t || eqb a 0) h)
-    (λ p. equal (rw p (same-toBits f t m e n d same_number)))
+    (λ p. equal (rw p (same_to_bits f t m e n d same_number_lem)))
     (λ z. let is_zero : a ≡ 0 = eqb-true a 0 z in
-    zeros (rw (same-toBits f s m e 0 d (rw (is_zero, zero-mul, zero-mul))) (zero-magnitude f s d))
-    (rw (same-toBits f t n d 0 e (rw (← same_number, is_zero, zero-mul, zero-mul))) (zero-magnitude f t e)))
+    zeros (rw (same_to_bits f s m e 0 d (rw (is_zero, zero-mul, zero-mul))) (zero-magnitude f s d))
+    (rw (same_to_bits f t n d 0 e (rw (← same_number_lem, is_zero, zero-mul, zero-mul))) (zero-magnitude f t e)))
 
 -- ---- zeros, and a float and itself, are the same
 
-same_float : (x : Float) → sameFloat x x ≡ true
+same_float_lem : (x : Float) → same_float x x ≡ true
 unfolding eq is_nan
-same_float nan = refl
-same_float (inf true) = refl
-same_float (inf false) = refl
-same_float (fin true m e) = simp (eq-eqb (m * up e * down e) (m * up e * down e) refl)
-same_float (fin false m e) = simp (eq-eqb (m * up e * down e) (m * up e * down e) refl)
+same_float_lem nan = refl
+same_float_lem (inf true) = refl
+same_float_lem (inf false) = refl
+same_float_lem (fin true m e) = simp (eq-eqb (m * up e * down e) (m * up e * down e) refl)
+same_float_lem (fin false m e) = simp (eq-eqb (m * up e * down e) (m * up e * down e) refl)
 
-zero-float : (f : Format) (a : ℕ) → withoutSign f a ≡ 0 → of_bits f a ≡ fin (leb (top f) a) 0 (pos 0)
+zero_float : (f : Format) (a : ℕ) → without_sign f a ≡ 0 → of_bits f a ≡ fin (leb (top f) a) 0 (pos 0)
 unfolding of_bits
-zero-float f a h = rw (h, digits f a h, zero-div)
+zero_float f a h = rw (h, digits f a h, zero-div)
   where
-    digits : (f : Format) (a : ℕ) → withoutSign f a ≡ 0 → a % hid f ≡ 0
+    digits : (f : Format) (a : ℕ) → without_sign f a ≡ 0 → a % hid f ≡ 0
     digits binary32 a h = omega arith
     digits binary64 a h = omega arith
 
-same-zero : (s t : Bool) → sameFloat (fin s 0 (pos 0)) (fin t 0 (pos 0)) ≡ true
+same-zero : (s t : Bool) → same_float (fin s 0 (pos 0)) (fin t 0 (pos 0)) ≡ true
 unfolding eq is_nan
 same-zero s t = simp or-true
 
 -- ---- the law
 
 module _ (f : Format) (a b : ℕ) where
-  pub alike-value : Alike f a b → sameValue f a b ≡ true
-  alike-value (nans p q) = rw (← nan_pattern f a, ← nan_pattern f b, p, q)
-  alike-value (zeros p q) = rw (zero-float f a p, zero-float f b q) (same-zero (leb (top f) a) (leb (top f) b))
-  alike-value (equal e) = rw e (same_float (of_bits f b))
+  pub alike-value : Alike f a b → same_value f a b ≡ true
+  alike-value (nans p q) = rw (← nan_pattern_lem f a, ← nan_pattern_lem f b, p, q)
+  alike-value (zeros p q) = rw (zero_float f a p, zero_float f b q) (same-zero (leb (top f) a) (leb (top f) b))
+  alike-value (equal e) = rw e (same_float_lem (of_bits f b))
 
-  pub value-alike : a < 2 * top f → b < 2 * top f → sameValue f a b ≡ true → Alike f a b
-  value-alike ha hb h = go (nanPattern f a) (nanPattern f b) refl refl (rw (← nan_pattern f a, ← nan_pattern f b) at h)
+  pub value-alike : a < 2 * top f → b < 2 * top f → same_value f a b ≡ true → Alike f a b
+  value-alike ha hb h = go (nan_pattern f a) (nan_pattern f b) refl refl (rw (← nan_pattern_lem f a, ← nan_pattern_lem f b) at h)
     where
-      go : (p q : Bool) → nanPattern f a ≡ p → nanPattern f b ≡ q → cond p q (cond q false (eq (of_bits f a) (of_bits f b))) ≡ true → Alike f a b
+      go : (p q : Bool) → nan_pattern f a ≡ p → nan_pattern f b ≡ q → cond p q (cond q false (eq (of_bits f a) (of_bits f b))) ≡ true → Alike f a b
       go true true p q k = nans p q
       go true false p q k = absurd (false≢true k)
       go false true p q k = absurd (false≢true k)
       go false false p q k =
-          let x : to_bits f (of_bits f a) ≡ a = to_bits-of_bits f a ha (rw (← nan_pattern f a, p) tt) in
-          let y : to_bits f (of_bits f b) ≡ b = to_bits-of_bits f b hb (rw (← nan_pattern f b, q) tt) in
+          let x : to_bits f (of_bits f a) ≡ a = to_bits-of_bits f a ha (rw (← nan_pattern_lem f a, p) tt) in
+          let y : to_bits f (of_bits f b) ≡ b = to_bits-of_bits f b hb (rw (← nan_pattern_lem f b, q) tt) in
           rw (x, y) at (eq-alike f (of_bits f a) (of_bits f b) k)
 
-  pub by_bits : a < 2 * top f → b < 2 * top f → sameValue f a b ≡ sameBits f a b
-  by_bits ha hb = same (λ h. alike-bits f a b (value-alike ha hb h)) (λ h. alike-value (bits-alike f a b h))
+  pub by_bits : a < 2 * top f → b < 2 * top f → same_value f a b ≡ same_bits f a b
+  by_bits ha hb = same (λ h. alike_bits f a b (value-alike ha hb h)) (λ h. alike-value (bits_alike f a b h))

@@ -5,10 +5,10 @@ use mathlib.Core.Bool.{Bool, false, not}
 use lib.Dec.{T}
 use lib.Ieee.{Format, is_nan, of_bits, nan_bits}
 use lib.Ieee.Bits.{nan_bits_is, nan_bits_above}
-use Rattle.float.specs.Patterns.{nanPattern}
+use Rattle.float.specs.Patterns.{nan_pattern}
 
-pub nan_pattern : (f : Format) (a : ℕ) → nanPattern f a ≡ is_nan (of_bits f a)
-nan_pattern f a = sym (nan_bits_above f a) ∙ nan_bits_is f a
+pub nan_pattern_lem : (f : Format) (a : ℕ) → nan_pattern f a ≡ is_nan (of_bits f a)
+nan_pattern_lem f a = sym (nan_bits_above f a) ∙ nan_bits_is f a
 
 -- what `from_bits` asks, from a test that came out false
 pub no_nan : (f : Format) (a : ℕ) (t : Bool) → t ≡ is_nan (of_bits f a) → t ≡ false → T (not (nan_bits f a))

@@ -2,7 +2,7 @@
 ghost use Rattle.std.specs.Prelude.{◌≡◌};
 ghost use Rattle.std.specs.Float.{binary32, binary64};
 ghost use Rattle.std.specs.Float.Ieee.{is_nan, of_bits};
-ghost use Rattle.float.specs.Same.{sameValue};
+ghost use Rattle.float.specs.Same.{same_value};
 
 // A NaN's pattern: without its sign bit it lies above infinity.
 pub fn is_nan_f32(a: u32) -> bool
@@ -19,7 +19,7 @@ pub fn is_nan_f64(a: u64) -> bool
 
 // NaNs are told by their patterns, which cannot become floats; all others are compared as floats.
 pub fn same_f32(a: u32, b: u32) -> bool
-    ensures { result ≡ sameValue binary32 a b }
+    ensures { result ≡ same_value binary32 a b }
 {
     if is_nan_f32(a) {
         return is_nan_f32(b);
@@ -31,7 +31,7 @@ pub fn same_f32(a: u32, b: u32) -> bool
 }
 
 pub fn same_f64(a: u64, b: u64) -> bool
-    ensures { result ≡ sameValue binary64 a b }
+    ensures { result ≡ same_value binary64 a b }
 {
     if is_nan_f64(a) {
         return is_nan_f64(b);

@@ -1,19 +1,19 @@
 -- 01's example of a history through a handle, by computation.
 use mathlib.Core.Path.{refl}
 use Rattle.text.specs.Rfc3629.{octets}
-use Rattle.row_format.specs.Table.{lay, rangeEnd}
-use Rattle.row_format.specs.Header.{isLong, sortIn}
-use Rattle.row_format.specs.Row.{header, rowWith}
-use Rattle.row_format.specs.Edit.{rangeStart, varlenEdit, editedRow}
-use Rattle.datatype.specs.Schema.{schemaOf}
+use Rattle.row_format.specs.Table.{lay, range_end}
+use Rattle.row_format.specs.Header.{is_long, sort_in}
+use Rattle.row_format.specs.Row.{header, row_with}
+use Rattle.row_format.specs.Edit.{range_start, varlen_edit, edited_row}
+use Rattle.datatype.specs.Schema.{schema_of}
 use Rattle.datatype.specs.Check.{types_in}
 use Rattle.value_list.specs.Lists.{values_of}
-use Rattle.row_sound.specs.Sound.{soundColumn}
+use Rattle.row_sound.specs.Sound.{sound_column}
 use Rattle.history.proofs.Worked.{edits-history}
 use Rattle.handle_history.specs.Worked.{odd, Worked}
 
 pub worked : Worked
-unfolding schemaOf types_in values_of rowWith lay header rangeEnd rangeStart varlenEdit editedRow soundColumn octets isLong sortIn
+unfolding schema_of types_in values_of row_with lay header range_end range_start varlen_edit edited_row sound_column octets is_long sort_in
 worked =
     record {
       history = record { plain = edits-history; handle = odd.handle; handed = refl };

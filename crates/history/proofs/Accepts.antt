@@ -7,7 +7,7 @@ use borrow.Author.Tests.{lt-leb, le-leb}
 use lib.ListN.{length}
 use Rattle.error.specs.declared.Refusal.TheVariants.{NoSuchColumn}
 use Rattle.error.specs.Answer.{Outcome, unchanged}
-use Rattle.history.specs.History.{sortOf}
+use Rattle.history.specs.History.{sort_of}
 use Rattle.datatype.specs.declared.DataType.{DataType}
 use Rattle.row_edit.specs.Edit.{opened}
 use Rattle.history.specs.Demand.{History, left, Accepts}
@@ -21,7 +21,7 @@ module _ {sort : Bool} {schema : List ℕ} {ts : List DataType} (h : History sor
   shut : (i : ℕ) (f : List DataType → Bool → Outcome) → length ts ≤ i → opened sort schema (left h).buf (left h).row-length i f ≡ unchanged (left h).buf NoSuchColumn
   shut i f l = open_kept sort schema ts h.columns (kept h) i f ∙ rw (le-leb (length ts) i l)
 
-  marked : sortOf (left h) ≡ sort
+  marked : sort_of (left h) ≡ sort
   marked = kept-sort sort schema ts h.columns (kept h)
 
   pub accepts : Accepts h

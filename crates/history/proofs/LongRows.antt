@@ -5,15 +5,15 @@ use mathlib.Core.Path.{refl}
 use native.Mathlib.Omega.{arith}
 use lib.ListN.{replicate}
 use Rattle.text.specs.Rfc3629.{octets}
-use Rattle.row_format.specs.Table.{lay, rangeEnd}
-use Rattle.row_format.specs.Header.{isLong, sortIn}
-use Rattle.row_format.specs.Row.{header, rowWith}
-use Rattle.row_format.specs.Edit.{rangeStart, varlenEdit, editedRow}
-use Rattle.datatype.specs.Schema.{schemaOf}
+use Rattle.row_format.specs.Table.{lay, range_end}
+use Rattle.row_format.specs.Header.{is_long, sort_in}
+use Rattle.row_format.specs.Row.{header, row_with}
+use Rattle.row_format.specs.Edit.{range_start, varlen_edit, edited_row}
+use Rattle.datatype.specs.Schema.{schema_of}
 use Rattle.value_list.specs.Lists.{values_of}
-use Rattle.row_sound.specs.Sound.{soundColumn}
+use Rattle.row_sound.specs.Sound.{sound_column}
 use Rattle.history.specs.Demand.{AllOfBytes, History}
-use Rattle.history.specs.Worked.{S, columnsS}
+use Rattle.history.specs.Worked.{S, columns_s}
 use Rattle.history.specs.LongRows.{edits, LongRows}
 use Rattle.history.proofs.Worked.{written-bytes}
 
@@ -29,8 +29,8 @@ edits-bytes = (
   ),
 )
 
-abbrev edits-history : History true S columnsS
-unfolding schemaOf rowWith lay header
+abbrev edits-history : History true S columns_s
+unfolding schema_of row_with lay header
 edits-history =
     record {
       columns = refl;
@@ -46,6 +46,6 @@ edits-history =
     }
 
 pub long-rows : LongRows
-unfolding schemaOf values_of rowWith lay header rangeEnd rangeStart varlenEdit editedRow soundColumn octets isLong sortIn
+unfolding schema_of values_of row_with lay header range_end range_start varlen_edit edited_row sound_column octets is_long sort_in
 long-rows =
     record { history = edits-history; these = refl; answers-given = refl; leaves = refl; listed = refl; spelt = refl }

@@ -8,31 +8,31 @@ use native.Mathlib.Omega.{arith}
 use lib.ListN.{length, get_or, length-map}
 use Rattle.laws.proofs.Maps.{at_map}
 use Rattle.laws.proofs.Truths.{both}
-use Rattle.error.specs.Answer.{unchangedBoth}
-use Rattle.error.specs.Result.{ok, onResult}
-use Rattle.row_format.specs.Places.{offsetWidth}
-use Rattle.row_format.specs.Header.{isLong}
+use Rattle.error.specs.Answer.{unchanged_both}
+use Rattle.error.specs.Result.{ok, on_result}
+use Rattle.row_format.specs.Places.{offset_width}
+use Rattle.row_format.specs.Header.{is_long}
 use Rattle.datatype.specs.declared.DataType.{DataType}
-use Rattle.datatype.specs.Schema.{Parsed, schemaOf}
+use Rattle.datatype.specs.Schema.{Parsed, schema_of}
 use Rattle.value.specs.declared.DataValue.{DataValue}
 use Rattle.value.specs.declared.DataValue.TheVariants as D
 use Rattle.value_list.specs.Lists.{Values}
 use Rattle.row_column.specs.declared.Frame.{Frame}
 use Rattle.row_column.specs.declared.ColumnRead.{ColumnRead}
 use Rattle.row_column.specs.declared.ColumnRead.TheVariants.{Value, Refused}
-use Rattle.row_column.specs.Frame.{onFrame}
-use Rattle.row_column.specs.Column.{columnValue}
-use Rattle.row_decode.specs.Read.{isWanted, wantedValue, onColumn, readFrom, handOut, readRow}
-use Rattle.row_sound.specs.Sound.{reads, soundColumn, SoundRow}
-use Rattle.row_sound.specs.Reread.{content, columnContent, nullContent}
+use Rattle.row_column.specs.Frame.{on_frame}
+use Rattle.row_column.specs.Column.{column_value}
+use Rattle.row_decode.specs.Read.{is_wanted, wanted_value, on_column, read_from, hand_out, read_row}
+use Rattle.row_sound.specs.Sound.{reads, sound_column, SoundRow}
+use Rattle.row_sound.specs.Reread.{content, column_content, null_content}
 use Rattle.row_sound.proofs.Columns.{sound-at}
 use Rattle.history.specs.Reread.{ReadsAll, contents}
 
-abbrev valueIn : ColumnRead → DataValue
-valueIn (Value v) = v
-valueIn (Refused e) = D.Null
+abbrev value_in : ColumnRead → DataValue
+value_in (Value v) = v
+value_in (Refused e) = D.Null
 
-value_read : (c : ColumnRead) → reads c ≡ true → c ≡ Value (valueIn c)
+value_read : (c : ColumnRead) → reads c ≡ true → c ≡ Value (value_in c)
 value_read (Value v) e = refl
 value_read (Refused x) e = absurd (false≢true e)
 
@@ -52,47 +52,47 @@ at_listed f i (suc n) (suc j) d h = let e : suc i + j ≡ i + suc j = omega arit
 
 module _ {sort : Bool} {ts : List DataType} {p : Bool} {r : List ℕ} (s : SoundRow sort ts p r) where
   abbrev column : ℕ → ColumnRead
-  column j = columnValue (offsetWidth sort) p ts j r
+  column j = column_value (offset_width sort) p ts j r
 
   abbrev value : ℕ → DataValue
-  value j = valueIn (column j)
+  value j = value_in (column j)
 
-  abbrev pub rowValues : List DataValue
-  rowValues = listed value 0 (length ts)
+  abbrev pub row_values : List DataValue
+  row_values = listed value 0 (length ts)
 
   column-is : (j : ℕ) → j < length ts → column j ≡ Value (value j)
-  unfolding soundColumn
-  column-is j h = value_read (column j) (both (reads (column j)) _ (sound-at (offsetWidth sort) p ts r s.sound j h)).0
+  unfolding sound_column
+  column-is j h = value_read (column j) (both (reads (column j)) _ (sound-at (offset_width sort) p ts r s.sound j h)).0
 
   -- ---- the call
 
   module _ (wanted : ℕ → Bool) (all : (i : ℕ) → i < length ts → wanted i ≡ true) where
-    read-from : (n i : ℕ) → i + n ≡ length ts → readFrom (offsetWidth sort) p ts wanted r i n ≡ ok (listed value i n)
+    read-from : (n i : ℕ) → i + n ≡ length ts → read_from (offset_width sort) p ts wanted r i n ≡ ok (listed value i n)
     read-from zero i e = refl
     read-from (suc n) i e =
         let h : i < length ts = omega arith in
-        ap₂ (λ (x : Bool) (y : Values). onColumn (wantedValue x (column i)) y) (all i h)
+        ap₂ (λ (x : Bool) (y : Values). on_column (wanted_value x (column i)) y) (all i h)
         (read-from n (suc i) (omega arith))
-        ∙ ap (λ (c : ColumnRead). onColumn c (ok (listed value (suc i) n))) (column-is i h)
+        ∙ ap (λ (c : ColumnRead). on_column c (ok (listed value (suc i) n))) (column-is i h)
 
-  pub reads_all : {schema : List ℕ} → isLong r ≡ sort → schemaOf sort schema ≡ ok ts → ReadsAll schema (length ts) r rowValues
+  pub reads_all : {schema : List ℕ} → is_long r ≡ sort → schema_of sort schema ≡ ok ts → ReadsAll schema (length ts) r row_values
   reads_all {schema} m e =
       record {
         count = length-listed value 0 (length ts);
         read = λ ws o counts all. rw m
-            (ap (λ (x : Parsed). onResult x (unchangedBoth o counts) (λ cs. readRow sort cs r ws o counts)) e
-            ∙ ap (λ (x : Frame). onFrame x (unchangedBoth o counts)
-            (λ q. handOut sort o counts r (readFrom (offsetWidth sort) q ts (isWanted ws) r 0 (length ts)))) s.frame
-            ∙ ap (handOut sort o counts r) (read-from (isWanted ws) all (length ts) 0 (zero-add (length ts))));
+            (ap (λ (x : Parsed). on_result x (unchanged_both o counts) (λ cs. read_row sort cs r ws o counts)) e
+            ∙ ap (λ (x : Frame). on_frame x (unchanged_both o counts)
+            (λ q. hand_out sort o counts r (read_from (offset_width sort) q ts (is_wanted ws) r 0 (length ts)))) s.frame
+            ∙ ap (hand_out sort o counts r) (read-from (is_wanted ws) all (length ts) 0 (zero-add (length ts))));
       }
 
   -- ---- what is read, by columns
 
-  pub length-contents : length (contents r rowValues) ≡ length ts
-  length-contents = length-map rowValues (λ (v : DataValue). content r (Value v)) ∙ length-listed value 0 (length ts)
+  pub length-contents : length (contents r row_values) ≡ length ts
+  length-contents = length-map row_values (λ (v : DataValue). content r (Value v)) ∙ length-listed value 0 (length ts)
 
-  pub content-at : (j : ℕ) → j < length ts → get_or (contents r rowValues) j nullContent ≡ columnContent (offsetWidth sort) p ts j r
+  pub content-at : (j : ℕ) → j < length ts → get_or (contents r row_values) j null_content ≡ column_content (offset_width sort) p ts j r
   content-at j h =
-      at_map (λ (v : DataValue). content r (Value v)) j rowValues D.Null
+      at_map (λ (v : DataValue). content r (Value v)) j row_values D.Null
       ∙ ap (λ (v : DataValue). content r (Value v)) (at_listed value 0 (length ts) j D.Null h ∙ ap value (zero-add j))
       ∙ ap (content r) (sym (column-is j h))

@@ -14,43 +14,43 @@ use Rattle.error.specs.declared.Answer.{Answer}
 use Rattle.error.specs.declared.Answer.TheVariants.{Done, Refused}
 use Rattle.error.specs.Answer.{Outcome}
 use Rattle.error.specs.Result.{ok}
-use Rattle.row_format.specs.Places.{offsetWidth, rowLimit}
+use Rattle.row_format.specs.Places.{offset_width, row_limit}
 use Rattle.row_format.specs.Table.{Cell}
-use Rattle.row_format.specs.Header.{isLong}
-use Rattle.row_format.specs.Edit.{editedRow}
+use Rattle.row_format.specs.Header.{is_long}
+use Rattle.row_format.specs.Edit.{edited_row}
 use Rattle.row_format.proofs.Header.{sort-inside}
 use Rattle.row_format.proofs.Front.{same-sort}
 use Rattle.datatype.specs.declared.DataType.{DataType}
 use Rattle.datatype.specs.Types.{shape_of}
-use Rattle.datatype.specs.Schema.{schemaOf}
+use Rattle.datatype.specs.Schema.{schema_of}
 use Rattle.datatype.specs.Check.{type_at}
 use Rattle.value_list.specs.Lists.{values_of}
 use Rattle.row_sound.specs.Sound.{SoundRow}
 use Rattle.row_sound.specs.Written.{Writes, null, form}
-use Rattle.row_sound.specs.Reread.{Content, columnContent, nullContent, writtenContent, payloadOf, lengthIn, Reread}
-use Rattle.row_sound.proofs.Rows.{row-short, null-short, edit-head, edit-sound, edit-reread}
+use Rattle.row_sound.specs.Reread.{Content, column_content, null_content, written_content, payload_of, length_in, Reread}
+use Rattle.row_sound.proofs.Rows.{row-short, null-short, edit_head, edit_sound, edit_reread}
 use Rattle.row_sound.proofs.Columns.{sound-long}
-use Rattle.row_edit.specs.Edit.{edited, rowStored, given}
-use Rattle.history.specs.History.{Call, setValue, setNull, State, row_of, sortOf, called, handedBack, oneValue}
+use Rattle.row_edit.specs.Edit.{edited, row_stored, given}
+use Rattle.history.specs.History.{Call, set_value, set_null, State, row_of, sort_of, called, handed_back, one_value}
 use Rattle.history.specs.Demand.{OfBytes}
-use Rattle.history.specs.Reread.{columnOf, givenContent, ReadsAll, contents, Edits}
-use Rattle.history.proofs.Calls.{Ends, refusal, written, opened-ends, tested-ends, placed-ends, given-taken}
-use Rattle.history.proofs.Reading.{rowValues, reads_all, length-contents, content-at}
+use Rattle.history.specs.Reread.{column_of, given_content, ReadsAll, contents, Edits}
+use Rattle.history.proofs.Calls.{Ends, refusal, written, opened_ends, tested_ends, placed_ends, given-taken}
+use Rattle.history.proofs.Reading.{row_values, reads_all, length-contents, content-at}
 
 -- ---- how an accepted call ends: the row r that it wrote
 
 record Went (sort : Bool) (schema : List ℕ) (c : Call) (s : State) (r : List ℕ) : Type 0 where
   held : s.row-length ≤ length s.buf
   columns : List DataType
-  schema-good : schemaOf sort schema ≡ ok columns
+  schema-good : schema_of sort schema ≡ ok columns
   packed : Bool
   sound : SoundRow sort columns packed (row_of s)
-  inside : columnOf c < length columns
+  inside : column_of c < length columns
   cell : Cell
-  writes : Writes (type_at columns (columnOf c)) cell
-  is-given : writtenContent writes ≡ givenContent (type_at columns (columnOf c)) c
-  row_is : editedRow (offsetWidth sort) packed (map shape_of columns) (columnOf c) cell (row_of s) ≡ r
-  short : length r ≤ rowLimit sort
+  writes : Writes (type_at columns (column_of c)) cell
+  is-given : written_content writes ≡ given_content (type_at columns (column_of c)) c
+  row_is : edited_row (offset_width sort) packed (map shape_of columns) (column_of c) cell (row_of s) ≡ r
+  short : length r ≤ row_limit sort
   room : length r ≤ length s.buf
 
 module _ (schema : List ℕ) (s : State) where
@@ -60,12 +60,12 @@ module _ (schema : List ℕ) (s : State) where
   abbrev n : ℕ
   n = s.row-length
 
-  set-went : (i : ℕ) (list area : List ℕ) → AllBytes list → Ends buf (Went (sortOf s) schema (setValue i list area) s) (called schema (setValue i list area) s)
-  set-went i list area bytes =
-      opened-ends (sortOf s) schema n i _
-      λ ts p g room sound h. tested-ends (given (sortOf s) (type_at ts i) i list area) _
-      λ b e. placed-ends (sortOf s) (edited (offsetWidth (sortOf s)) ts p buf n i (some b))
-      λ small fit. let t = given-taken (sortOf s) (type_at ts i) i list area b bytes e in
+  set_went : (i : ℕ) (list area : List ℕ) → AllBytes list → Ends buf (Went (sort_of s) schema (set_value i list area) s) (called schema (set_value i list area) s)
+  set_went i list area bytes =
+      opened_ends (sort_of s) schema n i _
+      λ ts p g room sound h. tested_ends (given (sort_of s) (type_at ts i) i list area) _
+      λ b e. placed_ends (sort_of s) (edited (offset_width (sort_of s)) ts p buf n i (some b))
+      λ small fit. let t = given-taken (sort_of s) (type_at ts i) i list area b bytes e in
       record {
         held = room;
         columns = ts;
@@ -74,19 +74,19 @@ module _ (schema : List ℕ) (s : State) where
         sound = sound;
         inside = h;
         cell = some _;
-        writes = form (oneValue (values_of list)) area t.chosen.match t.chosen.accept t.sized;
+        writes = form (one_value (values_of list)) area t.chosen.match t.chosen.accept t.sized;
         is-given = refl;
-        row_is = ap (λ (x : List ℕ). edited (offsetWidth (sortOf s)) ts p buf n i (some x)) (sym t.chosen.form);
+        row_is = ap (λ (x : List ℕ). edited (offset_width (sort_of s)) ts p buf n i (some x)) (sym t.chosen.form);
         short = small;
         room = fit;
       }
 
-  null-went : (i : ℕ) → Ends buf (Went (sortOf s) schema (setNull i) s) (called schema (setNull i) s)
-  null-went i =
-      opened-ends (sortOf s) schema n i _
+  null_went : (i : ℕ) → Ends buf (Went (sort_of s) schema (set_null i) s) (called schema (set_null i) s)
+  null_went i =
+      opened_ends (sort_of s) schema n i _
       λ ts p g room sound h. let le = null-short sound i h in
       let size = length-take-le n buf room in
-      written (edited (offsetWidth (sortOf s)) ts p buf n i none) refl
+      written (edited (offset_width (sort_of s)) ts p buf n i none) refl
       (record {
         held = room;
         columns = ts;
@@ -102,18 +102,18 @@ module _ (schema : List ℕ) (s : State) where
         room = omega (arith, le, size);
       })
 
-  went : (c : Call) → OfBytes c → Ends buf (Went (sortOf s) schema c s) (called schema c s)
-  went (setValue i list area) bytes = set-went i list area bytes
-  went (setNull i) bytes = null-went i
+  went : (c : Call) → OfBytes c → Ends buf (Went (sort_of s) schema c s) (called schema c s)
+  went (set_value i list area) bytes = set_went i list area bytes
+  went (set_null i) bytes = null_went i
 
 -- ---- the rows before and after it
 
-module _ {schema : List ℕ} {c : Call} {s : State} {r : List ℕ} (w : Went (sortOf s) schema c s r) (bytes : AllBytes s.buf) where
+module _ {schema : List ℕ} {c : Call} {s : State} {r : List ℕ} (w : Went (sort_of s) schema c s r) (bytes : AllBytes s.buf) where
   abbrev ts : List DataType
   ts = w.columns
 
   abbrev i : ℕ
-  i = columnOf c
+  i = column_of c
 
   abbrev p : Bool
   p = w.packed
@@ -125,43 +125,43 @@ module _ {schema : List ℕ} {c : Call} {s : State} {r : List ℕ} (w : Went (so
   octets = below-take 256 s.row-length s.buf (all-below s.buf bytes)
 
   abbrev edit : List ℕ
-  edit = editedRow (offsetWidth (sortOf s)) p (map shape_of ts) i w.cell old
+  edit = edited_row (offset_width (sort_of s)) p (map shape_of ts) i w.cell old
 
-  edit-short : length edit ≤ rowLimit (sortOf s)
-  edit-short = rw w.row_is w.short
+  edit_short : length edit ≤ row_limit (sort_of s)
+  edit_short = rw w.row_is w.short
 
-  after-sound : SoundRow (sortOf s) ts p r
-  after-sound = subst (SoundRow (sortOf s) ts p) w.row_is (edit-sound w.sound octets i w.inside w.cell w.writes edit-short)
+  after-sound : SoundRow (sort_of s) ts p r
+  after-sound = subst (SoundRow (sort_of s) ts p) w.row_is (edit_sound w.sound octets i w.inside w.cell w.writes edit_short)
 
-  old-marked : isLong old ≡ sortOf s
-  old-marked = sym (sort-inside s.buf s.row-length w.held)
+  old_marked : is_long old ≡ sort_of s
+  old_marked = sym (sort-inside s.buf s.row-length w.held)
 
-  new-marked : isLong r ≡ sortOf s
-  new-marked =
-      let long : 4 ≤ length old = omega (arith, sound-long (offsetWidth (sortOf s)) p ts old w.sound.sound) in
-      ap isLong (sym w.row_is) ∙ same-sort old edit long (edit-head w.sound i w.inside w.cell) ∙ old-marked
+  new_marked : is_long r ≡ sort_of s
+  new_marked =
+      let long : 4 ≤ length old = omega (arith, sound-long (offset_width (sort_of s)) p ts old w.sound.sound) in
+      ap is_long (sym w.row_is) ∙ same-sort old edit long (edit_head w.sound i w.inside w.cell) ∙ old_marked
 
   abbrev put : Content
-  put = givenContent (type_at ts i) c
+  put = given_content (type_at ts i) c
 
-  read_again : Reread (offsetWidth (sortOf s)) p ts i put old r
+  read_again : Reread (offset_width (sort_of s)) p ts i put old r
   read_again =
-      subst (λ (x : List ℕ). Reread (offsetWidth (sortOf s)) p ts i put old x) w.row_is
-      (subst (λ (x : Content). Reread (offsetWidth (sortOf s)) p ts i x old edit) w.is-given (edit-reread w.sound octets i w.inside w.cell w.writes edit-short))
+      subst (λ (x : List ℕ). Reread (offset_width (sort_of s)) p ts i put old x) w.row_is
+      (subst (λ (x : Content). Reread (offset_width (sort_of s)) p ts i x old edit) w.is-given (edit_reread w.sound octets i w.inside w.cell w.writes edit_short))
 
   abbrev before : List Content
-  before = contents old (rowValues w.sound)
+  before = contents old (row_values w.sound)
 
-  column-changed : (j : ℕ) → j < length ts → get_or (contents r (rowValues after-sound)) j nullContent ≡ get_or (set before i put) j nullContent
+  column-changed : (j : ℕ) → j < length ts → get_or (contents r (row_values after-sound)) j null_content ≡ get_or (set before i put) j null_content
   column-changed j l =
       content-at after-sound j l
       ∙ same_or i j
-      (λ e. subst (λ (k : ℕ). columnContent (offsetWidth (sortOf s)) p ts k r ≡ get_or (set before i put) k nullContent) e (read_again.own ∙ sym (get_or-set_same before i put nullContent (rw (length-contents w.sound) w.inside))))
-      (λ ne. read_again.others j l ne ∙ sym (content-at w.sound j l) ∙ sym (get_or-set_other before i j put nullContent (λ e. ne (sym e))))
+      (λ e. subst (λ (k : ℕ). column_content (offset_width (sort_of s)) p ts k r ≡ get_or (set before i put) k null_content) e (read_again.own ∙ sym (get_or-set_same before i put null_content (rw (length-contents w.sound) w.inside))))
+      (λ ne. read_again.others j l ne ∙ sym (content-at w.sound j l) ∙ sym (get_or-set_other before i j put null_content (λ e. ne (sym e))))
 
-  row-changed : contents r (rowValues after-sound) ≡ set before i put
+  row-changed : contents r (row_values after-sound) ≡ set before i put
   row-changed =
-      ext_get_or nullContent (contents r (rowValues after-sound)) (set before i put) (length-contents after-sound ∙ sym (length-set before i put ∙ length-contents w.sound))
+      ext_get_or null_content (contents r (row_values after-sound)) (set before i put) (length-contents after-sound ∙ sym (length-set before i put ∙ length-contents w.sound))
       (λ j l. column-changed j (rw (length-contents after-sound) at l))
 
 -- ---- the call
@@ -173,33 +173,33 @@ IsDone (Refused e) = ⊥
 pub edits : {schema : List ℕ} (c : Call) → OfBytes c → {old new : State} → AllBytes old.buf → called schema c old ≡ (Done new.row-length, new.buf) → Edits schema c old new
 edits {schema} c of {old} {new} bytes done = by_end (went schema old c of)
   where
-    by_end : Ends old.buf (Went (sortOf old) schema c old) (called schema c old) → Edits schema c old new
+    by_end : Ends old.buf (Went (sort_of old) schema c old) (called schema c old) → Edits schema c old new
     by_end (refusal e q) = absurd (subst (λ (o : Outcome). IsDone o.0) (sym done ∙ q) tt)
     by_end (written r q w) =
-        let same : rowStored old.buf r ≡ (Done new.row-length, new.buf) = sym q ∙ done in
-        let size : length r ≡ new.row-length = ap (λ (o : Outcome). handedBack o.0 0) same in
+        let same : row_stored old.buf r ≡ (Done new.row-length, new.buf) = sym q ∙ done in
+        let size : length r ≡ new.row-length = ap (λ (o : Outcome). handed_back o.0 0) same in
         let whole : r ++ drop (length r) old.buf ≡ new.buf = sym (sets-start old.buf r w.room) ∙ ap (λ (o : Outcome). o.1) same in
         let row : r ≡ row_of new = rw (← size, ← whole) (sym (take-append_seam r (drop (length r) old.buf))) in
         let fits : new.row-length ≤ length new.buf = rw (← size, ← whole, length-append) (omega arith) in
-        let marked : isLong (row_of new) ≡ sortOf old = ap isLong (sym row) ∙ new-marked w bytes in
+        let marked : is_long (row_of new) ≡ sort_of old = ap is_long (sym row) ∙ new_marked w bytes in
         record {
-          sort = sortOf old;
-          old-sort = refl;
-          new-sort = sort-inside new.buf new.row-length fits ∙ marked;
+          sort = sort_of old;
+          old_sort = refl;
+          new_sort = sort-inside new.buf new.row-length fits ∙ marked;
           columns = w.columns;
           schema-good = w.schema-good;
           inside = w.inside;
-          old-values = rowValues w.sound;
-          new-values = rowValues (after-sound w bytes);
-          old-read = reads_all w.sound (old-marked w bytes) w.schema-good;
-          new-read = subst (λ (x : List ℕ). ReadsAll schema (length w.columns) x (rowValues (after-sound w bytes))) row (reads_all (after-sound w bytes) (new-marked w bytes) w.schema-good);
-          changed = subst (λ (x : List ℕ). contents x (rowValues (after-sound w bytes)) ≡ set (before w bytes) (columnOf c) (givenContent (type_at w.columns (columnOf c)) c)) row (row-changed w bytes);
+          old_values = row_values w.sound;
+          new_values = row_values (after-sound w bytes);
+          old_read = reads_all w.sound (old_marked w bytes) w.schema-good;
+          new_read = subst (λ (x : List ℕ). ReadsAll schema (length w.columns) x (row_values (after-sound w bytes))) row (reads_all (after-sound w bytes) (new_marked w bytes) w.schema-good);
+          changed = subst (λ (x : List ℕ). contents x (row_values (after-sound w bytes)) ≡ set (before w bytes) (column_of c) (given_content (type_at w.columns (column_of c)) c)) row (row-changed w bytes);
           packed = w.packed;
-          old-sound = w.sound;
-          new-sound = subst (SoundRow (sortOf old) w.columns w.packed) row (after-sound w bytes);
+          old_sound = w.sound;
+          new_sound = subst (SoundRow (sort_of old) w.columns w.packed) row (after-sound w bytes);
           handed = sym size ∙ ap length row;
-          long = subst (λ (x : List ℕ). length x ≡ lengthIn (offsetWidth (sortOf old)) w.packed w.columns x) row (read_again w bytes).long;
+          long = subst (λ (x : List ℕ). length x ≡ length_in (offset_width (sort_of old)) w.packed w.columns x) row (read_again w bytes).long;
           change =
-              subst (λ (x : List ℕ). length x + length (payloadOf (offsetWidth (sortOf old)) w.packed w.columns (columnOf c) (row_of old)) ≡ length (row_of old) + length (payloadOf (offsetWidth (sortOf old)) w.packed w.columns (columnOf c) x)) row (read_again w bytes).change;
+              subst (λ (x : List ℕ). length x + length (payload_of (offset_width (sort_of old)) w.packed w.columns (column_of c) (row_of old)) ≡ length (row_of old) + length (payload_of (offset_width (sort_of old)) w.packed w.columns (column_of c) x)) row (read_again w bytes).change;
           behind = rw (← size, ← whole) (drop-append_seam r (drop (length r) old.buf));
         }

@@ -5,15 +5,15 @@ use mathlib.Core.Path.{refl}
 use native.Mathlib.Omega.{arith}
 use Rattle.laws.proofs.Bytes.{Below, AllBytes}
 use Rattle.text.specs.Rfc3629.{octets}
-use Rattle.row_format.specs.Table.{lay, rangeEnd}
-use Rattle.row_format.specs.Header.{isLong, sortIn}
-use Rattle.row_format.specs.Row.{header, rowWith}
-use Rattle.row_format.specs.Edit.{rangeStart, varlenEdit, editedRow}
-use Rattle.datatype.specs.Schema.{schemaOf}
+use Rattle.row_format.specs.Table.{lay, range_end}
+use Rattle.row_format.specs.Header.{is_long, sort_in}
+use Rattle.row_format.specs.Row.{header, row_with}
+use Rattle.row_format.specs.Edit.{range_start, varlen_edit, edited_row}
+use Rattle.datatype.specs.Schema.{schema_of}
 use Rattle.value_list.specs.Lists.{values_of}
-use Rattle.row_sound.specs.Sound.{soundColumn}
+use Rattle.row_sound.specs.Sound.{sound_column}
 use Rattle.history.specs.Demand.{AllOfBytes, History}
-use Rattle.history.specs.Worked.{S, columnsS, lent, start, edits, Worked}
+use Rattle.history.specs.Worked.{S, columns_s, lent, start, edits, Worked}
 use mathlib.Core.Bool.{false}
 
 -- numbers that are written out are bytes
@@ -32,13 +32,13 @@ edits-bytes = (
 )
 
 -- the example is a history
-abbrev pub edits-history : History false S columnsS
-unfolding schemaOf rowWith lay header
+abbrev pub edits-history : History false S columns_s
+unfolding schema_of row_with lay header
 edits-history =
     record { columns = refl; out = lent; start = start; fresh = refl; calls = edits; bytes = edits-bytes }
 
 pub worked : Worked
-unfolding schemaOf values_of rowWith lay header rangeEnd rangeStart varlenEdit editedRow soundColumn octets isLong sortIn
+unfolding schema_of values_of row_with lay header range_end range_start varlen_edit edited_row sound_column octets is_long sort_in
 worked =
     record {
       fresh = refl;
@@ -47,7 +47,7 @@ worked =
       these = refl;
       leaves = refl;
       answers-given = refl;
-      on-sheet = refl;
+      on_sheet = refl;
       empty = refl;
       null = refl;
     }

@@ -6,7 +6,7 @@ use Rattle.error.specs.declared.Answer.TheVariants.{Done, Refused}
 use Rattle.datatype.specs.declared.DataType.{DataType}
 use Rattle.datatype.specs.declared.DataType.TheVariants as T
 use Rattle.value.specs.declared.DataValue.TheVariants as D
-use Rattle.history.specs.History.{Call, setValue}
+use Rattle.history.specs.History.{Call, set_value}
 use Rattle.history.specs.Demand.{History, left, replies, sheet}
 
 -- 10 03 00 0B 03 00 02: three code points, three bytes, Int
@@ -24,10 +24,10 @@ text = 0xC3 ∷ 0xA9 ∷ 0xE2 ∷ 0x82 ∷ 0xAC ∷ 0xC3 ∷ 0xA9 ∷ []
 -- character in column 1
 abbrev pub edits : List Call
 edits =
-    setValue 0 (9 ∷ 0 ∷ 0 ∷ 7 ∷ 0 ∷ []) text
-    ∷ setValue 1 (9 ∷ 0 ∷ 0 ∷ 7 ∷ 0 ∷ []) text
-    ∷ setValue 0 (9 ∷ 0 ∷ 0 ∷ 8 ∷ 0 ∷ []) (text ++ (0x41 ∷ []))
-    ∷ setValue 1 (9 ∷ 0 ∷ 0 ∷ 2 ∷ 0 ∷ []) text
+    set_value 0 (9 ∷ 0 ∷ 0 ∷ 7 ∷ 0 ∷ []) text
+    ∷ set_value 1 (9 ∷ 0 ∷ 0 ∷ 7 ∷ 0 ∷ []) text
+    ∷ set_value 0 (9 ∷ 0 ∷ 0 ∷ 8 ∷ 0 ∷ []) (text ++ (0x41 ∷ []))
+    ∷ set_value 1 (9 ∷ 0 ∷ 0 ∷ 2 ∷ 0 ∷ []) text
     ∷ []
 
 pub record BothKinds : Type 0 where
@@ -41,7 +41,7 @@ pub record BothKinds : Type 0 where
             3 ∷ 0 ∷ 2 ∷ 0x80 ∷ 4 ∷ 0x0D ∷ 0 ∷ 0x14 ∷ 0 ∷ 0 ∷ 0 ∷ 0 ∷ 0 ∷ text ++ (0xC3 ∷ 0xA9 ∷ 0xEE ∷ 0xEE ∷ []);
         row-length = 22;
       }
-  pub on-sheet : sheet history
+  pub on_sheet : sheet history
       ≡ (some (D.Varchar (record { start = 0; length = 7 }), text)
       ∷ some (D.Varchar (record { start = 0; length = 2 }), 0xC3 ∷ 0xA9 ∷ [])
       ∷ none

@@ -4,23 +4,23 @@ use Rattle.std.specs.Prelude.{ℕ, true, List, [], ◌∷◌, ◌++◌, ◌≡�
 use Rattle.error.specs.declared.Refusal.TheVariants.{WrongKind, Unsuitable}
 use Rattle.error.specs.declared.Answer.TheVariants.{Done, Refused}
 use Rattle.value_list.specs.Lists.{list_of}
-use Rattle.history.specs.History.{Call, setValue, lastValues, texts}
+use Rattle.history.specs.History.{Call, set_value, last_values, texts}
 use Rattle.history.specs.Demand.{History, left, replies, sheet}
-use Rattle.history.specs.Worked.{S, columnsS}
+use Rattle.history.specs.Worked.{S, columns_s}
 
 -- column 0 set to 1; column 1 to "AB" in kind 9; to a range past the area in kind 18, which is 12; column 2 to a text,
 -- which is 11
 abbrev pub edits : List Call
 edits =
-    setValue 0 (2 ∷ 1 ∷ 0 ∷ 0 ∷ 0 ∷ []) []
-    ∷ setValue 1 (9 ∷ 1 ∷ 0 ∷ 2 ∷ 0 ∷ []) (0x40 ∷ 0x41 ∷ 0x42 ∷ [])
-    ∷ setValue 1 (0x12 ∷ replicate 8 0xFF) (0x41 ∷ [])
-    ∷ setValue 2 (0x12 ∷ replicate 8 0) []
+    set_value 0 (2 ∷ 1 ∷ 0 ∷ 0 ∷ 0 ∷ []) []
+    ∷ set_value 1 (9 ∷ 1 ∷ 0 ∷ 2 ∷ 0 ∷ []) (0x40 ∷ 0x41 ∷ 0x42 ∷ [])
+    ∷ set_value 1 (0x12 ∷ replicate 8 0xFF) (0x41 ∷ [])
+    ∷ set_value 2 (0x12 ∷ replicate 8 0) []
     ∷ []
 
 pub record LongRows : Type 0 where
   -- these calls are a history of long rows: all that `History` asks is met
-  pub history : History true S columnsS
+  pub history : History true S columns_s
   pub these : history.calls ≡ edits
   pub answers-given : replies history ≡ Done 15 ∷ Done 17 ∷ Refused (Unsuitable 1) ∷ Refused (WrongKind 2) ∷ []
   pub leaves : left history
@@ -30,6 +30,6 @@ pub record LongRows : Type 0 where
         row-length = 17;
       }
   -- the last accepted values, as the builder gets them: kind 18 for the text that was set in kind 9
-  pub listed : list_of true (lastValues 0 (sheet history))
+  pub listed : list_of true (last_values 0 (sheet history))
       ≡ 2 ∷ 1 ∷ 0 ∷ 0 ∷ 0 ∷ 0x12 ∷ 0 ∷ 0 ∷ 0 ∷ 0 ∷ 2 ∷ 0 ∷ 0 ∷ 0 ∷ 0 ∷ []
   pub spelt : texts (sheet history) ≡ 0x41 ∷ 0x42 ∷ []

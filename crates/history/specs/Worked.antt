@@ -8,16 +8,16 @@ use Rattle.error.specs.declared.Answer.TheVariants.{Done, Refused}
 use Rattle.datatype.specs.declared.DataType.{DataType}
 use Rattle.datatype.specs.declared.DataType.TheVariants as T
 use Rattle.value.specs.declared.DataValue.TheVariants as D
-use Rattle.row_build.specs.Build.{freshCall}
-use Rattle.history.specs.History.{Call, setValue, setNull, State, run}
+use Rattle.row_build.specs.Build.{fresh_call}
+use Rattle.history.specs.History.{Call, set_value, set_null, State, run}
 use Rattle.history.specs.Demand.{History, left, replies, sheet}
 
 -- Int, Varchar(5), SmallInt: as schema bytes, and as types
 abbrev pub S : List ℕ
 S = 2 ∷ 11 ∷ 5 ∷ 0 ∷ 1 ∷ []
 
-abbrev pub columnsS : List DataType
-columnsS = T.Int ∷ T.Varchar false 5 ∷ T.SmallInt ∷ []
+abbrev pub columns_s : List DataType
+columns_s = T.Int ∷ T.Varchar false 5 ∷ T.SmallInt ∷ []
 
 abbrev pub lent : List ℕ
 lent = replicate 16 0xEE
@@ -32,10 +32,10 @@ start =
 -- column 0 set to 1; column 1 to "ABCDEF", which is 12; column 3 to null, which is 9; column 1 to "AB"
 abbrev pub edits : List Call
 edits =
-    setValue 0 (2 ∷ 1 ∷ 0 ∷ 0 ∷ 0 ∷ []) []
-    ∷ setValue 1 (9 ∷ 0 ∷ 0 ∷ 6 ∷ 0 ∷ []) (0x41 ∷ 0x42 ∷ 0x43 ∷ 0x44 ∷ 0x45 ∷ 0x46 ∷ [])
-    ∷ setNull 3
-    ∷ setValue 1 (9 ∷ 1 ∷ 0 ∷ 2 ∷ 0 ∷ []) (0x40 ∷ 0x41 ∷ 0x42 ∷ [])
+    set_value 0 (2 ∷ 1 ∷ 0 ∷ 0 ∷ 0 ∷ []) []
+    ∷ set_value 1 (9 ∷ 0 ∷ 0 ∷ 6 ∷ 0 ∷ []) (0x41 ∷ 0x42 ∷ 0x43 ∷ 0x44 ∷ 0x45 ∷ 0x46 ∷ [])
+    ∷ set_null 3
+    ∷ set_value 1 (9 ∷ 1 ∷ 0 ∷ 2 ∷ 0 ∷ []) (0x40 ∷ 0x41 ∷ 0x42 ∷ [])
     ∷ []
 
 abbrev pub answered : List Answer
@@ -53,27 +53,27 @@ after more = run S (edits ++ more) start
 
 pub record Worked : Type 0 where
   -- 1
-  pub fresh : freshCall false S lent ≡ (Done 13, start.buf)
+  pub fresh : fresh_call false S lent ≡ (Done 13, start.buf)
   -- these calls are a history on S: all that `History` asks is met
-  pub history : History false S columnsS
+  pub history : History false S columns_s
   pub from_start : history.start ≡ start
   pub these : history.calls ≡ edits
   -- 2
   pub leaves : left history ≡ row2
   pub answers-given : replies history ≡ answered
-  pub on-sheet : sheet history
+  pub on_sheet : sheet history
       ≡ (some (D.Int (pos 1), [])
       ∷ some (D.Varchar (record { start = 1; length = 2 }), 0x41 ∷ 0x42 ∷ [])
       ∷ none
       ∷ [])
   -- 3: "Column 1 of it set to empty: 13 bytes, offset 0D 00."
-  pub empty : after (setValue 1 (9 ∷ 0 ∷ 0 ∷ 0 ∷ 0 ∷ []) [] ∷ [])
+  pub empty : after (set_value 1 (9 ∷ 0 ∷ 0 ∷ 0 ∷ 0 ∷ []) [] ∷ [])
       ≡ record {
         buf = 3 ∷ 0 ∷ 1 ∷ 0x80 ∷ 4 ∷ 0x0D ∷ 0 ∷ 1 ∷ 0 ∷ 0 ∷ 0 ∷ 0 ∷ 0 ∷ 0x41 ∷ 0x42 ∷ 0xEE ∷ [];
         row-length = 13;
       }
   -- 4: "Column 1 set null instead: 13 bytes, bitmap 06, offset 00 00."
-  pub null : after (setNull 1 ∷ [])
+  pub null : after (set_null 1 ∷ [])
       ≡ record {
         buf = 3 ∷ 0 ∷ 1 ∷ 0x80 ∷ 6 ∷ 0 ∷ 0 ∷ 1 ∷ 0 ∷ 0 ∷ 0 ∷ 0 ∷ 0 ∷ 0x41 ∷ 0x42 ∷ 0xEE ∷ [];
         row-length = 13;

@@ -8,21 +8,21 @@ use lib.ListN.{length, set, take, drop, take-append-drop}
 use lib.Seq.{sets, length-take-le, take-add, drop_at, drop-set-lt}
 use Rattle.laws.proofs.Parts.{part-all, part_none}
 
-set-right : (l m : List ℕ) (i v : ℕ) → set (l ++ m) (length l + i) v ≡ l ++ set m i v
-set-right [] m i v = rw zero-add
-set-right (x ∷ l) m i v = rw suc-add (ap (λ (k : List ℕ). x ∷ k) (set-right l m i v))
+set_right : (l m : List ℕ) (i v : ℕ) → set (l ++ m) (length l + i) v ≡ l ++ set m i v
+set_right [] m i v = rw zero-add
+set_right (x ∷ l) m i v = rw suc-add (ap (λ (k : List ℕ). x ∷ k) (set_right l m i v))
 
 -- past the first of two parts
-pub sets-right : (l m : List ℕ) (i : ℕ) (vs : List ℕ) → sets (l ++ m) (length l + i) vs ≡ l ++ sets m i vs
-sets-right l m i [] = refl
-sets-right l m i (v ∷ vs) = rw (set-right, ← add-suc) (sets-right l (set m i v) (suc i) vs)
+pub sets_right : (l m : List ℕ) (i : ℕ) (vs : List ℕ) → sets (l ++ m) (length l + i) vs ≡ l ++ sets m i vs
+sets_right l m i [] = refl
+sets_right l m i (v ∷ vs) = rw (set_right, ← add-suc) (sets_right l (set m i v) (suc i) vs)
 
 -- what the callee leaves of the part is x
-pub lent-stores : (b : List ℕ) (at i : ℕ) (vs x : List ℕ) → at ≤ length b → x ≡ sets (take (length b - at) (drop at b)) i vs → take at b ++ (x ++ drop (length b - at) (drop at b)) ≡ sets b (at + i) vs
-lent-stores b at i vs x h e =
+pub lent_stores : (b : List ℕ) (at i : ℕ) (vs x : List ℕ) → at ≤ length b → x ≡ sets (take (length b - at) (drop at b)) i vs → take at b ++ (x ++ drop (length b - at) (drop at b)) ≡ sets b (at + i) vs
+lent_stores b at i vs x h e =
     let n : length (take at b) ≡ at = length-take-le at b h in
     rw (e, part-all b at, part_none b at, append-nil)
-    (sym (ap (λ (l : List ℕ). sets l (at + i) vs) (sym (take-append-drop at b)) ∙ ap (λ (k : ℕ). sets (take at b ++ drop at b) (k + i) vs) (sym n) ∙ sets-right (take at b) (drop at b) i vs))
+    (sym (ap (λ (l : List ℕ). sets l (at + i) vs) (sym (take-append-drop at b)) ∙ ap (λ (k : ℕ). sets (take at b ++ drop at b) (k + i) vs) (sym n) ∙ sets_right (take at b) (drop at b) i vs))
 
 -- what stands past the stores
 pub drop-sets : (n : ℕ) (l : List ℕ) (i : ℕ) (vs : List ℕ) → i + length vs ≤ n → drop n (sets l i vs) ≡ drop n l

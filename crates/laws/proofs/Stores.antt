@@ -41,17 +41,17 @@ sets-set l i j v [] h = refl
 sets-set l i j v (x ∷ vs) h = sets-set (set l i x) (suc i) j v vs (omega arith) ∙ ap (λ (k : List ℕ). sets k (suc i) vs) (set_comm l i j x v (λ e. omega (arith, e)))
 
 -- and so may a run of them
-pub sets-comm : (l : List ℕ) (i j : ℕ) (xs ys : List ℕ) → i + length xs ≤ j → sets (sets l i xs) j ys ≡ sets (sets l j ys) i xs
-sets-comm l i j xs [] h = refl
-sets-comm l i j xs (y ∷ ys) h = rw (sets-set l i j y xs h) (sets-comm (set l j y) i (suc j) xs ys (omega arith))
+pub sets_comm : (l : List ℕ) (i j : ℕ) (xs ys : List ℕ) → i + length xs ≤ j → sets (sets l i xs) j ys ≡ sets (sets l j ys) i xs
+sets_comm l i j xs [] h = refl
+sets_comm l i j xs (y ∷ ys) h = rw (sets-set l i j y xs h) (sets_comm (set l j y) i (suc j) xs ys (omega arith))
 
 -- the m elements from `at` on, stored where they stand; and with one of them changed
 module _ (s : List ℕ) (at m : ℕ) (h : at + m ≤ length s) where
   part_length : length (take m (drop at s)) ≡ m
   part_length = length-take-le m (drop at s) (rw length-drop (omega arith))
 
-  pub sets-self : sets s at (take m (drop at s)) ≡ s
-  sets-self =
+  pub sets_self : sets s at (take m (drop at s)) ≡ s
+  sets_self =
       sets-splice s at (take m (drop at s)) (rw part_length h) ∙ rw (part_length, ← drop-drop m at s, take-append-drop m (drop at s)) (take-append-drop at s)
 
   pub part-set : (k v : ℕ) → k < m → set s (at + k) v ≡ sets s at (set (take m (drop at s)) k v)
@@ -73,8 +73,8 @@ copied_all d s at i h = rw (drop_of_length-le s h)
 pub filled : (d : List ℕ) (at n i b : ℕ) → i < n → sets (set d (at + i) b) (at + (i + 1)) (replicate (n - (i + 1)) b) ≡ sets d (at + i) (replicate (n - i) b)
 filled d at n i b h = let e : n - i ≡ suc (n - (i + 1)) = omega arith in rw (e, add-one, add-suc)
 
-pub filled-all : (d : List ℕ) (at n i b : ℕ) → n ≤ i → sets d (at + i) (replicate (n - i) b) ≡ d
-filled-all d at n i b h = let e : n - i ≡ 0 = omega arith in rw e
+pub filled_all : (d : List ℕ) (at n i b : ℕ) → n ≤ i → sets d (at + i) (replicate (n - i) b) ≡ d
+filled_all d at n i b h = let e : n - i ≡ 0 = omega arith in rw e
 
 -- the loop that moves n elements from f down to t, the first one first
 pub moved_down : (d : List ℕ) (f t n i : ℕ) → t ≤ f → i < n → f + n ≤ length d

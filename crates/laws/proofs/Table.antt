@@ -17,5 +17,5 @@ from f (suc n) i zero h = rw add-zero
 from f (suc n) i (suc k) h = from f n (suc i) k (omega arith) ∙ ap f (omega arith)
 
 -- at a list of numerals that `table f n 0` computes to
-pub table-rule : (f : ℕ → ℕ) (n k : ℕ) → k < n → get_or (table f n 0) k 0 ≡ f k
-table-rule f n k h = from f n 0 k h ∙ ap f (zero-add k)
+pub table_rule : (f : ℕ → ℕ) (n k : ℕ) → k < n → get_or (table f n 0) k 0 ≡ f k
+table_rule f n k h = from f n 0 k h ∙ ap f (zero-add k)

@@ -23,9 +23,9 @@ pub both : (t u : Bool) → cond t u false ≡ true → (t ≡ true) × (u ≡ t
 both true u e = (refl, e)
 both false u e = absurd (false≢true e)
 
-pub or-none : (x y : Bool) → (x || y) ≡ false → (x ≡ false) × (y ≡ false)
-or-none true y e = absurd (false≢true (sym e))
-or-none false y e = (refl, e)
+pub or_none : (x y : Bool) → (x || y) ≡ false → (x ≡ false) × (y ≡ false)
+or_none true y e = absurd (false≢true (sym e))
+or_none false y e = (refl, e)
 
 pub or_map : (x y : Bool) {p q : Bool} → (x ≡ true → p ≡ true) → (y ≡ true → q ≡ true) → (x || y) ≡ true → (p || q) ≡ true
 or_map true y f g e = rw (f refl)
@@ -39,22 +39,22 @@ same {x = false} {y = true} f g = g refl
 same {x = false} {y = false} f g = refl
 
 -- two numbers in order, or not
-by-dec : {P : Type 0} (a b : ℕ) → Dec (a < b) → (a < b → P) → (b ≤ a → P) → P
-by-dec a b (yes p) f g = f p
-by-dec a b (no n) f g = g (omega (arith, n))
+by_dec : {P : Type 0} (a b : ℕ) → Dec (a < b) → (a < b → P) → (b ≤ a → P) → P
+by_dec a b (yes p) f g = f p
+by_dec a b (no n) f g = g (omega (arith, n))
 
 pub cases : {P : Type 0} (a b : ℕ) → (a < b → P) → (b ≤ a → P) → P
-cases a b f g = by-dec a b (dec_lt a b) f g
+cases a b f g = by_dec a b (dec_lt a b) f g
 
 -- two numbers that are the same, or not
 pub same_or : {P : Type 0} (a b : ℕ) → (a ≡ b → P) → ((a ≡ b → ⊥) → P) → P
 same_or a b f g = cases a b (λ h. g (λ e. omega arith)) (λ h. cases b a (λ l. g (λ e. omega arith)) (λ l. f (omega arith)))
 
-pub same-ltb : (a b c d : ℕ) → (a < b → c < d) → (b ≤ a → d ≤ c) → ltb a b ≡ ltb c d
-same-ltb a b c d f g = cases a b (λ h. lt-ltb a b h ∙ sym (lt-ltb c d (f h))) (λ h. le-ltb a b h ∙ sym (le-ltb c d (g h)))
+pub same_ltb : (a b c d : ℕ) → (a < b → c < d) → (b ≤ a → d ≤ c) → ltb a b ≡ ltb c d
+same_ltb a b c d f g = cases a b (λ h. lt-ltb a b h ∙ sym (lt-ltb c d (f h))) (λ h. le-ltb a b h ∙ sym (le-ltb c d (g h)))
 
-pub same-leb : (a b c d : ℕ) → (a ≤ b → c ≤ d) → (b < a → d < c) → leb a b ≡ leb c d
-same-leb a b c d f g = cases b a (λ h. lt-leb a b h ∙ sym (lt-leb c d (g h))) (λ h. le-leb a b h ∙ sym (le-leb c d (f h)))
+pub same_leb : (a b c d : ℕ) → (a ≤ b → c ≤ d) → (b < a → d < c) → leb a b ≡ leb c d
+same_leb a b c d f g = cases b a (λ h. lt-leb a b h ∙ sym (lt-leb c d (g h))) (λ h. le-leb a b h ∙ sym (le-leb c d (f h)))
 
 -- what holds of either outcome of a test
 pub by_cond : {A : Type 0} (P : A → Type 0) (t : Bool) (x y : A) → (t ≡ true → P x) → (t ≡ false → P y) → P (cond t x y)

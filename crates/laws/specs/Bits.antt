@@ -1,9 +1,9 @@
 -- FORMAT 3.1. Bits of a byte and of a run of bytes, the low bit first.
 use Rattle.std.specs.Prelude.{ℕ, ◌+◌, ◌*◌, ◌-◌, ◌/◌, ◌%◌, ◌^◌, Bool, true, false, List, get_or, set}
 
-abbrev pub bitValue : Bool → ℕ
-bitValue true = 1
-bitValue false = 0
+abbrev pub bit_value : Bool → ℕ
+bit_value true = 1
+bit_value false = 0
 
 -- bit k of the byte b, and b with the bit v there
 abbrev pub bit_of : ℕ → ℕ → ℕ
@@ -16,5 +16,5 @@ put_bit v k b = b - bit_of k b * 2 ^ k + v * 2 ^ k
 abbrev pub bit_at : ℕ → List ℕ → ℕ
 bit_at i bs = bit_of (i % 8) (get_or bs (i / 8) 0)
 
-abbrev pub putBitAt : ℕ → ℕ → List ℕ → List ℕ
-putBitAt v i bs = set bs (i / 8) (put_bit v (i % 8) (get_or bs (i / 8) 0))
+abbrev pub put_bit_at : ℕ → ℕ → List ℕ → List ℕ
+put_bit_at v i bs = set bs (i / 8) (put_bit v (i % 8) (get_or bs (i / 8) 0))

@@ -1,9 +1,9 @@
 // null_bitmap.rs: a column's bit in lent bytes, low bit first, set for null. Where the Rust asserts, the answer is 9.
 ghost use Rattle.std.specs.Prelude.{◌≡◌, ◌+◌, ◌/◌, ◌<◌, eqb, length, drop};
-ghost use Rattle.laws.specs.Bits.{bitValue, put_bit, bit_at};
-ghost use Rattle.row_format.specs.Places.{bitmapStart};
-ghost use Rattle.null_bitmap.specs.Bitmap.{nullFlag};
-ghost use Rattle.null_bitmap.specs.InnerBitmap.{flagIn, flagPut};
+ghost use Rattle.laws.specs.Bits.{bit_value, put_bit, bit_at};
+ghost use Rattle.row_format.specs.Places.{bitmap_start};
+ghost use Rattle.null_bitmap.specs.Bitmap.{null_flag};
+ghost use Rattle.null_bitmap.specs.InnerBitmap.{flag_in, flag_put};
 
 use error::{Flag, Refusal};
 use row_layout::RowLayout;
@@ -17,7 +17,7 @@ pub enum BitAnswer {
 // The byte b with bit k set or cleared.
 fn put_bit(b: u8, k: usize, set: bool) -> u8
     requires { k < 8 }
-    ensures { result ≡ put_bit (bitValue set) k b }
+    ensures { result ≡ put_bit (bit_value set) k b }
 {
     if (b >> k) % 2 == 1 {
         if set { b } else { b - (1 << k) }
@@ -35,8 +35,8 @@ pub fn bit_is_set(bits: &[u8], i: usize) -> bool
 
 // The same of the bitmap of a row.
 pub fn column_bit_is_set(row: &[u8], i: usize) -> bool
-    requires { bitmapStart + i / 8 < length row.now }
-    ensures { result ≡ eqb (bit_at i (drop bitmapStart row.now)) 1 }
+    requires { bitmap_start + i / 8 < length row.now }
+    ensures { result ≡ eqb (bit_at i (drop bitmap_start row.now)) 1 }
 {
     let bitmap = RowLayout::bitmap_offset();
     bit_is_set(&row[bitmap..], i)
@@ -44,7 +44,7 @@ pub fn column_bit_is_set(row: &[u8], i: usize) -> bool
 
 // Whether column i of n is null.
 pub fn is_null(bits: &[u8], n: usize, i: usize) -> Flag
-    ensures { result ≡ flagIn n i bits.now }
+    ensures { result ≡ flag_in n i bits.now }
 {
     if n <= i {
         return Flag::Refused(Refusal::NoSuchColumn);
@@ -57,7 +57,7 @@ pub fn is_null(bits: &[u8], n: usize, i: usize) -> Flag
 
 // Column i of n marked null, or not null.
 fn put_null(bits: &mut [u8], n: usize, i: usize, null: bool) -> BitAnswer
-    ensures { (result, bits.new) ≡ flagPut (bitValue null) n i bits.old }
+    ensures { (result, bits.new) ≡ flag_put (bit_value null) n i bits.old }
 {
     if n <= i {
         return BitAnswer::Refused(Refusal::NoSuchColumn);
@@ -70,20 +70,20 @@ fn put_null(bits: &mut [u8], n: usize, i: usize, null: bool) -> BitAnswer
 }
 
 pub fn set_null(bits: &mut [u8], n: usize, i: usize) -> BitAnswer
-    ensures { (result, bits.new) ≡ flagPut 1 n i bits.old }
+    ensures { (result, bits.new) ≡ flag_put 1 n i bits.old }
 {
     put_null(bits, n, i, true)
 }
 
 pub fn clear_null(bits: &mut [u8], n: usize, i: usize) -> BitAnswer
-    ensures { (result, bits.new) ≡ flagPut 0 n i bits.old }
+    ensures { (result, bits.new) ≡ flag_put 0 n i bits.old }
 {
     put_null(bits, n, i, false)
 }
 
 // Whether a column of a row is null, by the row's own mark, header and bitmap.
 pub fn is_column_null_in_row(row: &[u8], column: usize) -> Flag
-    ensures { result ≡ nullFlag row.now column }
+    ensures { result ≡ null_flag row.now column }
 {
     let is_long = row_layout::is_long(row);
     if row_layout::row_limit(is_long) < row.len() {

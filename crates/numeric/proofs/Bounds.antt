@@ -13,14 +13,14 @@ use Rattle.numeric.specs.declared.Decoded.{Decoded}
 use Rattle.numeric.specs.declared.Decoded.TheVariants as D
 use Rattle.numeric.specs.declared.Magnitude.TheVariants as M
 use Rattle.numeric.specs.Decimal.{denote}
-use Rattle.numeric.specs.Packed.{nibbles, frontSize, allDigits, signed, decodeBcd}
+use Rattle.numeric.specs.Packed.{nibbles, front_size, all_digits, signed, decode_bcd}
 
 -- n digits denote a number below 10 ^ n
-pub denote-below : (ds : List ℕ) → allDigits ds ≡ true → denote ds < 10 ^ length ds
+pub denote-below : (ds : List ℕ) → all_digits ds ≡ true → denote ds < 10 ^ length ds
 denote-below [] e = omega arith
 denote-below (d ∷ ds) e =
-    let l : d ≤ 9 = leb-true d 9 (and_left (leb d 9) (allDigits ds) e) in
-    let ih : denote ds < 10 ^ length ds = denote-below ds (and_right (leb d 9) (allDigits ds) e) in
+    let l : d ≤ 9 = leb-true d 9 (and_left (leb d 9) (all_digits ds) e) in
+    let ih : denote ds < 10 ^ length ds = denote-below ds (and_right (leb d 9) (all_digits ds) e) in
     rw (pow-suc 10 (length ds)) (omega (arith, mul-le-mul_right (10 ^ length ds) l))
 
 -- 38 digits do not reach 2 ^ 127
@@ -29,11 +29,11 @@ below-signed x n h l = (div-lt_iff_lt-mul {k = 2 ^ 64} {x = x} {y = 2 ^ 63} (ome
 
 -- what is read from at most 38 digits is no number, or one whose upper half can be signed
 pub by_number : (P : Decoded → Type 0) (p : ℕ) (bs : List ℕ) → p ≤ 38 → P D.Broken
-    → ((negative : Bool) (x : ℕ) → x / 2 ^ 64 < 2 ^ 63 → P (D.Value negative (x / 2 ^ 64) (x % 2 ^ 64))) → P (decodeBcd p bs)
+    → ((negative : Bool) (x : ℕ) → x / 2 ^ 64 < 2 ^ 63 → P (D.Value negative (x / 2 ^ 64) (x % 2 ^ 64))) → P (decode_bcd p bs)
 by_number P p bs h none some =
-    let ds = take p (drop (frontSize p) (nibbles bs)) in
-    let s = get_or (nibbles bs) (frontSize p + p) 0 in
-    by_cond (λ m. P (signed s m)) (allDigits ds) (M.Number (denote ds / 2 ^ 64) (denote ds % 2 ^ 64)) M.Broken
+    let ds = take p (drop (front_size p) (nibbles bs)) in
+    let s = get_or (nibbles bs) (front_size p + p) 0 in
+    by_cond (λ m. P (signed s m)) (all_digits ds) (M.Number (denote ds / 2 ^ 64) (denote ds % 2 ^ 64)) M.Broken
     (λ e.
     let l : denote ds / 2 ^ 64 < 2 ^ 63 = below-signed (denote ds) (length ds) (denote-below ds e) (rw length-take (omega arith)) in
     by_cond P (eqb s 0xC) (D.Value false (denote ds / 2 ^ 64) (denote ds % 2 ^ 64)) _ (λ _. some false (denote ds) l)
@@ -44,5 +44,5 @@ abbrev pub Signable : Decoded → Type 0
 Signable (D.Value negative high low) = high < 2 ^ 63
 Signable D.Broken = Unit {0}
 
-pub signable : (p : ℕ) (bs : List ℕ) → p ≤ 38 → Signable (decodeBcd p bs)
+pub signable : (p : ℕ) (bs : List ℕ) → p ≤ 38 → Signable (decode_bcd p bs)
 signable p bs h = by_number Signable p bs h tt (λ negative x l. l)

@@ -13,19 +13,19 @@ no-high high low h = omega arith
 
 -- the halves of a number in halves
 module _ (high low : ℕ) (l : low < 2 ^ 64) where
-  pub upper-half : halves high low / 2 ^ 64 ≡ high
-  upper-half = omega arith
+  pub upper_half : halves high low / 2 ^ 64 ≡ high
+  upper_half = omega arith
 
-  pub lower-half : halves high low % 2 ^ 64 ≡ low
-  lower-half = omega arith
+  pub lower_half : halves high low % 2 ^ 64 ≡ low
+  lower_half = omega arith
 
 -- the order of two numbers in halves, of which the second is given whole
 module _ (high low x : ℕ) where
   pub high-below : low < 2 ^ 64 → high < x / 2 ^ 64 → halves high low < x
   high-below l h = omega arith
 
-  pub high-above : x / 2 ^ 64 < high → x ≤ halves high low
-  high-above h = omega arith
+  pub high_above : x / 2 ^ 64 < high → x ≤ halves high low
+  high_above h = omega arith
 
   pub same-high : high ≡ x / 2 ^ 64 → low < x % 2 ^ 64 → halves high low < x
   same-high e h = omega arith
@@ -59,15 +59,15 @@ module _ (high low d : ℕ) (pos : 1 ≤ d) where
       rw (add-mul (high / d * 2 ^ 64) (upper / d * 0x100000000 + lower / d) d, add-mul (upper / d * 0x100000000) (lower / d) d, swapped (high / d) (2 ^ 64) d, swapped (upper / d) 0x100000000 d)
       (joined (high / d * d) (upper / d * d) (lower / d * d) (high % d) (upper % d) (lower % d) high low (div-add-mod' high d) (div-add-mod' upper d) (div-add-mod' lower d))
 
-  pub halves-divided : (halves (high / d) (upper / d * 0x100000000 + lower / d) ≡ halves high low / d) × (lower % d ≡ halves high low % d)
-  halves-divided = by_parts _ d _ _ whole (mod-lt lower pos)
+  pub halves_divided : (halves (high / d) (upper / d * 0x100000000 + lower / d) ≡ halves high low / d) × (lower % d ≡ halves high low % d)
+  halves_divided = by_parts _ d _ _ whole (mod-lt lower pos)
 
   -- what the machine holds
   shifted : (m l : ℕ) → m < d → l < 0x100000000 → m * 0x100000000 + l < d * 0x100000000
   shifted m l h k = omega arith
 
-  pub upper-part : low < 2 ^ 64 → upper / d < 0x100000000
-  upper-part h =
+  pub upper_part : low < 2 ^ 64 → upper / d < 0x100000000
+  upper_part h =
       (div-lt_iff_lt-mul {k = d} {x = upper} {y = 0x100000000} pos).1
       (rw (mul_comm 0x100000000 d) (shifted (high % d) (low / 0x100000000) (mod-lt high pos) (omega arith)))
 

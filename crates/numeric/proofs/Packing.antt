@@ -10,10 +10,10 @@ use lib.ListN.{length, get_or, set, take, replicate, length-append, length-repli
 use lib.Pow.{pow-add}
 use lib.Seq.{sets, length-sets, get_or_at, get_or-append-add, take-take, take_at, length-take-le}
 use Rattle.laws.proofs.Truths.{cases}
-use Rattle.laws.proofs.Stores.{sets-start, sets_then, sets-comm, sets-self, sets-splice}
+use Rattle.laws.proofs.Stores.{sets-start, sets_then, sets_comm, sets_self, sets-splice}
 use Rattle.numeric.specs.Decimal.{halves, digits}
-use Rattle.numeric.specs.Packed.{pairs, frontSize, signNibble, encodeBcd}
-use Rattle.numeric.specs.InnerPacked.{twoDigits, hundreds, Fresh}
+use Rattle.numeric.specs.Packed.{pairs, front_size, sign_nibble, encode_bcd}
+use Rattle.numeric.specs.InnerPacked.{two_digits, hundreds, Fresh}
 use Rattle.numeric.proofs.Digits.{length_digits}
 
 -- ---- how long they are
@@ -23,12 +23,12 @@ length_pairs [] = refl
 length_pairs (a ∷ []) = refl
 length_pairs (a ∷ b ∷ ns) = omega (arith, length_pairs ns)
 
-pub length-encode : (p : ℕ) (negative : Bool) (x : ℕ) → length (encodeBcd p negative x) ≡ (p + 2) / 2
-unfolding encodeBcd
-length-encode p negative x = rw (length_pairs, length-append, length-append, length_digits, length-replicate) (omega arith)
+pub length_encode : (p : ℕ) (negative : Bool) (x : ℕ) → length (encode_bcd p negative x) ≡ (p + 2) / 2
+unfolding encode_bcd
+length_encode p negative x = rw (length_pairs, length-append, length-append, length_digits, length-replicate) (omega arith)
 
-pub length-thirty-nine : (x : ℕ) → length (pairs (digits 39 x)) ≡ 20
-length-thirty-nine x = length_pairs (digits 39 x) ∙ rw length_digits
+pub length_thirty_nine : (x : ℕ) → length (pairs (digits 39 x)) ≡ 20
+length_thirty_nine x = length_pairs (digits 39 x) ∙ rw length_digits
 
 pub length-hundreds : (n x : ℕ) → length (hundreds n x) ≡ n
 unfolding hundreds
@@ -54,7 +54,7 @@ hundreds-zero (suc n) = rw (zero-div, hundreds-zero n)
 
 -- eight digits, by two divisions each
 pub hundreds-eight : (x : ℕ) → x < 100000000
-    → hundreds 4 x ≡ twoDigits (x / 10000 / 100) ∷ twoDigits (x / 10000 % 100) ∷ twoDigits (x % 10000 / 100) ∷ twoDigits (x % 10000 % 100) ∷ []
+    → hundreds 4 x ≡ two_digits (x / 10000 / 100) ∷ two_digits (x / 10000 % 100) ∷ two_digits (x % 10000 / 100) ∷ two_digits (x % 10000 % 100) ∷ []
 unfolding hundreds
 hundreds-eight x h =
     let a : x / 100 ^ 3 % 100 ≡ x / 10000 / 100 = omega arith in
@@ -64,9 +64,9 @@ hundreds-eight x h =
     rw (a, b, c, d)
 
 -- eight digits of a longer number
-pub hundreds-last : (x : ℕ) → hundreds 4 (x % 100000000) ≡ hundreds 4 x
+pub hundreds_last : (x : ℕ) → hundreds 4 (x % 100000000) ≡ hundreds 4 x
 unfolding hundreds
-hundreds-last x =
+hundreds_last x =
     let a : x % 100000000 / 100 ^ 3 % 100 ≡ x / 100 ^ 3 % 100 = omega arith in
     let b : x % 100000000 / 100 ^ 2 % 100 ≡ x / 100 ^ 2 % 100 = omega arith in
     let c : x % 100000000 / 100 ^ 1 % 100 ≡ x / 100 ^ 1 % 100 = omega arith in
@@ -75,61 +75,61 @@ hundreds-last x =
 
 -- ---- the same as digits, two of them a byte
 
-hundred-pow : (k : ℕ) → 10 ^ (2 * k) ≡ 100 ^ k
-hundred-pow zero = refl
-hundred-pow (suc k) = let e : 2 * suc k ≡ suc (suc (2 * k)) = omega arith in rw (e, pow-suc 10 (suc (2 * k)), pow-suc 10 (2 * k), pow-suc 100 k, hundred-pow k) (omega arith)
+hundred_pow : (k : ℕ) → 10 ^ (2 * k) ≡ 100 ^ k
+hundred_pow zero = refl
+hundred_pow (suc k) = let e : 2 * suc k ≡ suc (suc (2 * k)) = omega arith in rw (e, pow-suc 10 (suc (2 * k)), pow-suc 10 (2 * k), pow-suc 100 k, hundred_pow k) (omega arith)
 
-two-of : (k x : ℕ) → x / 10 ^ suc (suc (2 * k)) % 10 * 16 + x / 10 ^ suc (2 * k) % 10 ≡ twoDigits (x / 10 / 100 ^ k % 100)
-two-of k x =
+two_of : (k x : ℕ) → x / 10 ^ suc (suc (2 * k)) % 10 * 16 + x / 10 ^ suc (2 * k) % 10 ≡ two_digits (x / 10 / 100 ^ k % 100)
+two_of k x =
     let y : ℕ = x / 10 / 100 ^ k in
-    let a : x / 10 ^ suc (2 * k) ≡ y = rw (pow-suc 10 (2 * k), mul_comm (10 ^ (2 * k)) 10, hundred-pow k, ← div-div-eq-div-mul x 10 (100 ^ k)) in
+    let a : x / 10 ^ suc (2 * k) ≡ y = rw (pow-suc 10 (2 * k), mul_comm (10 ^ (2 * k)) 10, hundred_pow k, ← div-div-eq-div-mul x 10 (100 ^ k)) in
     let b : x / 10 ^ suc (suc (2 * k)) ≡ y / 10 = rw (pow-suc 10 (suc (2 * k)), ← div-div-eq-div-mul x (10 ^ suc (2 * k)) 10, a) in
     rw (b, a) (omega arith)
 
 pairs-odd : (k x : ℕ) (rest : List ℕ) → pairs (digits (suc (2 * k)) x ++ rest) ≡ hundreds k (x / 10) ++ pairs (x % 10 ∷ rest)
 unfolding digits hundreds
 pairs-odd zero x rest = let e : x / 10 ^ 0 % 10 ≡ x % 10 = omega arith in rw e
-pairs-odd (suc k) x rest = let e : 2 * suc k ≡ suc (suc (2 * k)) = omega arith in rw (e, two-of k x, pairs-odd k x rest)
+pairs-odd (suc k) x rest = let e : 2 * suc k ≡ suc (suc (2 * k)) = omega arith in rw (e, two_of k x, pairs-odd k x rest)
 
 pub pairs-digits : (x : ℕ) → pairs (digits 39 x) ≡ hundreds 19 (x / 10) ++ (x % 10 * 16 ∷ [])
 pairs-digits x = ap pairs (sym (append-nil (digits 39 x))) ∙ pairs-odd 19 x []
 
 -- a zero nibble in front is a digit more
 module _ (p x : ℕ) (h : x < 10 ^ p) where
-  fronted : (f : ℕ) → frontSize p ≡ f → replicate f 0 ++ digits p x ≡ digits (suc (2 * (p / 2))) x
+  fronted : (f : ℕ) → front_size p ≡ f → replicate f 0 ++ digits p x ≡ digits (suc (2 * (p / 2))) x
   unfolding digits
   fronted zero e = let n : p ≡ suc (2 * (p / 2)) = omega arith in ap (λ (m : ℕ). digits m x) n
   fronted (suc zero) e = let n : 2 * (p / 2) ≡ p = omega arith in rw (n, div-eq_of_lt h)
   fronted (suc (suc f)) e = absurd (omega arith)
 
-  pub encode-pairs : (negative : Bool) → encodeBcd p negative x ≡ hundreds (p / 2) (x / 10) ++ ((x % 10 * 16 + signNibble negative) ∷ [])
-  unfolding encodeBcd
-  encode-pairs negative =
+  pub encode_pairs : (negative : Bool) → encode_bcd p negative x ≡ hundreds (p / 2) (x / 10) ++ ((x % 10 * 16 + sign_nibble negative) ∷ [])
+  unfolding encode_bcd
+  encode_pairs negative =
       rw length_digits
-      (ap pairs (sym (append_assoc (replicate (frontSize p) 0) (digits p x) (signNibble negative ∷ [])) ∙ ap (λ (l : List ℕ). l ++ (signNibble negative ∷ [])) (fronted (frontSize p) refl))
-      ∙ pairs-odd (p / 2) x (signNibble negative ∷ []))
+      (ap pairs (sym (append_assoc (replicate (front_size p) 0) (digits p x) (sign_nibble negative ∷ [])) ∙ ap (λ (l : List ℕ). l ++ (sign_nibble negative ∷ [])) (fronted (front_size p) refl))
+      ∙ pairs-odd (p / 2) x (sign_nibble negative ∷ []))
 
   -- byte by byte out of the 39 digits
   module _ (few : p ≤ 38) (negative : Bool) where
     abbrev y : ℕ
     y = x / 10
 
-    pub digits-at : (j : ℕ) → j < p / 2 → get_or (pairs (digits 39 x)) (19 - p / 2 + j) 0 ≡ get_or (encodeBcd p negative x) j 0
+    pub digits-at : (j : ℕ) → j < p / 2 → get_or (pairs (digits 39 x)) (19 - p / 2 + j) 0 ≡ get_or (encode_bcd p negative x) j 0
     digits-at j k =
         let n : 19 - p / 2 + p / 2 ≡ 19 = omega arith in
         let cut : hundreds 19 y ≡ hundreds (19 - p / 2) (y / 100 ^ (p / 2)) ++ hundreds (p / 2) y = ap (λ (m : ℕ). hundreds m y) (sym n) ∙ hundreds-split (19 - p / 2) (p / 2) y in
         let at : get_or (hundreds 19 y) (19 - p / 2 + j) 0 ≡ get_or (hundreds (p / 2) y) j 0
         = ap (λ (l : List ℕ). get_or l (19 - p / 2 + j) 0) cut ∙ rw length-hundreds at (get_or-append-add (hundreds (19 - p / 2) (y / 100 ^ (p / 2))) (hundreds (p / 2) y) j 0) in
-        rw (pairs-digits x, encode-pairs negative)
+        rw (pairs-digits x, encode_pairs negative)
         (get_or-append (hundreds 19 y) _ 0 (19 - p / 2 + j) (rw length-hundreds (omega arith)) ∙ at ∙ sym (get_or-append (hundreds (p / 2) y) _ 0 j (rw length-hundreds k)))
 
-    pub digits_last : get_or (pairs (digits 39 x)) 19 0 + signNibble negative ≡ get_or (encodeBcd p negative x) (p / 2) 0
+    pub digits_last : get_or (pairs (digits 39 x)) 19 0 + sign_nibble negative ≡ get_or (encode_bcd p negative x) (p / 2) 0
     digits_last =
-        rw (pairs-digits x, encode-pairs negative, get_or_at (hundreds 19 y) (x % 10 * 16) [] 0 19 (length-hundreds 19 y))
-        (sym (get_or_at (hundreds (p / 2) y) (x % 10 * 16 + signNibble negative) [] 0 (p / 2) (length-hundreds (p / 2) y)))
+        rw (pairs-digits x, encode_pairs negative, get_or_at (hundreds 19 y) (x % 10 * 16) [] 0 19 (length-hundreds 19 y))
+        (sym (get_or_at (hundreds (p / 2) y) (x % 10 * 16 + sign_nibble negative) [] 0 (p / 2) (length-hundreds (p / 2) y)))
 
-pub last-digit : (x : ℕ) → get_or (pairs (digits 39 x)) 19 0 ≤ 144
-last-digit x = rw (pairs-digits x, get_or_at (hundreds 19 (x / 10)) (x % 10 * 16) [] 0 19 (length-hundreds 19 (x / 10))) (omega arith)
+pub last_digit : (x : ℕ) → get_or (pairs (digits 39 x)) 19 0 ≤ 144
+last_digit x = rw (pairs-digits x, get_or_at (hundreds 19 (x / 10)) (x % 10 * 16) [] 0 19 (length-hundreds 19 (x / 10))) (omega arith)
 
 -- ---- digits up to place i are to be stored over zeros, so that `all` stands there
 
@@ -154,37 +154,37 @@ module _ {all s : List ℕ} {i n : ℕ} (f : Filling all s i n) where
           zeros = take-sets m s (hundreds k n) inside ∙ sym (take-take m i s (omega arith)) ∙ ap (take m) f.fresh.zeros ∙ take-replicate m i (omega arith);
           room = (div-lt_iff_lt-mul {k = 100 ^ k} {x = n} {y = 100 ^ m} (one-le-pow k 100 (omega arith))).1 (rw (← pow-add 100 m k, e) f.fresh.room);
         };
-        stored = sym (sets-comm s 0 m (hundreds m (n / 100 ^ k)) (hundreds k n) (rw l (omega arith)))
+        stored = sym (sets_comm s 0 m (hundreds m (n / 100 ^ k)) (hundreds k n) (rw l (omega arith)))
             ∙ sets_then s 0 m (hundreds m (n / 100 ^ k)) (hundreds k n) l refl (rw zero-add)
             ∙ ap (sets s 0) (sym (hundreds-split m k n)) ∙ ap (λ (j : ℕ). sets s 0 (hundreds j n)) e ∙ f.stored;
       }
 
-  pub fill-length : length s ≡ length all
-  fill-length = sym (length-sets s 0 (hundreds i n)) ∙ ap length f.stored
+  pub fill_length : length s ≡ length all
+  fill_length = sym (length-sets s 0 (hundreds i n)) ∙ ap length f.stored
 
   pub fill_end : n ≤ 0 → s ≡ all
   fill_end h =
       let z : n ≡ 0 = omega arith in
       let e : hundreds i n ≡ take i s = ap (hundreds i) z ∙ hundreds-zero i ∙ sym f.fresh.zeros in
-      sym (sets-self s 0 i (omega (arith, f.fresh.inside))) ∙ ap (sets s 0) (sym e) ∙ f.stored
+      sym (sets_self s 0 i (omega (arith, f.fresh.inside))) ∙ ap (sets s 0) (sym e) ∙ f.stored
 
   -- a digit is left only where there is room for it
-  pub fill-room : 0 < n → 0 < i
-  fill-room h = cases 0 i (λ k. k) (λ k. let z : i ≡ 0 = omega arith in let r : n < 100 ^ 0 = rw z at f.fresh.room in absurd (omega arith))
+  pub fill_room : 0 < n → 0 < i
+  fill_room h = cases 0 i (λ k. k) (λ k. let z : i ≡ 0 = omega arith in let r : n < 100 ^ 0 = rw z at f.fresh.room in absurd (omega arith))
 
   -- and more than 64 bits only where there is room for eight digits
-  pub fill-long : 2 ^ 64 ≤ n → 4 ≤ i
-  fill-long h =
+  pub fill_long : 2 ^ 64 ≤ n → 4 ≤ i
+  fill_long h =
       cases i 4
       (λ k. let r : n < 100 ^ 3 = lt_of_lt_of_le f.fresh.room (pow-le-pow_right {n = 100} (lit≤ tt) {i = i} {j = 3} (omega arith)) in absurd (omega arith))
       (λ k. k)
 
-  pub fill-eight : 4 ≤ i → Filling all (sets s (i - 4) (hundreds 4 (n % 100000000))) (i - 4) (n / 100000000)
-  fill-eight h = rw (hundreds-last n) (fill_more 4 h)
+  pub fill_eight : 4 ≤ i → Filling all (sets s (i - 4) (hundreds 4 (n % 100000000))) (i - 4) (n / 100000000)
+  fill_eight h = rw (hundreds_last n) (fill_more 4 h)
 
-  pub fill-two : 0 < i → Filling all (set s (i - 1) (twoDigits (n % 100))) (i - 1) (n / 100)
+  pub fill_two : 0 < i → Filling all (set s (i - 1) (two_digits (n % 100))) (i - 1) (n / 100)
   unfolding hundreds
-  fill-two h =
+  fill_two h =
       let e : n / 100 ^ 1 ≡ n / 100 = omega arith in
       let d : n / 100 ^ 0 % 100 ≡ n % 100 = omega arith in
       rw (e, d) at (fill_more 1 h)
@@ -211,8 +211,8 @@ fill_start x h =
 nine : (x : ℕ) → (x % 1000000000 % 10 ≡ x % 10) × ((x % 1000000000 / 10 ≡ x / 10 % 100000000) × (x / 10 / 100000000 ≡ x / 1000000000))
 nine x = (omega arith, (omega arith, omega arith))
 
-pub fill-nine : (x : ℕ) → x / 10 < 100 ^ 19
+pub fill_nine : (x : ℕ) → x / 10 < 100 ^ 19
     → Filling (pairs (digits 39 x)) (sets (set (replicate 20 0) 19 (x % 1000000000 % 10 * 16)) 15 (hundreds 4 (x % 1000000000 / 10))) 15 (x / 1000000000)
-fill-nine x h =
+fill_nine x h =
     let e = nine x in
-    rw (e.0, e.1.0, hundreds-last (x / 10)) (rw e.1.1 at (fill_more (fill_start x h) 4 (lit≤ tt)))
+    rw (e.0, e.1.0, hundreds_last (x / 10)) (rw e.1.1 at (fill_more (fill_start x h) 4 (lit≤ tt)))

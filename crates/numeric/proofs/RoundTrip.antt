@@ -12,7 +12,7 @@ use Rattle.laws.proofs.Bytes.{Below}
 use Rattle.numeric.specs.declared.Decoded.TheVariants.{Value}
 use Rattle.numeric.specs.declared.Magnitude.TheVariants.{Number}
 use Rattle.numeric.specs.Decimal.{digits}
-use Rattle.numeric.specs.Packed.{pairs, nibbles, frontSize, signNibble, encodeBcd, allDigits, signed, decodeBcd}
+use Rattle.numeric.specs.Packed.{pairs, nibbles, front_size, sign_nibble, encode_bcd, all_digits, signed, decode_bcd}
 use Rattle.numeric.proofs.Digits.{length_digits, denote-digits}
 
 below-append : (m : ℕ) (xs ys : List ℕ) → Below m xs → Below m ys → Below m (xs ++ ys)
@@ -28,9 +28,9 @@ unfolding digits
 below-digits zero x = tt
 below-digits (suc n) x = (omega arith, below-digits n x)
 
-below-sign : (negative : Bool) → Below 16 (signNibble negative ∷ [])
-below-sign true = (omega arith, tt)
-below-sign false = (omega arith, tt)
+below_sign : (negative : Bool) → Below 16 (sign_nibble negative ∷ [])
+below_sign true = (omega arith, tt)
+below_sign false = (omega arith, tt)
 
 nibbles-pairs : (ns : List ℕ) → Below 16 ns → length ns % 2 ≡ 0 → nibbles (pairs ns) ≡ ns
 nibbles-pairs [] b e = refl
@@ -42,45 +42,45 @@ nibbles-pairs (x ∷ y ∷ ns) b e =
     let low : (x * 16 + y) % 16 ≡ y = omega arith in
     rw (high, low, nibbles-pairs ns b.1.1 (omega arith))
 
-all_digits : (n x : ℕ) → allDigits (digits n x) ≡ true
+all_digits_lem : (n x : ℕ) → all_digits (digits n x) ≡ true
 unfolding digits
-all_digits zero x = refl
-all_digits (suc n) x = rw (le-leb (x / 10 ^ n % 10) 9 (omega arith), all_digits n x)
+all_digits_lem zero x = refl
+all_digits_lem (suc n) x = rw (le-leb (x / 10 ^ n % 10) 9 (omega arith), all_digits_lem n x)
 
 module _ (p : ℕ) (negative : Bool) (x : ℕ) where
   front : List ℕ
-  front = replicate (frontSize p) 0
+  front = replicate (front_size p) 0
 
   packed : List ℕ
-  packed = front ++ (digits p x ++ (signNibble negative ∷ []))
+  packed = front ++ (digits p x ++ (sign_nibble negative ∷ []))
 
-  length_front : length front ≡ frontSize p
+  length_front : length front ≡ front_size p
   unfolding front
-  length_front = length-replicate (frontSize p) 0
+  length_front = length-replicate (front_size p) 0
 
-  read-nibbles : nibbles (encodeBcd p negative x) ≡ packed
-  unfolding encodeBcd packed front
+  read-nibbles : nibbles (encode_bcd p negative x) ≡ packed
+  unfolding encode_bcd packed front
   read-nibbles =
       rw length_digits
-      (nibbles-pairs (replicate (frontSize p) 0 ++ (digits p x ++ (signNibble negative ∷ [])))
-      (below-append 16 (replicate (frontSize p) 0) _ (below-zeros (frontSize p) 16 (omega arith)) (below-append 16 (digits p x) _ (below-digits p x) (below-sign negative)))
+      (nibbles-pairs (replicate (front_size p) 0 ++ (digits p x ++ (sign_nibble negative ∷ [])))
+      (below-append 16 (replicate (front_size p) 0) _ (below-zeros (front_size p) 16 (omega arith)) (below-append 16 (digits p x) _ (below-digits p x) (below_sign negative)))
       (rw (length-append, length-append, length_digits, length-replicate) (omega arith)))
 
-  read-sign : get_or packed (frontSize p + p) 0 ≡ signNibble negative
+  read_sign : get_or packed (front_size p + p) 0 ≡ sign_nibble negative
   unfolding packed
-  read-sign = rw (← append_assoc front (digits p x) (signNibble negative ∷ [])) (get_or_at (front ++ digits p x) (signNibble negative) [] 0 (frontSize p + p) (rw (length-append, length_front, length_digits)))
+  read_sign = rw (← append_assoc front (digits p x) (sign_nibble negative ∷ [])) (get_or_at (front ++ digits p x) (sign_nibble negative) [] 0 (front_size p + p) (rw (length-append, length_front, length_digits)))
 
-  read-digits : take p (drop (frontSize p) packed) ≡ digits p x
+  read-digits : take p (drop (front_size p) packed) ≡ digits p x
   unfolding packed
   read-digits =
-      let d : drop (frontSize p) packed ≡ digits p x ++ (signNibble negative ∷ []) = rw length_front at (drop-append_seam front (digits p x ++ (signNibble negative ∷ []))) in
-      ap (take p) d ∙ rw (length_digits p x) at (take-append_seam (digits p x) (signNibble negative ∷ []))
+      let d : drop (front_size p) packed ≡ digits p x ++ (sign_nibble negative ∷ []) = rw length_front at (drop-append_seam front (digits p x ++ (sign_nibble negative ∷ []))) in
+      ap (take p) d ∙ rw (length_digits p x) at (take-append_seam (digits p x) (sign_nibble negative ∷ []))
 
-sign_read : (negative : Bool) (high low : ℕ) → signed (signNibble negative) (Number high low) ≡ Value negative high low
+sign_read : (negative : Bool) (high low : ℕ) → signed (sign_nibble negative) (Number high low) ≡ Value negative high low
 sign_read true high low = refl
 sign_read false high low = refl
 
 -- a number of at most p digits, packed with its sign, is read back
-pub decode-encode : (p : ℕ) (negative : Bool) (x : ℕ) → x < 10 ^ p → decodeBcd p (encodeBcd p negative x) ≡ Value negative (x / 2 ^ 64) (x % 2 ^ 64)
-decode-encode p negative x h =
-    rw (read-nibbles p negative x, read-sign p negative x, read-digits p negative x, all_digits p x, denote-digits p x, mod-eq_of_lt h) (sign_read negative (x / 2 ^ 64) (x % 2 ^ 64))
+pub decode_encode : (p : ℕ) (negative : Bool) (x : ℕ) → x < 10 ^ p → decode_bcd p (encode_bcd p negative x) ≡ Value negative (x / 2 ^ 64) (x % 2 ^ 64)
+decode_encode p negative x h =
+    rw (read-nibbles p negative x, read_sign p negative x, read-digits p negative x, all_digits_lem p x, denote-digits p x, mod-eq_of_lt h) (sign_read negative (x / 2 ^ 64) (x % 2 ^ 64))

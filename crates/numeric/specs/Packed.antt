@@ -18,32 +18,32 @@ nibbles [] = []
 nibbles (b ∷ bs) = b / 16 ∷ b % 16 ∷ nibbles bs
 
 -- 1 where p is even
-abbrev pub frontSize : ℕ → ℕ
-frontSize p = (p + 1) % 2
+abbrev pub front_size : ℕ → ℕ
+front_size p = (p + 1) % 2
 
-abbrev pub signNibble : Bool → ℕ
-signNibble true = 0xD
-signNibble false = 0xC
+abbrev pub sign_nibble : Bool → ℕ
+sign_nibble true = 0xD
+sign_nibble false = 0xC
 
 -- the packed form of digits and a sign; and of a number, with p digits
-abbrev pub packedNibbles : Bool → List ℕ → List ℕ
-packedNibbles negative ds = replicate (frontSize (length ds)) 0 ++ (ds ++ (signNibble negative ∷ []))
+abbrev pub packed_nibbles : Bool → List ℕ → List ℕ
+packed_nibbles negative ds = replicate (front_size (length ds)) 0 ++ (ds ++ (sign_nibble negative ∷ []))
 
-unfoldable pub encodeBcd : ℕ → Bool → ℕ → List ℕ
-encodeBcd p negative x = pairs (packedNibbles negative (digits p x))
+unfoldable pub encode_bcd : ℕ → Bool → ℕ → List ℕ
+encode_bcd p negative x = pairs (packed_nibbles negative (digits p x))
 
 -- bytes read back: p digits after the front nibble, which is not looked at, and then the sign
-abbrev pub allDigits : List ℕ → Bool
-allDigits [] = true
-allDigits (d ∷ ds) = leb d 9 && allDigits ds
+abbrev pub all_digits : List ℕ → Bool
+all_digits [] = true
+all_digits (d ∷ ds) = leb d 9 && all_digits ds
 
-abbrev pub magnitudeOf : List ℕ → Magnitude
-magnitudeOf ds = cond (allDigits ds) (M.Number (denote ds / 2 ^ 64) (denote ds % 2 ^ 64)) M.Broken
+abbrev pub magnitude_of : List ℕ → Magnitude
+magnitude_of ds = cond (all_digits ds) (M.Number (denote ds / 2 ^ 64) (denote ds % 2 ^ 64)) M.Broken
 
 abbrev pub signed : ℕ → Magnitude → Decoded
 signed s (M.Number high low) =
     cond (eqb s 0xC) (D.Value false high low) (cond (eqb s 0xD) (D.Value true high low) D.Broken)
 signed s M.Broken = D.Broken
 
-abbrev pub decodeBcd : ℕ → List ℕ → Decoded
-decodeBcd p bs = signed (get_or (nibbles bs) (frontSize p + p) 0) (magnitudeOf (take p (drop (frontSize p) (nibbles bs))))
+abbrev pub decode_bcd : ℕ → List ℕ → Decoded
+decode_bcd p bs = signed (get_or (nibbles bs) (front_size p + p) 0) (magnitude_of (take p (drop (front_size p) (nibbles bs))))

@@ -2,8 +2,8 @@
 ghost use Rattle.std.specs.Prelude.{◌≡◌, ◌+◌, ◌*◌, ◌-◌, ◌^◌, ◌/◌, ◌%◌, ◌<◌, ◌≤◌, ltb, length, get_or, take, drop, replicate};
 ghost use Rattle.std.proofs.lemmas.List.Edits.{sets};
 ghost use Rattle.numeric.specs.Decimal.{halves, digits};
-ghost use Rattle.numeric.specs.Packed.{pairs, nibbles, signNibble, encodeBcd, magnitudeOf, decodeBcd};
-ghost use Rattle.numeric.specs.InnerPacked.{twoDigits, hundreds, Fresh};
+ghost use Rattle.numeric.specs.Packed.{pairs, nibbles, sign_nibble, encode_bcd, magnitude_of, decode_bcd};
+ghost use Rattle.numeric.specs.InnerPacked.{two_digits, hundreds, Fresh};
 
 #[derive(Drop)]
 pub struct Divided {
@@ -29,7 +29,7 @@ fn divided_by(high: u64, low: u64, d: u64) -> Divided
 // A byte with two digits.
 fn two_digits(n: u64) -> u8
     requires { n < 100 }
-    ensures { result ≡ twoDigits n }
+    ensures { result ≡ two_digits n }
 {
     (n / 10 * 16 + n % 10) as u8
 }
@@ -219,7 +219,7 @@ pub fn has_digits(high: u64, low: u64, p: usize) -> bool
 }
 
 fn sign_nibble(negative: bool) -> u8
-    ensures { (result ≡ signNibble negative) × (result < 16) }
+    ensures { (result ≡ sign_nibble negative) × (result < 16) }
 {
     if negative { 0xD } else { 0xC }
 }
@@ -227,7 +227,7 @@ fn sign_nibble(negative: bool) -> u8
 // The packed form of a number of at most p digits, at a place of a slice.
 pub fn encode_numeric_bcd(s: &mut [u8], at: usize, high: u64, low: u64, negative: bool, p: usize)
     requires { (p ≤ 38) × ((halves high low < 10 ^ p) × (at + (p + 2) / 2 ≤ length s.old)) }
-    ensures { s.new ≡ sets s.old at (encodeBcd p negative (halves high low)) }
+    ensures { s.new ≡ sets s.old at (encode_bcd p negative (halves high low)) }
 {
     let d = digits_of(high, low);
     let last = p / 2;
@@ -286,7 +286,7 @@ fn with_digit(high: u64, low: u64, digit: u8) -> Halves
 // The number that the p nibbles after the first `front` denote, where 64 bits hold it.
 fn short_magnitude(bytes: &[u8], front: usize, p: usize) -> Magnitude
     requires { (p ≤ 19) × (front + p ≤ 2 * length bytes.now) }
-    ensures { result ≡ magnitudeOf (take p (drop front (nibbles bytes.now))) }
+    ensures { result ≡ magnitude_of (take p (drop front (nibbles bytes.now))) }
 {
     let mut n: u64 = 0;
     let mut k = 0;
@@ -303,7 +303,7 @@ fn short_magnitude(bytes: &[u8], front: usize, p: usize) -> Magnitude
 
 fn long_magnitude(bytes: &[u8], front: usize, p: usize) -> Magnitude
     requires { (p ≤ 38) × (front + p ≤ 2 * length bytes.now) }
-    ensures { result ≡ magnitudeOf (take p (drop front (nibbles bytes.now))) }
+    ensures { result ≡ magnitude_of (take p (drop front (nibbles bytes.now))) }
 {
     let mut high: u64 = 0;
     let mut low: u64 = 0;
@@ -323,7 +323,7 @@ fn long_magnitude(bytes: &[u8], front: usize, p: usize) -> Magnitude
 
 fn magnitude_at(bytes: &[u8], front: usize, p: usize) -> Magnitude
     requires { (p ≤ 38) × (front + p ≤ 2 * length bytes.now) }
-    ensures { result ≡ magnitudeOf (take p (drop front (nibbles bytes.now))) }
+    ensures { result ≡ magnitude_of (take p (drop front (nibbles bytes.now))) }
 {
     if p <= 19 {
         return short_magnitude(bytes, front, p);
@@ -334,7 +334,7 @@ fn magnitude_at(bytes: &[u8], front: usize, p: usize) -> Magnitude
 // The number whose packed form, with p digits, the bytes are.
 pub fn decode_numeric_bcd(bytes: &[u8], p: usize) -> Decoded
     requires { (p ≤ 38) × ((p + 2) / 2 ≤ length bytes.now) }
-    ensures { result ≡ decodeBcd p bytes.now }
+    ensures { result ≡ decode_bcd p bytes.now }
 {
     let front = (p + 1) % 2;
     match magnitude_at(bytes, front, p) {

@@ -10,7 +10,7 @@ use lib.Dec.{eqb, ltb}
 use borrow.Author.Tests.{lt-ltb, le-ltb, eq-eqb, ne_eqb, ltb-true, ltb-false}
 use Rattle.laws.proofs.Truths.{cases}
 use Rattle.occupation.specs.Occupation.{Occupation}
-use Rattle.occupation.specs.Order.{bytesBefore, nullFirst, precedes}
+use Rattle.occupation.specs.Order.{bytes_before, null_first, precedes}
 
 pub record Ranks {A : Type 0} (lt : A → A → Bool) : Type 0 where
   pub once : (a b : A) → lt a b ≡ true → lt b a ≡ false
@@ -28,20 +28,20 @@ numbers =
 abbrev either : Bool → Bool → Bool → Bool
 either p q t = cond p true (cond q false t)
 
-either-once : (p q : Bool) {t u : Bool} → (p ≡ true → q ≡ false) → (t ≡ true → u ≡ false) → either p q t ≡ true
+either_once : (p q : Bool) {t u : Bool} → (p ≡ true → q ≡ false) → (t ≡ true → u ≡ false) → either p q t ≡ true
     → either q p u ≡ false
-either-once true q f g e = rw (f refl)
-either-once false true f g e = absurd (false≢true e)
-either-once false false f g e = g e
+either_once true q f g e = rw (f refl)
+either_once false true f g e = absurd (false≢true e)
+either_once false false f g e = g e
 
 module _ {A : Type 0} {lt : A → A → Bool} (s : Ranks lt) where
-  then-once : (a b : A) {t u : Bool} → (t ≡ true → u ≡ false) → either (lt a b) (lt b a) t ≡ true
+  then_once : (a b : A) {t u : Bool} → (t ≡ true → u ≡ false) → either (lt a b) (lt b a) t ≡ true
       → either (lt b a) (lt a b) u ≡ false
-  then-once a b g e = either-once (lt a b) (lt b a) (s.once a b) g e
+  then_once a b g e = either_once (lt a b) (lt b a) (s.once a b) g e
 
-  then-behind : (a b c : A) {t u v : Bool} → (t ≡ true → u ≡ false → v ≡ true) → either (lt a b) (lt b a) t ≡ true
+  then_behind : (a b c : A) {t u v : Bool} → (t ≡ true → u ≡ false → v ≡ true) → either (lt a b) (lt b a) t ≡ true
       → either (lt c b) (lt b c) u ≡ false → either (lt a c) (lt c a) v ≡ true
-  then-behind a b c {t} {u} {v} g =
+  then_behind a b c {t} {u} {v} g =
       go (lt c b) (lt a b) (lt b a) (lt a c) (lt b c) (lt c a) (s.behind a b c) (s.behind b c a) (s.behind c a b)
     where
       go : (cb ab ba ac bc ca : Bool) → (ab ≡ true → cb ≡ false → ac ≡ true) → (bc ≡ true → ac ≡ false → ba ≡ true)
@@ -58,13 +58,13 @@ module _ {A : Type 0} {lt : A → A → Bool} (s : Ranks lt) where
 -- ---- "null first", whatever is compared
 
 module _ {A : Type 0} {lt : A → A → Bool} (s : Ranks lt) where
-  null-once : (a b : Option A) → nullFirst lt a b ≡ true → nullFirst lt b a ≡ false
-  null-once none none h = refl
-  null-once none (some y) h = refl
-  null-once (some x) none h = absurd (false≢true h)
-  null-once (some x) (some y) h = s.once x y h
+  null_once : (a b : Option A) → null_first lt a b ≡ true → null_first lt b a ≡ false
+  null_once none none h = refl
+  null_once none (some y) h = refl
+  null_once (some x) none h = absurd (false≢true h)
+  null_once (some x) (some y) h = s.once x y h
 
-  null-behind : (a b c : Option A) → nullFirst lt a b ≡ true → nullFirst lt c b ≡ false → nullFirst lt a c ≡ true
+  null-behind : (a b c : Option A) → null_first lt a b ≡ true → null_first lt c b ≡ false → null_first lt a c ≡ true
   null-behind none none c h k = absurd (false≢true h)
   null-behind none (some y) none h k = absurd (false≢true (sym k))
   null-behind none (some y) (some z) h k = refl
@@ -72,8 +72,8 @@ module _ {A : Type 0} {lt : A → A → Bool} (s : Ranks lt) where
   null-behind (some x) (some y) none h k = absurd (false≢true (sym k))
   null-behind (some x) (some y) (some z) h k = s.behind x y z h k
 
-  nulls : Ranks (nullFirst lt)
-  nulls = record { once = null-once; behind = null-behind }
+  nulls : Ranks (null_first lt)
+  nulls = record { once = null_once; behind = null-behind }
 
 -- ---- texts: by the first byte, and then by the others
 
@@ -83,38 +83,38 @@ by_byte x y t =
     (λ h. cases y x (λ l. rw (le-ltb x y h, lt-ltb y x l, ne_eqb x y (λ e. omega arith)))
     (λ l. rw (le-ltb x y h, le-ltb y x l, eq-eqb x y (omega arith))))
 
-bytes-once : (a b : List ℕ) → bytesBefore a b ≡ true → bytesBefore b a ≡ false
-bytes-once [] [] h = refl
-bytes-once [] (y ∷ ys) h = refl
-bytes-once (x ∷ xs) [] h = absurd (false≢true h)
-bytes-once (x ∷ xs) (y ∷ ys) h =
-    by_byte y x (bytesBefore ys xs)
-    ∙ then-once numbers x y (bytes-once xs ys) (sym (by_byte x y (bytesBefore xs ys)) ∙ h)
+bytes_once : (a b : List ℕ) → bytes_before a b ≡ true → bytes_before b a ≡ false
+bytes_once [] [] h = refl
+bytes_once [] (y ∷ ys) h = refl
+bytes_once (x ∷ xs) [] h = absurd (false≢true h)
+bytes_once (x ∷ xs) (y ∷ ys) h =
+    by_byte y x (bytes_before ys xs)
+    ∙ then_once numbers x y (bytes_once xs ys) (sym (by_byte x y (bytes_before xs ys)) ∙ h)
 
-bytes-behind : (a b c : List ℕ) → bytesBefore a b ≡ true → bytesBefore c b ≡ false → bytesBefore a c ≡ true
+bytes-behind : (a b c : List ℕ) → bytes_before a b ≡ true → bytes_before c b ≡ false → bytes_before a c ≡ true
 bytes-behind [] [] c h k = absurd (false≢true h)
 bytes-behind [] (y ∷ ys) [] h k = absurd (false≢true (sym k))
 bytes-behind [] (y ∷ ys) (z ∷ zs) h k = refl
 bytes-behind (x ∷ xs) [] c h k = absurd (false≢true h)
 bytes-behind (x ∷ xs) (y ∷ ys) [] h k = absurd (false≢true (sym k))
 bytes-behind (x ∷ xs) (y ∷ ys) (z ∷ zs) h k =
-    by_byte x z (bytesBefore xs zs)
-    ∙ then-behind numbers x y z (bytes-behind xs ys zs) (sym (by_byte x y (bytesBefore xs ys)) ∙ h)
-    (sym (by_byte z y (bytesBefore zs ys)) ∙ k)
+    by_byte x z (bytes_before xs zs)
+    ∙ then_behind numbers x y z (bytes-behind xs ys zs) (sym (by_byte x y (bytes_before xs ys)) ∙ h)
+    (sym (by_byte z y (bytes_before zs ys)) ∙ k)
 
 -- ---- occupations
 
-platforms : Ranks (nullFirst bytesBefore)
-platforms = nulls (record { once = bytes-once; behind = bytes-behind })
+platforms : Ranks (null_first bytes_before)
+platforms = nulls (record { once = bytes_once; behind = bytes-behind })
 
-pub precedes-once : (a b : Occupation) → precedes a b ≡ true → precedes b a ≡ false
-precedes-once a b h =
-    then-once platforms a.platform b.platform ((nulls numbers).once a.arrival b.arrival) h
+pub precedes_once : (a b : Occupation) → precedes a b ≡ true → precedes b a ≡ false
+precedes_once a b h =
+    then_once platforms a.platform b.platform ((nulls numbers).once a.arrival b.arrival) h
 
 pub precedes-behind : (a b c : Occupation) → precedes a b ≡ true → precedes c b ≡ false → precedes a c ≡ true
 precedes-behind a b c h k =
-    then-behind platforms a.platform b.platform c.platform
+    then_behind platforms a.platform b.platform c.platform
     ((nulls numbers).behind a.arrival b.arrival c.arrival) h k
 
-pub precedes-ranks : Ranks precedes
-precedes-ranks = record { once = precedes-once; behind = precedes-behind }
+pub precedes_ranks : Ranks precedes
+precedes_ranks = record { once = precedes_once; behind = precedes-behind }

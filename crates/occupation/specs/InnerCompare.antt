@@ -2,14 +2,14 @@
 use Rattle.std.specs.Prelude.{ℕ, ◌≤◌, ◌<◌, Bool, cond, List, ◌≡◌, length, get_or, drop}
 use Rattle.occupation.specs.declared.Comparison.{Comparison}
 use Rattle.occupation.specs.declared.Comparison.TheVariants.{Less, Equal, Greater}
-use Rattle.occupation.specs.Order.{bytesBefore}
+use Rattle.occupation.specs.Order.{bytes_before}
 
 pub record Agree (a b : List ℕ) (i : ℕ) : Type 0 where
-  pub in-first : i ≤ length a
-  pub in-second : i ≤ length b
+  pub in_first : i ≤ length a
+  pub in_second : i ≤ length b
   pub differ : i < length a → i < length b → get_or a i 0 ≡ get_or b i 0 → ⊥
-  pub forth : bytesBefore (drop i a) (drop i b) ≡ bytesBefore a b
-  pub back : bytesBefore (drop i b) (drop i a) ≡ bytesBefore b a
+  pub forth : bytes_before (drop i a) (drop i b) ≡ bytes_before a b
+  pub back : bytes_before (drop i b) (drop i a) ≡ bytes_before b a
 
 -- whether the first is before the second, and the second before the first
 abbrev pub comparison : Bool → Bool → Comparison

@@ -5,30 +5,30 @@ use Rattle.error.specs.Result.{Result, ok, refused}
 use Rattle.occupation.specs.declared.Fields.{Fields}
 use Rattle.occupation.specs.declared.FieldsRead.{FieldsRead}
 use Rattle.occupation.specs.declared.FieldsRead.TheVariants.{Good, Refused}
-use Rattle.calendar.specs.Moment.{momentText}
+use Rattle.calendar.specs.Moment.{moment_text}
 use Rattle.occupation.specs.Occupation.{Occupation}
-use Rattle.occupation.specs.Line.{quoted, orHyphen}
+use Rattle.occupation.specs.Line.{quoted, or_hyphen}
 
 -- the text from s up to e, none where s is 0; the moment one below the number, none for 0
 abbrev pub spanned : List ℕ → ℕ → ℕ → Option (List ℕ)
 spanned r s e = cond (eqb s 0) none (some (take (e - s) (drop s r)))
 
-abbrev pub momentFrom : ℕ → Option ℕ
-momentFrom zero = none
-momentFrom (suc m) = some m
+abbrev pub moment_from : ℕ → Option ℕ
+moment_from zero = none
+moment_from (suc m) = some m
 
-abbrev pub fieldsShown : List ℕ → Fields → Occupation
-fieldsShown r f =
+abbrev pub fields_shown : List ℕ → Fields → Occupation
+fields_shown r f =
     record {
       platform = spanned r f.platform_start f.platform_end;
       unit = spanned r f.unit_start f.unit_end;
-      arrival = momentFrom f.arrival;
-      departure = momentFrom f.departure;
+      arrival = moment_from f.arrival;
+      departure = moment_from f.departure;
     }
 
-abbrev pub readShown : List ℕ → FieldsRead → Result Occupation
-readShown r (Good f) = ok (fieldsShown r f)
-readShown r (Refused e) = refused e
+abbrev pub read_shown : List ℕ → FieldsRead → Result Occupation
+read_shown r (Good f) = ok (fields_shown r f)
+read_shown r (Refused e) = refused e
 
 -- ---- bounds, in a row of n bytes
 
@@ -39,14 +39,14 @@ pub record SpanIn (n most s e : ℕ) : Type 0 where
   pub empty : s ≡ 0 → e ≡ 0
 
 -- the microseconds of 9,999 years
-abbrev pub momentLimit : ℕ
-momentLimit = 315537897600000000
+abbrev pub moment_limit : ℕ
+moment_limit = 315537897600000000
 
 pub record FieldsIn (n : ℕ) (f : Fields) : Type 0 where
-  pub platform-in : SpanIn n 16 f.platform_start f.platform_end
-  pub unit-in : SpanIn n 64 f.unit_start f.unit_end
-  pub arrival-in : f.arrival ≤ momentLimit
-  pub departure-in : f.departure ≤ momentLimit
+  pub platform_in : SpanIn n 16 f.platform_start f.platform_end
+  pub unit_in : SpanIn n 64 f.unit_start f.unit_end
+  pub arrival_in : f.arrival ≤ moment_limit
+  pub departure_in : f.departure ≤ moment_limit
 
 abbrev pub ShortTexts : Fields → Type 0
 ShortTexts f =
@@ -58,29 +58,29 @@ ReadIn n (Good f) = FieldsIn n f
 ReadIn n (Refused e) = Unit {0}
 
 -- a row that can be printed, or a column that can be read
-abbrev pub isGood : {A : Type 0} → Result A → Bool
-isGood (ok o) = true
-isGood (refused e) = false
+abbrev pub is_good : {A : Type 0} → Result A → Bool
+is_good (ok o) = true
+is_good (refused e) = false
 
 -- ---- the bytes of a line
 
-abbrev pub textLength : ℕ → ℕ → ℕ
-textLength s e = cond (eqb s 0) 1 (e - s + 2)
+abbrev pub text_length : ℕ → ℕ → ℕ
+text_length s e = cond (eqb s 0) 1 (e - s + 2)
 
-abbrev pub momentLength : ℕ → ℕ
-momentLength n = cond (eqb n 0) 1 19
+abbrev pub moment_length : ℕ → ℕ
+moment_length n = cond (eqb n 0) 1 19
 
-abbrev pub lineLength : Fields → ℕ
-lineLength f =
-    textLength f.platform_start f.platform_end + textLength f.unit_start f.unit_end
-    + momentLength f.arrival
-    + momentLength f.departure
+abbrev pub line_length : Fields → ℕ
+line_length f =
+    text_length f.platform_start f.platform_end + text_length f.unit_start f.unit_end
+    + moment_length f.arrival
+    + moment_length f.departure
     + 4
 
 -- ---- a field and the byte behind it
 
-abbrev pub textField : List ℕ → ℕ → ℕ → List ℕ
-textField r s e = orHyphen quoted (spanned r s e) ++ (0x7C ∷ [])
+abbrev pub text_field : List ℕ → ℕ → ℕ → List ℕ
+text_field r s e = or_hyphen quoted (spanned r s e) ++ (0x7C ∷ [])
 
-abbrev pub momentField : ℕ → ℕ → List ℕ
-momentField n mark = orHyphen momentText (momentFrom n) ++ (mark ∷ [])
+abbrev pub moment_field : ℕ → ℕ → List ℕ
+moment_field n mark = or_hyphen moment_text (moment_from n) ++ (mark ∷ [])

@@ -4,21 +4,21 @@ use Rattle.std.proofs.Math.Option.{Option, none, some}
 use Rattle.occupation.specs.Occupation.{Occupation}
 
 -- by the first bytes that differ, where one text ends before the other
-abbrev pub bytesBefore : List ℕ → List ℕ → Bool
-bytesBefore [] [] = false
-bytesBefore [] (y ∷ ys) = true
-bytesBefore (x ∷ xs) [] = false
-bytesBefore (x ∷ xs) (y ∷ ys) = cond (ltb x y) true (cond (eqb x y) (bytesBefore xs ys) false)
+abbrev pub bytes_before : List ℕ → List ℕ → Bool
+bytes_before [] [] = false
+bytes_before [] (y ∷ ys) = true
+bytes_before (x ∷ xs) [] = false
+bytes_before (x ∷ xs) (y ∷ ys) = cond (ltb x y) true (cond (eqb x y) (bytes_before xs ys) false)
 
 -- "null first"
-abbrev pub nullFirst : {A : Type 0} → (A → A → Bool) → Option A → Option A → Bool
-nullFirst lt none none = false
-nullFirst lt none (some y) = true
-nullFirst lt (some x) none = false
-nullFirst lt (some x) (some y) = lt x y
+abbrev pub null_first : {A : Type 0} → (A → A → Bool) → Option A → Option A → Bool
+null_first lt none none = false
+null_first lt none (some y) = true
+null_first lt (some x) none = false
+null_first lt (some x) (some y) = lt x y
 
 -- whether a is printed before b wherever it stands in the input; where neither is before the other, the input decides
 abbrev pub precedes : Occupation → Occupation → Bool
 precedes a b =
-    cond (nullFirst bytesBefore a.platform b.platform) true
-    (cond (nullFirst bytesBefore b.platform a.platform) false (nullFirst ltb a.arrival b.arrival))
+    cond (null_first bytes_before a.platform b.platform) true
+    (cond (null_first bytes_before b.platform a.platform) false (null_first ltb a.arrival b.arrival))

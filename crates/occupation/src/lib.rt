@@ -3,14 +3,14 @@
 // two slots where a packed one has them, at bytes 9 and 17 of a short row and at 13 and 21 of a long one.
 ghost use Rattle.std.specs.Prelude.{◌≡◌, true, ◌+◌, ◌-◌, ◌≤◌, ◌<◌, length};
 ghost use Rattle.std.proofs.lemmas.List.Edits.{sets};
-ghost use Rattle.calendar.specs.Moment.{momentText};
+ghost use Rattle.calendar.specs.Moment.{moment_text};
 ghost use Rattle.error.specs.Result.{ok};
 ghost use Rattle.row_layout.specs.InnerRange.{Inside};
-ghost use Rattle.occupation.specs.Occupation.{isUnprintable, printable, occupationIn};
-ghost use Rattle.occupation.specs.Order.{bytesBefore, nullFirst, precedes};
-ghost use Rattle.occupation.specs.Line.{quoted, orHyphen, line};
-ghost use Rattle.occupation.specs.InnerFields.{spanned, momentFrom, fieldsShown, readShown, momentLimit, SpanIn, ShortTexts, FieldsIn, ReadIn, isGood, textLength, momentLength, lineLength, textField, momentField};
-ghost use Rattle.occupation.specs.InnerRead.{arrivalPlace, leastLength, textRangeIn, textColumn, momentColumn, shownIn, textShown, momentShown, span_of, count_of, TextIn, MomentIn, withPlatform, withUnit, withArrival, withDeparture};
+ghost use Rattle.occupation.specs.Occupation.{is_unprintable, printable, occupation_in};
+ghost use Rattle.occupation.specs.Order.{bytes_before, null_first, precedes};
+ghost use Rattle.occupation.specs.Line.{quoted, or_hyphen, line};
+ghost use Rattle.occupation.specs.InnerFields.{spanned, moment_from, fields_shown, read_shown, moment_limit, SpanIn, ShortTexts, FieldsIn, ReadIn, is_good, text_length, moment_length, line_length, text_field, moment_field};
+ghost use Rattle.occupation.specs.InnerRead.{arrival_place, least_length, text_range_in, text_column, moment_column, shown_in, text_shown, moment_shown, span_of, count_of, TextIn, MomentIn, with_platform, with_unit, with_arrival, with_departure};
 ghost use Rattle.occupation.specs.InnerCompare.{Agree, comparison};
 
 use calendar::Moment;
@@ -57,15 +57,15 @@ enum MomentRead {
 
 // Where the slot of the arrival starts; that of the departure is behind it.
 fn arrival_place(is_long: bool) -> usize
-    ensures { result ≡ arrivalPlace is_long }
+    ensures { result ≡ arrival_place is_long }
 {
     if is_long { 13 } else { 9 }
 }
 
 // What the bitmap and the offsets say of a text.
 fn text_range(row: &[u8], is_long: bool, column: usize) -> VarlenRange
-    requires { (column < 2) × (leastLength is_long ≤ length row.now) }
-    ensures { (result ≡ textRangeIn is_long row.now column) × Inside row.now result }
+    requires { (column < 2) × (least_length is_long ≤ length row.now) }
+    ensures { (result ≡ text_range_in is_long row.now column) × Inside row.now result }
 {
     if null_bitmap::column_bit_is_set(row, column) {
         return VarlenRange::Null;
@@ -75,8 +75,8 @@ fn text_range(row: &[u8], is_long: bool, column: usize) -> VarlenRange
 
 // A text of at most n bytes.
 fn read_text(row: &[u8], is_long: bool, column: usize, n: usize) -> TextRead
-    requires { (column < 2) × (leastLength is_long ≤ length row.now) }
-    ensures { (textShown row.now result ≡ textColumn is_long n column row.now)
+    requires { (column < 2) × (least_length is_long ≤ length row.now) }
+    ensures { (text_shown row.now result ≡ text_column is_long n column row.now)
         × TextIn (length row.now) n result }
 {
     match text_range(row, is_long, column) {
@@ -97,7 +97,7 @@ fn read_text(row: &[u8], is_long: bool, column: usize, n: usize) -> TextRead
 // The moment whose slot starts at a byte of the row.
 fn read_moment(row: &[u8], column: usize, at: usize) -> MomentRead
     requires { (column < 4) × (at + 8 ≤ length row.now) }
-    ensures { (momentShown result ≡ momentColumn column at row.now) × MomentIn result }
+    ensures { (moment_shown result ≡ moment_column column at row.now) × MomentIn result }
 {
     if null_bitmap::column_bit_is_set(row, column) {
         return MomentRead::Good(0);
@@ -110,7 +110,7 @@ fn read_moment(row: &[u8], column: usize, at: usize) -> MomentRead
 
 // Whether a text has a double quote or a byte below 32.
 fn is_unprintable(text: &[u8]) -> bool
-    ensures { result ≡ isUnprintable text.now }
+    ensures { result ≡ is_unprintable text.now }
 {
     let mut found = false;
     let mut i = 0;
@@ -124,7 +124,7 @@ fn is_unprintable(text: &[u8]) -> bool
 // A row whose columns were read.
 fn check_texts(row: &[u8], f: Fields) -> FieldsRead
     requires { FieldsIn (length row.now) f }
-    ensures { (readShown row.now result ≡ printable (fieldsShown row.now f))
+    ensures { (read_shown row.now result ≡ printable (fields_shown row.now f))
         × ReadIn (length row.now) result }
 {
     let start = f.platform_start;
@@ -141,12 +141,12 @@ fn check_texts(row: &[u8], f: Fields) -> FieldsRead
 }
 
 fn read_departure(row: &[u8], is_long: bool, platform: Span, unit: Span, arrival: u64) -> FieldsRead
-    requires { (leastLength is_long ≤ length row.now)
+    requires { (least_length is_long ≤ length row.now)
         × (SpanIn (length row.now) 16 platform.start platform.end
-        × (SpanIn (length row.now) 64 unit.start unit.end × (arrival ≤ momentLimit))) }
-    ensures { (readShown row.now result
-        ≡ withDeparture is_long row.now (shownIn row.now platform)
-        (shownIn row.now unit) (momentFrom arrival)) × ReadIn (length row.now) result }
+        × (SpanIn (length row.now) 64 unit.start unit.end × (arrival ≤ moment_limit))) }
+    ensures { (read_shown row.now result
+        ≡ with_departure is_long row.now (shown_in row.now platform)
+        (shown_in row.now unit) (moment_from arrival)) × ReadIn (length row.now) result }
 {
     match read_moment(row, 3, arrival_place(is_long) + 8) {
         MomentRead::Refused(e) => FieldsRead::Refused(e),
@@ -165,12 +165,12 @@ fn read_departure(row: &[u8], is_long: bool, platform: Span, unit: Span, arrival
 }
 
 fn read_arrival(row: &[u8], is_long: bool, platform: Span, unit: Span) -> FieldsRead
-    requires { (leastLength is_long ≤ length row.now)
+    requires { (least_length is_long ≤ length row.now)
         × (SpanIn (length row.now) 16 platform.start platform.end
         × SpanIn (length row.now) 64 unit.start unit.end) }
-    ensures { (readShown row.now result
-        ≡ withArrival is_long row.now (shownIn row.now platform)
-        (shownIn row.now unit))
+    ensures { (read_shown row.now result
+        ≡ with_arrival is_long row.now (shown_in row.now platform)
+        (shown_in row.now unit))
         × ReadIn (length row.now) result }
 {
     match read_moment(row, 2, arrival_place(is_long)) {
@@ -180,10 +180,10 @@ fn read_arrival(row: &[u8], is_long: bool, platform: Span, unit: Span) -> Fields
 }
 
 fn read_unit(row: &[u8], is_long: bool, platform: Span) -> FieldsRead
-    requires { (leastLength is_long ≤ length row.now)
+    requires { (least_length is_long ≤ length row.now)
         × SpanIn (length row.now) 16 platform.start platform.end }
-    ensures { (readShown row.now result
-        ≡ withUnit is_long row.now (shownIn row.now platform))
+    ensures { (read_shown row.now result
+        ≡ with_unit is_long row.now (shown_in row.now platform))
         × ReadIn (length row.now) result }
 {
     match read_text(row, is_long, 1, 64) {
@@ -193,8 +193,8 @@ fn read_unit(row: &[u8], is_long: bool, platform: Span) -> FieldsRead
 }
 
 fn read_columns(row: &[u8], is_long: bool) -> FieldsRead
-    requires { leastLength is_long ≤ length row.now }
-    ensures { (readShown row.now result ≡ withPlatform is_long row.now)
+    requires { least_length is_long ≤ length row.now }
+    ensures { (read_shown row.now result ≡ with_platform is_long row.now)
         × ReadIn (length row.now) result }
 {
     match read_text(row, is_long, 0, 16) {
@@ -205,7 +205,7 @@ fn read_columns(row: &[u8], is_long: bool) -> FieldsRead
 
 // The fields of a row, or why it is not printed. The row's own mark tells its sort.
 pub fn read(row: &[u8]) -> FieldsRead
-    ensures { (readShown row.now result ≡ occupationIn row.now)
+    ensures { (read_shown row.now result ≡ occupation_in row.now)
         × ReadIn (length row.now) result }
 {
     let is_long = row_layout::is_long(row);
@@ -243,8 +243,8 @@ fn count_of(moment: MomentRead) -> u64
 
 // The fields of a row that `read` did not refuse, without its tests of the texts.
 pub fn fields_of(row: &[u8]) -> Fields
-    requires { isGood (occupationIn row.now) ≡ true }
-    ensures { (ok (fieldsShown row.now result) ≡ occupationIn row.now)
+    requires { is_good (occupation_in row.now) ≡ true }
+    ensures { (ok (fields_shown row.now result) ≡ occupation_in row.now)
         × FieldsIn (length row.now) result }
 {
     let is_long = row_layout::is_long(row);
@@ -287,7 +287,7 @@ fn common_bytes(a: &[u8], b: &[u8]) -> usize
 
 fn compare_bytes(a: &[u8], b: &[u8]) -> Comparison
     ensures { result
-        ≡ comparison (bytesBefore a.now b.now) (bytesBefore b.now a.now) }
+        ≡ comparison (bytes_before a.now b.now) (bytes_before b.now a.now) }
 {
     let i = common_bytes(a, b);
     if b.len() <= i {
@@ -309,10 +309,10 @@ fn compare_platforms(a_row: &[u8], a: Fields, b_row: &[u8], b: Fields) -> Compar
     requires { FieldsIn (length a_row.now) a × FieldsIn (length b_row.now) b }
     ensures { result
         ≡ comparison
-        (nullFirst bytesBefore (fieldsShown a_row.now a).platform
-        (fieldsShown b_row.now b).platform)
-        (nullFirst bytesBefore (fieldsShown b_row.now b).platform
-        (fieldsShown a_row.now a).platform) }
+        (null_first bytes_before (fields_shown a_row.now a).platform
+        (fields_shown b_row.now b).platform)
+        (null_first bytes_before (fields_shown b_row.now b).platform
+        (fields_shown a_row.now a).platform) }
 {
     let a_start = a.platform_start;
     let a_end = a.platform_end;
@@ -334,7 +334,7 @@ fn compare_platforms(a_row: &[u8], a: Fields, b_row: &[u8], b: Fields) -> Compar
 pub fn precedes(a_row: &[u8], a: Fields, b_row: &[u8], b: Fields) -> bool
     requires { FieldsIn (length a_row.now) a × FieldsIn (length b_row.now) b }
     ensures { result
-        ≡ precedes (fieldsShown a_row.now a) (fieldsShown b_row.now b) }
+        ≡ precedes (fields_shown a_row.now a) (fields_shown b_row.now b) }
 {
     match compare_platforms(a_row, a, b_row, b) {
         Comparison::Less => true,
@@ -345,7 +345,7 @@ pub fn precedes(a_row: &[u8], a: Fields, b_row: &[u8], b: Fields) -> bool
 
 fn text_length(start: usize, end: usize) -> usize
     requires { (start ≤ end) × (end - start ≤ 64) }
-    ensures { result ≡ textLength start end }
+    ensures { result ≡ text_length start end }
 {
     if start == 0 {
         return 1;
@@ -354,7 +354,7 @@ fn text_length(start: usize, end: usize) -> usize
 }
 
 fn moment_length(count: u64) -> usize
-    ensures { result ≡ momentLength count }
+    ensures { result ≡ moment_length count }
 {
     if count == 0 {
         return 1;
@@ -365,7 +365,7 @@ fn moment_length(count: u64) -> usize
 // The bytes of a row's line.
 pub fn line_length(f: Fields) -> usize
     requires { ShortTexts f }
-    ensures { (result ≡ lineLength f) × (result ≤ 126) }
+    ensures { (result ≡ line_length f) × (result ≤ 126) }
 {
     let texts = text_length(f.platform_start, f.platform_end)
         + text_length(f.unit_start, f.unit_end);
@@ -383,10 +383,10 @@ fn write_quoted(out: &mut [u8], at: usize, text: &[u8])
 
 // A text in double quotes, or a hyphen; where it ends.
 fn write_text(out: &mut [u8], at: usize, row: &[u8], start: usize, end: usize) -> usize
-    requires { ((start ≤ end) × (end ≤ length row.now)) × (at + textLength start end ≤ length out.old) }
-    ensures { (result ≡ at + textLength start end)
+    requires { ((start ≤ end) × (end ≤ length row.now)) × (at + text_length start end ≤ length out.old) }
+    ensures { (result ≡ at + text_length start end)
         × (out.new
-        ≡ sets out.old at (orHyphen quoted (spanned row.now start end))) }
+        ≡ sets out.old at (or_hyphen quoted (spanned row.now start end))) }
 {
     if start == 0 {
         out[at] = b'-';
@@ -398,9 +398,9 @@ fn write_text(out: &mut [u8], at: usize, row: &[u8], start: usize, end: usize) -
 
 // A date and a time, or a hyphen; where it ends.
 fn write_moment(out: &mut [u8], at: usize, count: u64) -> usize
-    requires { (count ≤ momentLimit) × (at + momentLength count ≤ length out.old) }
-    ensures { (result ≡ at + momentLength count)
-        × (out.new ≡ sets out.old at (orHyphen momentText (momentFrom count))) }
+    requires { (count ≤ moment_limit) × (at + moment_length count ≤ length out.old) }
+    ensures { (result ≡ at + moment_length count)
+        × (out.new ≡ sets out.old at (or_hyphen moment_text (moment_from count))) }
 {
     if count == 0 {
         out[at] = b'-';
@@ -413,10 +413,10 @@ fn write_moment(out: &mut [u8], at: usize, count: u64) -> usize
 // A text and the bar behind it; where they end.
 fn write_text_field(out: &mut [u8], at: usize, row: &[u8], start: usize, end: usize) -> usize
     requires { ((start ≤ end) × (end ≤ length row.now))
-        × (at + (textLength start end + 1) ≤ length out.old) }
-    ensures { (result ≡ at + (textLength start end + 1))
+        × (at + (text_length start end + 1) ≤ length out.old) }
+    ensures { (result ≡ at + (text_length start end + 1))
         × (out.new
-        ≡ sets out.old at (textField row.now start end)) }
+        ≡ sets out.old at (text_field row.now start end)) }
 {
     let last = write_text(out, at, row, start, end);
     out[last] = b'|';
@@ -425,9 +425,9 @@ fn write_text_field(out: &mut [u8], at: usize, row: &[u8], start: usize, end: us
 
 // A moment and the byte behind it; where they end.
 fn write_moment_field(out: &mut [u8], at: usize, count: u64, mark: u8) -> usize
-    requires { (count ≤ momentLimit) × (at + (momentLength count + 1) ≤ length out.old) }
-    ensures { (result ≡ at + (momentLength count + 1))
-        × (out.new ≡ sets out.old at (momentField count mark)) }
+    requires { (count ≤ moment_limit) × (at + (moment_length count + 1) ≤ length out.old) }
+    ensures { (result ≡ at + (moment_length count + 1))
+        × (out.new ≡ sets out.old at (moment_field count mark)) }
 {
     let last = write_moment(out, at, count);
     out[last] = mark;
@@ -436,9 +436,9 @@ fn write_moment_field(out: &mut [u8], at: usize, count: u64, mark: u8) -> usize
 
 // A row's line; where it ends.
 pub fn write_line(out: &mut [u8], at: usize, row: &[u8], f: Fields) -> usize
-    requires { FieldsIn (length row.now) f × (at + lineLength f ≤ length out.old) }
-    ensures { (result ≡ at + lineLength f)
-        × (out.new ≡ sets out.old at (line (fieldsShown row.now f))) }
+    requires { FieldsIn (length row.now) f × (at + line_length f ≤ length out.old) }
+    ensures { (result ≡ at + line_length f)
+        × (out.new ≡ sets out.old at (line (fields_shown row.now f))) }
 {
     let unit = write_text_field(out, at, row, f.platform_start, f.platform_end);
     let arrival = write_text_field(out, unit, row, f.unit_start, f.unit_end);

@@ -11,16 +11,16 @@ use lib.Seq.{sets}
 use Rattle.error.specs.declared.Refusal.{Refusal}
 use Rattle.error.specs.Refusal.{number_of, place_of}
 use Rattle.laws.proofs.Stores.{sets-append}
-use Rattle.occupation_list.specs.Print.{decimal, refusalLine}
-use Rattle.occupation_list.specs.InnerOrder.{numbersLine}
+use Rattle.occupation_list.specs.Print.{decimal, refusal_line}
+use Rattle.occupation_list.specs.InnerOrder.{numbers_line}
 
 pub one-digit : (n : ℕ) → n < 10 → decimal n ≡ (48 + n % 10) ∷ []
 one-digit n h = rw (lt-ltb n 10 h, div-one)
 
-pub two_digits : (n : ℕ) → 10 ≤ n → decimal n ≡ (48 + n / 10 % 10) ∷ (48 + n % 10) ∷ []
-two_digits n h = rw (le-ltb n 10 h, div-one)
+pub two_digits_lem : (n : ℕ) → 10 ≤ n → decimal n ≡ (48 + n / 10 % 10) ∷ (48 + n % 10) ∷ []
+two_digits_lem n h = rw (le-ltb n 10 h, div-one)
 
-pub length-line : (n p : ℕ) → length (numbersLine n p) ≡ length (decimal n) + length (decimal p) + 2
+pub length-line : (n p : ℕ) → length (numbers_line n p) ≡ length (decimal n) + length (decimal p) + 2
 length-line n p = by (decimal n) (decimal p)
   where
     by : (xs ys : List ℕ) → length (xs ++ (0x20 ∷ (ys ++ (0x0A ∷ [])))) ≡ length xs + length ys + 2
@@ -35,7 +35,7 @@ pub one-stored : (out : List ℕ) (at n : ℕ) {d : ℕ} → n < 10 → d ≡ 48
 one-stored out at n h e = ap (set out at) e ∙ sym (ap (sets out at) (one-digit n h))
 
 pub two-stored : (out : List ℕ) (at n : ℕ) {d e : ℕ} → 10 ≤ n → d ≡ 48 + n / 10 % 10 → e ≡ 48 + n % 10 → set (set out at d) (at + 1) e ≡ sets out at (decimal n)
-two-stored out at n h p q = rw (p, q, add-one) (sym (ap (sets out at) (two_digits n h)))
+two-stored out at n h p q = rw (p, q, add-one) (sym (ap (sets out at) (two_digits_lem n h)))
 
-pub refusal-line : (e : Refusal) {n p : ℕ} → n ≡ number_of e → p ≡ place_of e → numbersLine n p ≡ refusalLine e
-refusal-line e {n} {p} a b = ap (λ (m : ℕ). numbersLine m p) a ∙ ap (numbersLine (number_of e)) b
+pub refusal-line : (e : Refusal) {n p : ℕ} → n ≡ number_of e → p ≡ place_of e → numbers_line n p ≡ refusal_line e
+refusal-line e {n} {p} a b = ap (λ (m : ℕ). numbers_line m p) a ∙ ap (numbers_line (number_of e)) b

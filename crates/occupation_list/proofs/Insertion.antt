@@ -8,27 +8,27 @@ use native.Mathlib.Omega.{arith}
 use lib.ListN.{length, get_or, set, take, drop, length-append, length-drop}
 use lib.Seq.{sets, length-take-le, take-take, take_at}
 use Rattle.laws.proofs.Truths.{same_or}
-use Rattle.laws.proofs.Stores.{sets-splice, sets-comm}
+use Rattle.laws.proofs.Stores.{sets-splice, sets_comm}
 use Rattle.laws.proofs.Lent.{drop-take}
 use Rattle.occupation_list.specs.Ordered.{inserted}
 
 -- ---- the search: b is false up to a place, and true from there on
 
 pub record Searching (b : ℕ → Bool) (k low high : ℕ) : Type 0 where
-  pub order-of : low ≤ high
+  pub order_of : low ≤ high
   pub within : high ≤ k
   pub before : (i : ℕ) → i < low → b i ≡ false
   pub behind : (i : ℕ) → high ≤ i → i < k → b i ≡ true
 
-pub search-start : (b : ℕ → Bool) (k : ℕ) → Searching b k 0 k
-search-start b k = record { order-of = omega arith; within = omega arith; before = λ i h. absurd (omega arith); behind = λ i h l. absurd (omega arith) }
+pub search_start : (b : ℕ → Bool) (k : ℕ) → Searching b k 0 k
+search_start b k = record { order_of = omega arith; within = omega arith; before = λ i h. absurd (omega arith); behind = λ i h l. absurd (omega arith) }
 
 module _ {b : ℕ → Bool} {k : ℕ} (stays : (i j : ℕ) → i < j → j < k → b i ≡ true → b j ≡ true) {low high : ℕ} (mid : ℕ) (s : Searching b k low high) (l : low ≤ mid) (h : mid < high) where
-  pub search-lower : b mid ≡ true → Searching b k low mid
-  search-lower e =
+  pub search_lower : b mid ≡ true → Searching b k low mid
+  search_lower e =
       let w = s.within in
       record {
-        order-of = l;
+        order_of = l;
         within = omega arith;
         before = s.before;
         behind = λ i m n. same_or mid i (λ q. rw (← q) e) (λ ne. stays mid i (omega (arith, ne)) n e);
@@ -38,10 +38,10 @@ module _ {b : ℕ → Bool} {k : ℕ} (stays : (i j : ℕ) → i < j → j < k �
   not_yet e i m true q = let w = s.within in sym (stays i mid m (omega arith) q) ∙ e
   not_yet e i m false q = refl
 
-  pub search-higher : b mid ≡ false → Searching b k (mid + 1) high
-  search-higher e =
+  pub search_higher : b mid ≡ false → Searching b k (mid + 1) high
+  search_higher e =
       record {
-        order-of = omega arith;
+        order_of = omega arith;
         within = s.within;
         before = λ i m. same_or mid i (λ q. rw (← q) e) (λ ne. not_yet e i (omega (arith, ne)) (b i) refl);
         behind = s.behind;
@@ -66,7 +66,7 @@ module _ (l : List ℕ) (k r x : ℕ) (h : r ≤ k) (room : k < length l) where
   length_high = length-take-le (k - r) (drop r l) (rw length-drop (omega arith))
 
   stored : set (sets l (r + 1) high) r x ≡ sets l r (x ∷ high)
-  stored = sym (sets-comm l r (r + 1) (x ∷ []) high (omega arith)) ∙ ap (λ (n : ℕ). sets (set l r x) n high) (add-one r)
+  stored = sym (sets_comm l r (r + 1) (x ∷ []) high (omega arith)) ∙ ap (λ (n : ℕ). sets (set l r x) n high) (add-one r)
 
   pub take_put : take (k + 1) (set (sets l (r + 1) high) r x) ≡ take r (take k l) ++ (x ∷ drop r (take k l))
   take_put =
@@ -81,12 +81,12 @@ module _ (l : List ℕ) (k r x : ℕ) (h : r ≤ k) (room : k < length l) where
 length-put : (x : ℕ) (ps : List ℕ) (r : ℕ) → r ≤ length ps → length (take r ps ++ (x ∷ drop r ps)) ≡ suc (length ps)
 length-put x ps r h = rw (length-append, length-take-le r ps h, length-drop) (omega arith)
 
-pub get-put : (P : ℕ → Type 0) (x : ℕ) → P x → (ps : List ℕ) (r : ℕ) → r ≤ length ps → ((i : ℕ) → i < length ps → P (get_or ps i 0)) → (i : ℕ) → i < suc (length ps) → P (get_or (take r ps ++ (x ∷ drop r ps)) i 0)
-get-put P x own ps zero l f zero h = own
-get-put P x own ps zero l f (suc i) h = f i (omega arith)
-get-put P x own [] (suc r) l f i h = absurd (omega arith)
-get-put P x own (p ∷ ps) (suc r) l f zero h = f 0 (omega arith)
-get-put P x own (p ∷ ps) (suc r) l f (suc i) h = get-put P x own ps r (omega arith) (λ j k. f (suc j) (omega arith)) i (omega arith)
+pub get_put : (P : ℕ → Type 0) (x : ℕ) → P x → (ps : List ℕ) (r : ℕ) → r ≤ length ps → ((i : ℕ) → i < length ps → P (get_or ps i 0)) → (i : ℕ) → i < suc (length ps) → P (get_or (take r ps ++ (x ∷ drop r ps)) i 0)
+get_put P x own ps zero l f zero h = own
+get_put P x own ps zero l f (suc i) h = f i (omega arith)
+get_put P x own [] (suc r) l f i h = absurd (omega arith)
+get_put P x own (p ∷ ps) (suc r) l f zero h = f 0 (omega arith)
+get_put P x own (p ∷ ps) (suc r) l f (suc i) h = get_put P x own ps r (omega arith) (λ j k. f (suc j) (omega arith)) i (omega arith)
 
 -- of each two in their order, b being asked of the later one and the earlier one
 abbrev pub Rises : (ℕ → ℕ → Bool) → List ℕ → Type 0
@@ -103,4 +103,4 @@ rises-put b once x (y ∷ ys) zero h f g u (suc i) (suc j) l m = u i j (omega ar
 rises-put b once x (y ∷ ys) (suc r) h f g u i zero l m = absurd (omega arith)
 rises-put b once x (y ∷ ys) (suc r) h f g u (suc i) (suc j) l m =
     rises-put b once x ys r (omega arith) (λ k q. f (suc k) (omega arith)) (λ k q n. g (suc k) (omega arith) (omega arith)) (λ a c q n. u (suc a) (suc c) (omega arith) (omega arith)) i j (omega arith) (omega arith)
-rises-put b once x (y ∷ ys) (suc r) h f g u zero (suc j) l m = get-put (λ q. b q y ≡ false) x (f 0 (omega arith)) ys r (omega arith) (λ k n. u 0 (suc k) (omega arith) (omega arith)) j (omega (arith, length-put x ys r (omega arith)))
+rises-put b once x (y ∷ ys) (suc r) h f g u zero (suc j) l m = get_put (λ q. b q y ≡ false) x (f 0 (omega arith)) ys r (omega arith) (λ k n. u 0 (suc k) (omega arith) (omega arith)) j (omega (arith, length-put x ys r (omega arith)))

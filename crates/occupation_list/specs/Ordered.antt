@@ -7,9 +7,9 @@ inserted lt x [] = x ∷ []
 inserted lt x (y ∷ ys) = cond (lt x y) (x ∷ (y ∷ ys)) (y ∷ inserted lt x ys)
 
 -- those of xs one after the other, to ys, which are in order
-abbrev pub insertedAll : {A : Type 0} → (A → A → Bool) → List A → List A → List A
-insertedAll lt ys [] = ys
-insertedAll lt ys (x ∷ xs) = insertedAll lt (inserted lt x ys) xs
+abbrev pub inserted_all : {A : Type 0} → (A → A → Bool) → List A → List A → List A
+inserted_all lt ys [] = ys
+inserted_all lt ys (x ∷ xs) = inserted_all lt (inserted lt x ys) xs
 
 abbrev pub ordered : {A : Type 0} → (A → A → Bool) → List A → List A
-ordered lt xs = insertedAll lt [] xs
+ordered lt xs = inserted_all lt [] xs

@@ -5,11 +5,11 @@ ghost use Rattle.std.proofs.lemmas.List.Edits.{sets};
 ghost use Rattle.error.specs.Answer.{placed};
 ghost use Rattle.occupation.specs.Order.{precedes};
 ghost use Rattle.occupation.specs.Line.{line};
-ghost use Rattle.occupation.specs.InnerFields.{fieldsShown};
-ghost use Rattle.occupation_list.specs.Print.{rowCountLimit, decimal, refusalLine, printCall, reportCall};
-ghost use Rattle.occupation_list.specs.InnerOrder.{occupationAt, Place, Known, linesAt, Placed, FoundPlace};
+ghost use Rattle.occupation.specs.InnerFields.{fields_shown};
+ghost use Rattle.occupation_list.specs.Print.{row_count_limit, decimal, refusal_line, print_call, report_call};
+ghost use Rattle.occupation_list.specs.InnerOrder.{occupation_at, Place, Known, lines_at, Placed, FoundPlace};
 ghost use Rattle.occupation_list.specs.InnerOrder.{Addable, AddedAs, Arrangeable, ArrangedAs, LinesReady};
-ghost use Rattle.occupation_list.specs.InnerOrder.{numbersLine};
+ghost use Rattle.occupation_list.specs.InnerOrder.{numbers_line};
 
 use error::{Answer, Refusal};
 use occupation::{Fields, FieldsRead};
@@ -35,7 +35,7 @@ const ROW_LIMIT: usize = 512;
 // Whether a row comes before the one at a place of the list.
 fn precedes_placed(row: &[u8], f: Fields, list: &[u8], at: usize) -> bool
     requires { Known row.now f × Place list.now at }
-    ensures { result ≡ precedes (fieldsShown row.now f) (occupationAt list.now at) }
+    ensures { result ≡ precedes (fields_shown row.now f) (occupation_at list.now at) }
 {
     let other = row_list::row_at(list, at);
     occupation::precedes(row, f, other, occupation::fields_of(other))
@@ -44,7 +44,7 @@ fn precedes_placed(row: &[u8], f: Fields, list: &[u8], at: usize) -> bool
 // How many of the first k places a row does not come before: by halves.
 fn place_for(list: &[u8], order: &[u16], k: usize, row: &[u8], f: Fields) -> usize
     requires { Placed list.now order.now k × Known row.now f }
-    ensures { FoundPlace list.now order.now k (fieldsShown row.now f) result }
+    ensures { FoundPlace list.now order.now k (fields_shown row.now f) result }
 {
     let mut low = 0;
     let mut high = k;
@@ -121,7 +121,7 @@ fn arrange_rows(list: &[u8], order: &mut [u16]) -> Arranged
 }
 
 fn arrange(list: &[u8], order: &mut [u16]) -> Arranged
-    requires { length order.old ≡ rowCountLimit }
+    requires { length order.old ≡ row_count_limit }
     ensures { ArrangedAs list.now order.new result }
 {
     match row_list::check(list, ROW_LIMIT) {
@@ -131,9 +131,9 @@ fn arrange(list: &[u8], order: &mut [u16]) -> Arranged
 }
 
 fn write_row(out: &mut [u8], end: usize, list: &[u8], at: usize) -> usize
-    requires { Place list.now at × (end + length (line (occupationAt list.now at)) ≤ length out.old) }
-    ensures { (result ≡ end + length (line (occupationAt list.now at)))
-        × (out.new ≡ sets out.old end (line (occupationAt list.now at))) }
+    requires { Place list.now at × (end + length (line (occupation_at list.now at)) ≤ length out.old) }
+    ensures { (result ≡ end + length (line (occupation_at list.now at)))
+        × (out.new ≡ sets out.old end (line (occupation_at list.now at))) }
 {
     let row = row_list::row_at(list, at);
     occupation::write_line(out, end, row, occupation::fields_of(row))
@@ -141,9 +141,9 @@ fn write_row(out: &mut [u8], end: usize, list: &[u8], at: usize) -> usize
 
 fn write_lines(out: &mut [u8], list: &[u8], order: &[u16], k: usize)
     requires { Placed list.now order.now k
-        × (length (linesAt list.now (take k order.now)) ≤ length out.old) }
+        × (length (lines_at list.now (take k order.now)) ≤ length out.old) }
     ensures { out.new
-        ≡ sets out.old 0 (linesAt list.now (take k order.now)) }
+        ≡ sets out.old 0 (lines_at list.now (take k order.now)) }
 {
     let mut i = 0;
     let mut end = 0;
@@ -157,7 +157,7 @@ fn write_lines(out: &mut [u8], list: &[u8], order: &[u16], k: usize)
 fn print_rows(list: &[u8], order: &[u16], k: usize, size: usize, out: &mut [u8]) -> Answer
     requires { LinesReady list.now order.now k size }
     ensures { (result, out.new)
-        ≡ placed out.old (linesAt list.now (take k order.now)) }
+        ≡ placed out.old (lines_at list.now (take k order.now)) }
 {
     if out.len() < size {
         return Answer::Refused(Refusal::NoRoom);
@@ -167,8 +167,8 @@ fn print_rows(list: &[u8], order: &[u16], k: usize, size: usize, out: &mut [u8])
 }
 
 fn print_with(list: &[u8], order: &mut [u16], out: &mut [u8]) -> Answer
-    requires { length order.old ≡ rowCountLimit }
-    ensures { (result, out.new) ≡ printCall list.now out.old }
+    requires { length order.old ≡ row_count_limit }
+    ensures { (result, out.new) ≡ print_call list.now out.old }
 {
     match arrange(list, order) {
         Arranged::Refused(e) => Answer::Refused(e),
@@ -178,7 +178,7 @@ fn print_with(list: &[u8], order: &mut [u16], out: &mut [u8]) -> Answer
 
 // A line for each row of a list, in order.
 pub fn print(list: &[u8], out: &mut [u8]) -> Answer
-    ensures { (result, out.new) ≡ printCall list.now out.old }
+    ensures { (result, out.new) ≡ print_call list.now out.old }
 {
     let mut order = [0; ROW_LIMIT];
     print_with(list, &mut order, out)
@@ -211,8 +211,8 @@ fn write_decimal(out: &mut [u8], at: usize, n: usize) -> usize
 }
 
 fn write_refusal(out: &mut [u8], number: usize, place: usize)
-    requires { length (numbersLine number place) ≤ length out.old }
-    ensures { out.new ≡ sets out.old 0 (numbersLine number place) }
+    requires { length (numbers_line number place) ≤ length out.old }
+    ensures { out.new ≡ sets out.old 0 (numbers_line number place) }
 {
     let space = write_decimal(out, 0, number);
     out[space] = b' ';
@@ -222,7 +222,7 @@ fn write_refusal(out: &mut [u8], number: usize, place: usize)
 
 // The line of a refusal.
 fn print_refusal(e: Refusal, out: &mut [u8]) -> Answer
-    ensures { (result, out.new) ≡ placed out.old (refusalLine e) }
+    ensures { (result, out.new) ≡ placed out.old (refusal_line e) }
 {
     let number = e.number() as usize;
     let place = e.place();
@@ -235,8 +235,8 @@ fn print_refusal(e: Refusal, out: &mut [u8]) -> Answer
 }
 
 fn report_with(list: &[u8], order: &mut [u16], out: &mut [u8]) -> Answer
-    requires { length order.old ≡ rowCountLimit }
-    ensures { (result, out.new) ≡ reportCall list.now out.old }
+    requires { length order.old ≡ row_count_limit }
+    ensures { (result, out.new) ≡ report_call list.now out.old }
 {
     match arrange(list, order) {
         Arranged::Refused(e) => print_refusal(e, out),
@@ -246,7 +246,7 @@ fn report_with(list: &[u8], order: &mut [u16], out: &mut [u8]) -> Answer
 
 // All that the program prints: the lines of a list, or the line of its refusal.
 pub fn report(list: &[u8], out: &mut [u8]) -> Answer
-    ensures { (result, out.new) ≡ reportCall list.now out.old }
+    ensures { (result, out.new) ≡ report_call list.now out.old }
 {
     let mut order = [0; ROW_LIMIT];
     report_with(list, &mut order, out)

@@ -12,25 +12,25 @@ use Rattle.error.specs.declared.Refusal.TheVariants.{NoRoom, Unprintable}
 use Rattle.error.specs.declared.Answer.{Answer}
 use Rattle.error.specs.declared.Answer.TheVariants as Answer
 use Rattle.error.specs.Refusal.{number_of}
-use Rattle.error.specs.Result.{Result, ok, refused, onResult}
-use Rattle.error.specs.Answer.{Counted, unchangedBoth}
-use Rattle.row_format.specs.Places.{offsetWidth}
-use Rattle.row_format.specs.Header.{isLong}
-use Rattle.datatype.specs.Schema.{schemaOf}
+use Rattle.error.specs.Result.{Result, ok, refused, on_result}
+use Rattle.error.specs.Answer.{Counted, unchanged_both}
+use Rattle.row_format.specs.Places.{offset_width}
+use Rattle.row_format.specs.Header.{is_long}
+use Rattle.datatype.specs.Schema.{schema_of}
 use Rattle.value_list.specs.Lists.{Values, list_of}
-use Rattle.stored_form.specs.Points.{pointsIn}
+use Rattle.stored_form.specs.Points.{points_in}
 use Rattle.row_column.specs.declared.Frame.{Frame}
 use Rattle.row_column.specs.declared.Frame.TheVariants as Frame
-use Rattle.row_column.specs.Frame.{frame_of, onFrame}
-use Rattle.row_decode.specs.Read.{readFrom, handOut, readCall}
-use Rattle.occupation.specs.Occupation.{Occupation, columns, occupationOf, hasUnprintable, printable}
-use Rattle.occupation.specs.InnerFields.{isGood}
-use Rattle.printed_list.specs.AsRead.{occupationSchema, allColumns, RefusedAsRead}
+use Rattle.row_column.specs.Frame.{frame_of, on_frame}
+use Rattle.row_decode.specs.Read.{read_from, hand_out, read_call}
+use Rattle.occupation.specs.Occupation.{Occupation, columns, occupation_of, has_unprintable, printable}
+use Rattle.occupation.specs.InnerFields.{is_good}
+use Rattle.printed_list.specs.AsRead.{occupation_schema, all_columns, RefusedAsRead}
 
-columns-are : (k : Bool) → schemaOf k occupationSchema ≡ ok columns
-unfolding schemaOf
-columns-are false = refl
-columns-are true = refl
+columns_are : (k : Bool) → schema_of k occupation_schema ≡ ok columns
+unfolding schema_of
+columns_are false = refl
+columns_are true = refl
 
 -- ---- refusals told apart
 
@@ -40,10 +40,10 @@ same-refusal h = cc
 same_answer : {e q : Refusal} {x y : List ℕ × List ℕ} → ◌≡◌ {A = Counted} (Answer.Refused e, x) (Answer.Refused q, y) → e ≡ q
 same_answer {e} {q} h = let a : Answer.Refused e ≡ Answer.Refused q = ap (λ (c : Counted). c.0) h in cc
 
-not-printable : (s t : Bool) (o : Occupation) {e : Refusal} → cond s (refused (Unprintable 0)) (cond t (refused (Unprintable 1)) (ok o)) ≡ refused e → number_of e ≡ 17
-not-printable true t o h = ap number_of (sym (same-refusal h))
-not-printable false true o h = ap number_of (sym (same-refusal h))
-not-printable false false o h = absurd (false≢true (ap isGood (sym h)))
+not_printable : (s t : Bool) (o : Occupation) {e : Refusal} → cond s (refused (Unprintable 0)) (cond t (refused (Unprintable 1)) (ok o)) ≡ refused e → number_of e ≡ 17
+not_printable true t o h = ap number_of (sym (same-refusal h))
+not_printable false true o h = ap number_of (sym (same-refusal h))
+not_printable false false o h = absurd (false≢true (ap is_good (sym h)))
 
 no_room : (t : Bool) (n : ℕ) (x y : List ℕ × List ℕ) {e : Refusal} {z : List ℕ × List ℕ} → ◌≡◌ {A = Counted} (cond t (Answer.Refused NoRoom, x) (Answer.Done n, y)) (Answer.Refused e, z) → number_of e ≡ 14
 no_room true n x y h = ap number_of (sym (same_answer h))
@@ -57,28 +57,28 @@ no_room false n x y h = absurd (false≢true (ap (λ (c : Counted). is_refused c
 
 module _ (k : Bool) (r out counts : List ℕ) (e : Refusal) where
   abbrev Same : Result Occupation → Counted → Type 0
-  Same o c = (o ≡ refused e) ↔ (c ≡ unchangedBoth out counts e)
+  Same o c = (o ≡ refused e) ↔ (c ≡ unchanged_both out counts e)
 
   module _ (n : number_of e ≡ 14 → ⊥) (m : number_of e ≡ 17 → ⊥) where
-    refused-alike : (q : Refusal) → Same (refused q) (unchangedBoth out counts q)
-    refused-alike q = (λ h. ap (unchangedBoth out counts) (same-refusal h), λ h. ap refused (same_answer h))
+    refused-alike : (q : Refusal) → Same (refused q) (unchanged_both out counts q)
+    refused-alike q = (λ h. ap (unchanged_both out counts) (same-refusal h), λ h. ap refused (same_answer h))
 
-    by_values : (v : Values) → Same (onResult v refused (λ vs. printable (occupationOf r vs))) (handOut k out counts r v)
+    by_values : (v : Values) → Same (on_result v refused (λ vs. printable (occupation_of r vs))) (hand_out k out counts r v)
     by_values (refused q) = refused-alike q
     by_values (ok vs) = (
-      λ h. absurd (m (not-printable (hasUnprintable (occupationOf r vs).platform) (hasUnprintable (occupationOf r vs).unit) (occupationOf r vs) h)),
-      λ h. absurd (n (no_room (ltb (length out) (length (list_of k vs)) || ltb (length counts) (length (map (pointsIn r) vs))) (length (list_of k vs)) (out, counts) (sets out 0 (list_of k vs), sets counts 0 (map (pointsIn r) vs)) h)),
+      λ h. absurd (m (not_printable (has_unprintable (occupation_of r vs).platform) (has_unprintable (occupation_of r vs).unit) (occupation_of r vs) h)),
+      λ h. absurd (n (no_room (ltb (length out) (length (list_of k vs)) || ltb (length counts) (length (map (points_in r) vs))) (length (list_of k vs)) (out, counts) (sets out 0 (list_of k vs), sets counts 0 (map (points_in r) vs)) h)),
     )
 
-    by-frame : (f : Frame) → Same (onFrame f refused (λ p. onResult (readFrom (offsetWidth k) p columns (λ i. true) r 0 (length columns)) refused (λ vs. printable (occupationOf r vs))))
-        (onFrame f (unchangedBoth out counts) (λ p. handOut k out counts r (readFrom (offsetWidth k) p columns (λ i. true) r 0 (length columns))))
-    by-frame (Frame.Good p) = by_values (readFrom (offsetWidth k) p columns (λ i. true) r 0 (length columns))
-    by-frame (Frame.Refused q) = refused-alike q
+    by_frame : (f : Frame) → Same (on_frame f refused (λ p. on_result (read_from (offset_width k) p columns (λ i. true) r 0 (length columns)) refused (λ vs. printable (occupation_of r vs))))
+        (on_frame f (unchanged_both out counts) (λ p. hand_out k out counts r (read_from (offset_width k) p columns (λ i. true) r 0 (length columns))))
+    by_frame (Frame.Good p) = by_values (read_from (offset_width k) p columns (λ i. true) r 0 (length columns))
+    by_frame (Frame.Refused q) = refused-alike q
 
 -- all four columns are wanted, so the read is that of the definition
-read_is : (r out counts : List ℕ) → readCall occupationSchema r allColumns out counts
-    ≡ onFrame (frame_of (isLong r) columns r) (unchangedBoth out counts) (λ p. handOut (isLong r) out counts r (readFrom (offsetWidth (isLong r)) p columns (λ i. true) r 0 (length columns)))
-read_is r out counts = rw (columns-are (isLong r))
+read_is : (r out counts : List ℕ) → read_call occupation_schema r all_columns out counts
+    ≡ on_frame (frame_of (is_long r) columns r) (unchanged_both out counts) (λ p. hand_out (is_long r) out counts r (read_from (offset_width (is_long r)) p columns (λ i. true) r 0 (length columns)))
+read_is r out counts = rw (columns_are (is_long r))
 
-pub refused-as-read : RefusedAsRead
-refused-as-read r out counts e n m = rw (read_is r out counts) (by-frame (isLong r) r out counts e n m (frame_of (isLong r) columns r))
+pub refused_as_read : RefusedAsRead
+refused_as_read r out counts e n m = rw (read_is r out counts) (by_frame (is_long r) r out counts e n m (frame_of (is_long r) columns r))

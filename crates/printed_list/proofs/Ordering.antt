@@ -9,8 +9,8 @@ use lib.ListN.{length, length-append}
 use lib.Seq.{append_snoc}
 use Rattle.laws.proofs.Truths.{by_cond}
 use Rattle.occupation.proofs.Order.{Ranks}
-use Rattle.occupation_list.specs.Ordered.{inserted, insertedAll, ordered}
-use Rattle.printed_list.specs.Sorted.{Every, Rises, kept, isLevel, Permutes, none, more, InOrder}
+use Rattle.occupation_list.specs.Ordered.{inserted, inserted_all, ordered}
+use Rattle.printed_list.specs.Sorted.{Every, Rises, kept, is_level, Permutes, none, more, InOrder}
 
 pub every_map : {A : Type 0} (P Q : A → Type 0) (xs : List A) → ((x : A) → P x → Q x) → Every P xs → Every Q xs
 every_map P Q [] f e = tt
@@ -38,18 +38,18 @@ permutes-map f (more x us vs ps qs p) =
 -- ---- elements put in one after the other, in any order
 
 module _ {A : Type 0} (lt : A → A → Bool) where
-  inserted-every : (P : A → Type 0) (x : A) (ys : List A) → P x → Every P ys → Every P (inserted lt x ys)
-  inserted-every P x [] p e = (p, tt)
-  inserted-every P x (y ∷ ys) p e =
+  inserted_every : (P : A → Type 0) (x : A) (ys : List A) → P x → Every P ys → Every P (inserted lt x ys)
+  inserted_every P x [] p e = (p, tt)
+  inserted_every P x (y ∷ ys) p e =
       by_cond (Every P) (lt x y) (x ∷ (y ∷ ys)) (y ∷ inserted lt x ys) (λ t. (p, e))
-      (λ t. (e.0, inserted-every P x ys p e.1))
+      (λ t. (e.0, inserted_every P x ys p e.1))
 
-  all-every : (P : A → Type 0) (xs ys : List A) → Every P ys → Every P xs → Every P (insertedAll lt ys xs)
-  all-every P [] ys e f = e
-  all-every P (x ∷ xs) ys e f = all-every P xs (inserted lt x ys) (inserted-every P x ys f.0 e) f.1
+  all_every : (P : A → Type 0) (xs ys : List A) → Every P ys → Every P xs → Every P (inserted_all lt ys xs)
+  all_every P [] ys e f = e
+  all_every P (x ∷ xs) ys e f = all_every P xs (inserted lt x ys) (inserted_every P x ys f.0 e) f.1
 
-  pub ordered-every : (P : A → Type 0) (xs : List A) → Every P xs → Every P (ordered lt xs)
-  ordered-every P xs f = all-every P xs [] tt f
+  pub ordered_every : (P : A → Type 0) (xs : List A) → Every P xs → Every P (ordered lt xs)
+  ordered_every P xs f = all_every P xs [] tt f
 
   inserted-permutes : (x : A) (zs ys : List A) → Permutes zs ys → Permutes (zs ++ (x ∷ [])) (inserted lt x ys)
   inserted-permutes x zs ys p = go ys [] p
@@ -61,7 +61,7 @@ module _ {A : Type 0} (lt : A → A → Bool) where
           (λ t. more x zs [] us (y ∷ ys) (rw (append-nil zs) p))
           (λ t. rw (append_snoc us y (inserted lt x ys)) at (go ys (us ++ (y ∷ [])) (rw (append_snoc us y ys) p)))
 
-  all-permutes : (xs zs ys : List A) → Permutes zs ys → Permutes (zs ++ xs) (insertedAll lt ys xs)
+  all-permutes : (xs zs ys : List A) → Permutes zs ys → Permutes (zs ++ xs) (inserted_all lt ys xs)
   all-permutes [] zs ys p = rw append-nil p
   all-permutes (x ∷ xs) zs ys p =
       rw (append_snoc zs x xs) at (all-permutes xs (zs ++ (x ∷ [])) (inserted lt x ys) (inserted-permutes x zs ys p))
@@ -90,8 +90,8 @@ neither false false e = (refl, refl)
 
 module _ {A : Type 0} {lt : A → A → Bool} (s : Ranks lt) where
   -- what does not go before y does not go before what y does not go before
-  not-before : (x y z : A) → lt z y ≡ false → lt y x ≡ false → lt z x ≡ false
-  not-before x y z f g = go (lt z x) (λ t. s.behind z x y t g)
+  not_before : (x y z : A) → lt z y ≡ false → lt y x ≡ false → lt z x ≡ false
+  not_before x y z f g = go (lt z x) (λ t. s.behind z x y t g)
     where
       go : (t : Bool) → (t ≡ true → lt z y ≡ true) → t ≡ false
       go true k = absurd (false≢true (sym f ∙ k refl))
@@ -104,17 +104,17 @@ module _ {A : Type 0} {lt : A → A → Bool} (s : Ranks lt) where
       (λ t.
       let first : lt y x ≡ false = s.once x y t in
       let rest : Every (λ z. lt z x ≡ false) ys
-      = every_map (λ z. lt z y ≡ false) (λ z. lt z x ≡ false) ys (λ z f. not-before x y z f first) r.0 in
+      = every_map (λ z. lt z y ≡ false) (λ z. lt z x ≡ false) ys (λ z f. not_before x y z f first) r.0 in
       ((first, rest), r))
-      (λ t. (inserted-every lt (λ z. lt z y ≡ false) x ys t r.0, inserted-rises x ys r.1))
+      (λ t. (inserted_every lt (λ z. lt z y ≡ false) x ys t r.0, inserted-rises x ys r.1))
 
-  all-rises : (xs ys : List A) → Rises lt ys → Rises lt (insertedAll lt ys xs)
+  all-rises : (xs ys : List A) → Rises lt ys → Rises lt (inserted_all lt ys xs)
   all-rises [] ys r = r
   all-rises (x ∷ xs) ys r = all-rises xs (inserted lt x ys) (inserted-rises x ys r)
 
   -- what x goes before is not of the rank of o, if x is
-  past-level : (o x z : A) → isLevel lt o x ≡ true → lt x z ≡ true → isLevel lt o z ≡ false
-  past-level o x z l t =
+  past_level : (o x z : A) → is_level lt o x ≡ true → lt x z ≡ true → is_level lt o z ≡ false
+  past_level o x z l t =
       let n = neither (lt o x) (lt x o) l in
       rw (go (lt o z) (λ f. s.behind x z o t f) n.1)
     where
@@ -123,44 +123,44 @@ module _ {A : Type 0} {lt : A → A → Bool} (s : Ranks lt) where
       go false k f = absurd (false≢true (sym f ∙ k refl))
 
   inserted-stable : (o x : A) (ys : List A) → Rises lt ys
-      → kept (isLevel lt o) (inserted lt x ys) ≡ kept (isLevel lt o) (ys ++ (x ∷ []))
+      → kept (is_level lt o) (inserted lt x ys) ≡ kept (is_level lt o) (ys ++ (x ∷ []))
   inserted-stable o x [] r = refl
   inserted-stable o x (y ∷ ys) r =
-      by_cond (λ l. kept (isLevel lt o) l ≡ kept (isLevel lt o) (y ∷ (ys ++ (x ∷ [])))) (lt x y) (x ∷ (y ∷ ys)) (y ∷ inserted lt x ys)
-      (λ t. at_front (isLevel lt o x) refl t)
-      (λ t. kept_append (isLevel lt o) (y ∷ []) (inserted lt x ys)
-      ∙ ap (λ (l : List A). kept (isLevel lt o) (y ∷ []) ++ l) (inserted-stable o x ys r.1)
-      ∙ sym (kept_append (isLevel lt o) (y ∷ []) (ys ++ (x ∷ []))))
+      by_cond (λ l. kept (is_level lt o) l ≡ kept (is_level lt o) (y ∷ (ys ++ (x ∷ [])))) (lt x y) (x ∷ (y ∷ ys)) (y ∷ inserted lt x ys)
+      (λ t. at_front (is_level lt o x) refl t)
+      (λ t. kept_append (is_level lt o) (y ∷ []) (inserted lt x ys)
+      ∙ ap (λ (l : List A). kept (is_level lt o) (y ∷ []) ++ l) (inserted-stable o x ys r.1)
+      ∙ sym (kept_append (is_level lt o) (y ∷ []) (ys ++ (x ∷ []))))
     where
-      alone : (t : Bool) → isLevel lt o x ≡ t → kept (isLevel lt o) (x ∷ []) ≡ cond t (x ∷ []) []
+      alone : (t : Bool) → is_level lt o x ≡ t → kept (is_level lt o) (x ∷ []) ≡ cond t (x ∷ []) []
       alone t e = rw e
 
-      at_front : (t : Bool) → isLevel lt o x ≡ t → lt x y ≡ true
-          → kept (isLevel lt o) (x ∷ (y ∷ ys)) ≡ kept (isLevel lt o) ((y ∷ ys) ++ (x ∷ []))
+      at_front : (t : Bool) → is_level lt o x ≡ t → lt x y ≡ true
+          → kept (is_level lt o) (x ∷ (y ∷ ys)) ≡ kept (is_level lt o) ((y ∷ ys) ++ (x ∷ []))
       at_front false e t =
-          kept_append (isLevel lt o) (x ∷ []) (y ∷ ys)
-          ∙ rw (alone false e, kept_append (isLevel lt o) (y ∷ ys) (x ∷ []), alone false e, append-nil)
+          kept_append (is_level lt o) (x ∷ []) (y ∷ ys)
+          ∙ rw (alone false e, kept_append (is_level lt o) (y ∷ ys) (x ∷ []), alone false e, append-nil)
       at_front true e t =
-          let later : Every (λ z. isLevel lt o z ≡ false) (y ∷ ys)
-          = (past-level o x y e t, every_map (λ z. lt z y ≡ false) (λ z. isLevel lt o z ≡ false) ys (λ z f. past-level o x z e (s.behind x y z t f)) r.0) in
-          let gone : kept (isLevel lt o) (y ∷ ys) ≡ [] = kept-none (isLevel lt o) (y ∷ ys) later in
-          kept_append (isLevel lt o) (x ∷ []) (y ∷ ys)
-          ∙ rw (alone true e, kept_append (isLevel lt o) (y ∷ ys) (x ∷ []), alone true e, gone)
+          let later : Every (λ z. is_level lt o z ≡ false) (y ∷ ys)
+          = (past_level o x y e t, every_map (λ z. lt z y ≡ false) (λ z. is_level lt o z ≡ false) ys (λ z f. past_level o x z e (s.behind x y z t f)) r.0) in
+          let gone : kept (is_level lt o) (y ∷ ys) ≡ [] = kept-none (is_level lt o) (y ∷ ys) later in
+          kept_append (is_level lt o) (x ∷ []) (y ∷ ys)
+          ∙ rw (alone true e, kept_append (is_level lt o) (y ∷ ys) (x ∷ []), alone true e, gone)
 
   all_stable : (o : A) (xs ys : List A) → Rises lt ys
-      → kept (isLevel lt o) (insertedAll lt ys xs) ≡ kept (isLevel lt o) (ys ++ xs)
+      → kept (is_level lt o) (inserted_all lt ys xs) ≡ kept (is_level lt o) (ys ++ xs)
   all_stable o [] ys r = rw append-nil
   all_stable o (x ∷ xs) ys r =
       all_stable o xs (inserted lt x ys) (inserted-rises x ys r)
-      ∙ kept_append (isLevel lt o) (inserted lt x ys) xs
-      ∙ ap (λ (l : List A). l ++ kept (isLevel lt o) xs) (inserted-stable o x ys r)
-      ∙ sym (kept_append (isLevel lt o) (ys ++ (x ∷ [])) xs)
-      ∙ ap (kept (isLevel lt o)) (append_snoc ys x xs)
+      ∙ kept_append (is_level lt o) (inserted lt x ys) xs
+      ∙ ap (λ (l : List A). l ++ kept (is_level lt o) xs) (inserted-stable o x ys r)
+      ∙ sym (kept_append (is_level lt o) (ys ++ (x ∷ [])) xs)
+      ∙ ap (kept (is_level lt o)) (append_snoc ys x xs)
 
   pub ordered-rises : (xs : List A) → Rises lt (ordered lt xs)
   ordered-rises xs = all-rises xs [] tt
 
-  pub ordered-stable : (x : A) (xs : List A) → kept (isLevel lt x) (ordered lt xs) ≡ kept (isLevel lt x) xs
+  pub ordered-stable : (x : A) (xs : List A) → kept (is_level lt x) (ordered lt xs) ≡ kept (is_level lt x) xs
   ordered-stable x xs = all_stable x xs [] tt
 
   pub in_order : (xs : List A) → InOrder lt xs (ordered lt xs)
@@ -180,24 +180,24 @@ tails y z false true h e = absurd (false≢true h)
 tails y z false false h e = e
 
 module _ {A : Type 0} {lt : A → A → Bool} (s : Ranks lt) where
-  pub level-self : (x : A) → isLevel lt x x ≡ true
-  level-self x = rw (go (lt x x) (s.once x x))
+  pub level_self : (x : A) → is_level lt x x ≡ true
+  level_self x = rw (go (lt x x) (s.once x x))
     where
       go : (t : Bool) → (t ≡ true → t ≡ false) → t ≡ false
       go true k = k refl
       go false k = refl
 
   -- an element y that is kept of zs by its rank, where z does not go behind any of zs
-  kept-behind : (y z : A) (ys zs : List A) → Rises lt (z ∷ zs) → isLevel lt y z ≡ false
-      → kept (isLevel lt y) (y ∷ ys) ≡ kept (isLevel lt y) (z ∷ zs) → lt y z ≡ false
+  kept-behind : (y z : A) (ys zs : List A) → Rises lt (z ∷ zs) → is_level lt y z ≡ false
+      → kept (is_level lt y) (y ∷ ys) ≡ kept (is_level lt y) (z ∷ zs) → lt y z ≡ false
   kept-behind y z ys zs r n e =
-      let in-zs : y ∷ kept (isLevel lt y) ys ≡ kept (isLevel lt y) zs = rw (level-self y, n) at e in
-      let all : Every (λ w. lt w z ≡ false) (y ∷ kept (isLevel lt y) ys)
-      = subst (Every (λ w. lt w z ≡ false)) (sym in-zs) (kept_in (isLevel lt y) (λ w. lt w z ≡ false) zs r.0) in
+      let in-zs : y ∷ kept (is_level lt y) ys ≡ kept (is_level lt y) zs = rw (level_self y, n) at e in
+      let all : Every (λ w. lt w z ≡ false) (y ∷ kept (is_level lt y) ys)
+      = subst (Every (λ w. lt w z ≡ false)) (sym in-zs) (kept_in (is_level lt y) (λ w. lt w z ≡ false) zs r.0) in
       all.0
 
-  level-sym : (x y : A) → isLevel lt x y ≡ isLevel lt y x
-  level-sym x y = go (lt x y) (lt y x)
+  level_sym : (x y : A) → is_level lt x y ≡ is_level lt y x
+  level_sym x y = go (lt x y) (lt y x)
     where
       go : (t u : Bool) → not (t || u) ≡ not (u || t)
       go true true = refl
@@ -206,29 +206,29 @@ module _ {A : Type 0} {lt : A → A → Bool} (s : Ranks lt) where
       go false false = refl
 
   heads : (y z : A) (ys zs : List A) → Rises lt (y ∷ ys) → Rises lt (z ∷ zs)
-      → ((o : A) → kept (isLevel lt o) (y ∷ ys) ≡ kept (isLevel lt o) (z ∷ zs)) → y ≡ z
-  heads y z ys zs q r k = go (isLevel lt y z) refl
+      → ((o : A) → kept (is_level lt o) (y ∷ ys) ≡ kept (is_level lt o) (z ∷ zs)) → y ≡ z
+  heads y z ys zs q r k = go (is_level lt y z) refl
     where
-      go : (t : Bool) → isLevel lt y z ≡ t → y ≡ z
-      go true e = head-eq_of_cons-eq (rw (level-self y, e) at (k y))
+      go : (t : Bool) → is_level lt y z ≡ t → y ≡ z
+      go true e = head-eq_of_cons-eq (rw (level_self y, e) at (k y))
       go false e =
           let a : lt y z ≡ false = kept-behind y z ys zs r e (k y) in
-          let b : lt z y ≡ false = kept-behind z y zs ys q (level-sym z y ∙ e) (sym (k z)) in
+          let b : lt z y ≡ false = kept-behind z y zs ys q (level_sym z y ∙ e) (sym (k z)) in
           let same : false ≡ true = sym e ∙ rw (a, b) in
           absurd (false≢true same)
 
-  one-order : (ys zs : List A) → Rises lt ys → Rises lt zs
-      → ((o : A) → kept (isLevel lt o) ys ≡ kept (isLevel lt o) zs) → ys ≡ zs
-  one-order [] [] q r k = refl
-  one-order [] (z ∷ zs) q r k = absurd (nil≢cons (rw (level-self z) at (k z)))
-  one-order (y ∷ ys) [] q r k = absurd (cons≢nil (rw (level-self y) at (k y)))
-  one-order (y ∷ ys) (z ∷ zs) q r k =
+  one_order : (ys zs : List A) → Rises lt ys → Rises lt zs
+      → ((o : A) → kept (is_level lt o) ys ≡ kept (is_level lt o) zs) → ys ≡ zs
+  one_order [] [] q r k = refl
+  one_order [] (z ∷ zs) q r k = absurd (nil≢cons (rw (level_self z) at (k z)))
+  one_order (y ∷ ys) [] q r k = absurd (cons≢nil (rw (level_self y) at (k y)))
+  one_order (y ∷ ys) (z ∷ zs) q r k =
       let first = heads y z ys zs q r k in
       let rest =
-      one-order ys zs q.1 r.1 (λ o. tails y z (isLevel lt o y) (isLevel lt o z) (ap (isLevel lt o) first) (k o)) in
+      one_order ys zs q.1 r.1 (λ o. tails y z (is_level lt o y) (is_level lt o z) (ap (is_level lt o) first) (k o)) in
       (λ i. first i ∷ rest i)
 
   pub ordered-only : (xs ys : List A) → InOrder lt xs ys → ys ≡ ordered lt xs
   ordered-only xs ys k =
       let o = in_order s xs in
-      one-order ys (ordered lt xs) k.rises o.rises (λ x. k.stable x ∙ sym (o.stable x))
+      one_order ys (ordered lt xs) k.rises o.rises (λ x. k.stable x ∙ sym (o.stable x))

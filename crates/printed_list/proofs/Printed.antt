@@ -13,57 +13,57 @@ use Rattle.error.specs.Answer.{placed}
 use Rattle.occupation.specs.Occupation.{Occupation}
 use Rattle.occupation.specs.Order.{precedes}
 use Rattle.occupation.specs.Line.{line}
-use Rattle.occupation.proofs.Order.{precedes-ranks}
+use Rattle.occupation.proofs.Order.{precedes_ranks}
 use Rattle.occupation_list.specs.Ordered.{ordered}
-use Rattle.occupation_list.specs.Print.{rowCountLimit, occupationsOf, lines_of}
+use Rattle.occupation_list.specs.Print.{row_count_limit, occupations_of, lines_of}
 use Rattle.printed_list.specs.Sorted.{Every, Permutes, InOrder}
 use Rattle.printed_list.specs.Printable.{Printable}
-use Rattle.printed_list.specs.Shown.{Shown, shown, shownInOrder, NeverSame, LinesTell, RowsOrdered}
-use Rattle.printed_list.specs.Room.{linesLimit, LinesFitAlways}
-use Rattle.printed_list.proofs.Ordering.{ordered-every, ordered-permutes, permutes-length, permutes-map, in_order, ordered-only}
-use Rattle.printed_list.proofs.Results.{of-good}
-use Rattle.printed_list.proofs.Reading.{Good, list_read}
+use Rattle.printed_list.specs.Shown.{Shown, shown, shown_in_order, NeverSame, LinesTell, RowsOrdered}
+use Rattle.printed_list.specs.Room.{lines_limit, LinesFitAlways}
+use Rattle.printed_list.proofs.Ordering.{ordered_every, ordered-permutes, permutes-length, permutes-map, in_order, ordered-only}
+use Rattle.printed_list.proofs.Results.{of_good}
+use Rattle.printed_list.proofs.Reading.{Good, list_read_lem}
 use Rattle.printed_list.proofs.Lines.{line_of, line-shown, lines_cut, lines-length}
 
-pub all-good : (bytes : List ℕ) (os : List Occupation) → occupationsOf bytes ≡ ok os → Good rowCountLimit os
-all-good bytes os e = of-good (list_read bytes) e
+pub all-good : (bytes : List ℕ) (os : List Occupation) → occupations_of bytes ≡ ok os → Good row_count_limit os
+all-good bytes os e = of_good (list_read_lem bytes) e
 
 -- ---- what the lines tell
 
 module _ {n : ℕ} {os : List Occupation} (g : Good n os) where
   pub ordered-printable : Every Printable (ordered precedes os)
-  ordered-printable = ordered-every precedes Printable os g.all
+  ordered-printable = ordered_every precedes Printable os g.all
 
-pub lines-told : {n m : ℕ} {os qs : List Occupation} → Good n os → Good m qs → lines_of os ≡ lines_of qs → shownInOrder os ≡ shownInOrder qs
+pub lines-told : {n m : ℕ} {os qs : List Occupation} → Good n os → Good m qs → lines_of os ≡ lines_of qs → shown_in_order os ≡ shown_in_order qs
 lines-told {os = os} {qs = qs} g h l =
     lines_cut (ordered precedes os) (ordered precedes qs) (ordered-printable g) (ordered-printable h) l
 
-by-shown : (os : List Occupation) → concat (map line os) ≡ concat (map line_of (map shown os))
-by-shown [] = refl
-by-shown (o ∷ os) = rw (line-shown o, by-shown os)
+by_shown : (os : List Occupation) → concat (map line os) ≡ concat (map line_of (map shown os))
+by_shown [] = refl
+by_shown (o ∷ os) = rw (line-shown o, by_shown os)
 
-same_lines : (os qs : List Occupation) → shownInOrder os ≡ shownInOrder qs → lines_of os ≡ lines_of qs
+same_lines : (os qs : List Occupation) → shown_in_order os ≡ shown_in_order qs → lines_of os ≡ lines_of qs
 same_lines os qs e =
-    by-shown (ordered precedes os) ∙ ap (λ (l : List Shown). concat (map line_of l)) e ∙ sym (by-shown (ordered precedes qs))
+    by_shown (ordered precedes os) ∙ ap (λ (l : List Shown). concat (map line_of l)) e ∙ sym (by_shown (ordered precedes qs))
 
-pub lines-tell : LinesTell
-lines-tell a b os qs e f = (lines-told (all-good a os e) (all-good b qs f), same_lines os qs)
+pub lines_tell : LinesTell
+lines_tell a b os qs e f = (lines-told (all-good a os e) (all-good b qs f), same_lines os qs)
 
 pub never-same : NeverSame
-never-same a b os qs e f differ l = differ ((lines-tell a b os qs e f).0 l)
+never-same a b os qs e f differ l = differ ((lines_tell a b os qs e f).0 l)
 
 -- ---- their order
 
 pub rows-ordered : RowsOrdered
 rows-ordered os qs =
-    (ordered-only precedes-ranks os qs, λ e. subst (InOrder precedes os) (sym e) (in_order precedes-ranks os))
+    (ordered-only precedes_ranks os qs, λ e. subst (InOrder precedes os) (sym e) (in_order precedes_ranks os))
 
-pub lines-permute : (os : List Occupation) → Permutes (map line os) (map line (ordered precedes os))
-lines-permute os = permutes-map line (ordered-permutes precedes os)
+pub lines_permute : (os : List Occupation) → Permutes (map line os) (map line (ordered precedes os))
+lines_permute os = permutes-map line (ordered-permutes precedes os)
 
 -- ---- their length
 
-pub lines-short : {os : List Occupation} → Good rowCountLimit os → length (lines_of os) ≤ linesLimit
+pub lines-short : {os : List Occupation} → Good row_count_limit os → length (lines_of os) ≤ lines_limit
 lines-short {os} g =
     let n = permutes-length (ordered-permutes precedes os) in
     let c = g.count in
@@ -76,4 +76,4 @@ placed-done n out x h l = rw (le-ltb (length out) (length x) (omega arith))
 pub lines_fit : LinesFitAlways
 lines_fit bytes os e =
     let l = lines-short (all-good bytes os e) in
-    record { lines = l; done = λ out h. rw e (placed-done linesLimit out (lines_of os) l h) }
+    record { lines = l; done = λ out h. rw e (placed-done lines_limit out (lines_of os) l h) }

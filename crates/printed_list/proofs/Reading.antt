@@ -10,45 +10,45 @@ use lib.IntN.{ℤ}
 use lib.ListN.{length, get_or, take, drop}
 use mir.Syntax.{w64}
 use mir.Val.{to_z}
-use Rattle.laws.specs.Bytes.{fromLe}
+use Rattle.laws.specs.Bytes.{from_le}
 use Rattle.laws.specs.Bits.{bit_at}
 use Rattle.laws.proofs.Truths.{by_cond, cases}
 use Rattle.error.specs.declared.Refusal.{Refusal}
 use Rattle.error.specs.declared.Refusal.TheVariants.{RowTooShort, RowTooLong, WrongColumnCount, WrongVarlenCount, Unprintable}
 use Rattle.error.specs.Result.{Result, ok, refused, before}
-use Rattle.text_limit.specs.Limit.{fitsText}
+use Rattle.text_limit.specs.Limit.{fits_text}
 use Rattle.text_limit.proofs.Limits.{fits-size, fits-valid}
-use Rattle.temporal.specs.Ranges.{isTimestamp}
-use Rattle.row_format.specs.Places.{bitmapStart, offsetWidth, rowLimit, varlens, rank_of, tableStart, slotPlace, minimum}
-use Rattle.row_format.specs.Row.{leastMark}
+use Rattle.temporal.specs.Ranges.{is_timestamp}
+use Rattle.row_format.specs.Places.{bitmap_start, offset_width, row_limit, varlens, rank_of, table_start, slot_place, minimum}
+use Rattle.row_format.specs.Row.{least_mark}
 use Rattle.row_layout.specs.declared.VarlenRange.{VarlenRange}
 use Rattle.row_layout.specs.declared.VarlenRange.TheVariants as Range
 use Rattle.datatype.specs.declared.DataType.TheVariants.{Varchar, Timestamp}
-use Rattle.row_layout.specs.Range.{varlenRange}
+use Rattle.row_layout.specs.Range.{varlen_range}
 use Rattle.datatype.specs.Types.{size_of, shape_of}
 use Rattle.value.specs.declared.DataValue.{DataValue}
 use Rattle.value.specs.declared.DataValue.TheVariants as D
 use Rattle.stored_form.specs.declared.SlotRead.TheVariants as Slot
-use Rattle.stored_form.specs.Read.{valueIf, whole}
-use Rattle.calendar.proofs.Since.{since-lt}
+use Rattle.stored_form.specs.Read.{value_if, whole}
+use Rattle.calendar.proofs.Since.{since_lt}
 use Rattle.row_column.specs.declared.ColumnRead.{ColumnRead}
 use Rattle.row_column.specs.declared.ColumnRead.TheVariants.{Value, Refused}
 use Rattle.row_column.specs.declared.Frame.{Frame}
 use Rattle.row_column.specs.declared.Frame.TheVariants as Header
-use Rattle.row_format.specs.Header.{columnCount, varlenField, is_packed, isLong}
-use Rattle.row_column.specs.Frame.{frameWith, onFrame}
-use Rattle.row_column.specs.Column.{slotValue, readBytes, varlenValue, columnWith}
-use Rattle.row_decode.specs.Read.{onColumn, readFrom}
-use Rattle.occupation.specs.Occupation.{Occupation, columns, textIn, momentIn, occupationOf, hasUnprintable, printable, occupationAs}
-use Rattle.occupation.specs.InnerFields.{isGood}
-use Rattle.occupation_list.specs.Print.{rowCountLimit, occupationsIn, occupationsOf}
+use Rattle.row_format.specs.Header.{column_count, varlen_field, is_packed, is_long}
+use Rattle.row_column.specs.Frame.{frame_with, on_frame}
+use Rattle.row_column.specs.Column.{slot_value, read_bytes, varlen_value, column_with}
+use Rattle.row_decode.specs.Read.{on_column, read_from}
+use Rattle.occupation.specs.Occupation.{Occupation, columns, text_in, moment_in, occupation_of, has_unprintable, printable, occupation_as}
+use Rattle.occupation.specs.InnerFields.{is_good}
+use Rattle.occupation_list.specs.Print.{row_count_limit, occupations_in, occupations_of}
 use Rattle.printed_list.specs.Sorted.{Every}
 use Rattle.printed_list.specs.Refusals.{OfList, short, range, value, text}
 use Rattle.printed_list.specs.Refusals as R
 use Rattle.printed_list.specs.Printable.{NullOrText, NullOrInYears, InLimits, Printable, ReadPrintable}
 use Rattle.printed_list.proofs.Ordering.{every_map}
-use Rattle.printed_list.proofs.Results.{Gives, good, bad, of-good, on-result, good-map, before-good}
-use Rattle.printed_list.proofs.Rows.{rows-of}
+use Rattle.printed_list.proofs.Results.{Gives, good, bad, of_good, on_result_lem, good-map, before-good}
+use Rattle.printed_list.proofs.Rows.{rows_of_lem}
 
 -- ---- one column
 
@@ -57,7 +57,7 @@ data Reads (P : DataValue → Type 0) : ColumnRead → Type 0 where
   none : {e : Refusal} → OfList e → Reads P (Refused e)
 
 abbrev Text : List ℕ → ℕ → DataValue → Type 0
-Text r n v = NullOrText n (textIn r v)
+Text r n v = NullOrText n (text_in r v)
 
 take_again : (k : ℕ) (l : List ℕ) → take (length (take k l)) l ≡ take k l
 take_again zero l = refl
@@ -66,104 +66,104 @@ take_again (suc k) (x ∷ l) = ap (λ (t : List ℕ). x ∷ t) (take_again k l)
 
 module _ (i : ℕ) (h : i ≤ 3) (r : List ℕ) where
   text-slot : (n a : ℕ) (bs : List ℕ) → take (length bs) (drop a r) ≡ bs
-      → Reads (Text r n) (slotValue i (valueIf (fitsText false n bs) (D.Varchar (whole a bs))))
+      → Reads (Text r n) (slot_value i (value_if (fits_text false n bs) (D.Varchar (whole a bs))))
   text-slot n a bs same =
-      by_cond (λ s. Reads (Text r n) (slotValue i s)) (fitsText false n bs) (Slot.Value (D.Varchar (whole a bs))) Slot.NoValue
+      by_cond (λ s. Reads (Text r n) (slot_value i s)) (fits_text false n bs) (Slot.Value (D.Varchar (whole a bs))) Slot.NoValue
       (λ t. val (rw same (fits-size false n bs t, fits-valid false n bs t)))
       (λ t. none (value i h))
 
-  text-range : (n : ℕ) (q : VarlenRange) → Reads (Text r n) (varlenValue (Varchar false n) i r q)
+  text-range : (n : ℕ) (q : VarlenRange) → Reads (Text r n) (varlen_value (Varchar false n) i r q)
   text-range n Range.Null = val tt
   text-range n (Range.Bytes a e) = text-slot n a (take (e - a) (drop a r)) (take_again (e - a) (drop a r))
   text-range n Range.Outside = none (range i h)
 
-  text-column : (n : ℕ) (q : VarlenRange) (at : ℕ) → Reads (Text r n) (columnWith (Varchar false n) i r q at)
+  text-column : (n : ℕ) (q : VarlenRange) (at : ℕ) → Reads (Text r n) (column_with (Varchar false n) i r q at)
   text-column n q at =
-      by_cond (Reads (Text r n)) (eqb (bit_at i (drop bitmapStart r)) 1) (Value D.Null) (varlenValue (Varchar false n) i r q)
+      by_cond (Reads (Text r n)) (eqb (bit_at i (drop bitmap_start r)) 1) (Value D.Null) (varlen_value (Varchar false n) i r q)
       (λ e. val tt) (λ e. text-range n q)
 
 module _ (i : ℕ) (h : i ≤ 3) (r : List ℕ) where
-  moment-slot : (z : ℤ) → Reads (λ v. NullOrInYears (momentIn v)) (slotValue i (valueIf (isTimestamp z) (D.Timestamp z)))
-  moment-slot z =
-      by_cond (λ s. Reads (λ v. NullOrInYears (momentIn v)) (slotValue i s)) (isTimestamp z) (Slot.Value (D.Timestamp z)) Slot.NoValue
-      (λ t. val (since-lt z t)) (λ t. none (value i h))
+  moment_slot : (z : ℤ) → Reads (λ v. NullOrInYears (moment_in v)) (slot_value i (value_if (is_timestamp z) (D.Timestamp z)))
+  moment_slot z =
+      by_cond (λ s. Reads (λ v. NullOrInYears (moment_in v)) (slot_value i s)) (is_timestamp z) (Slot.Value (D.Timestamp z)) Slot.NoValue
+      (λ t. val (since_lt z t)) (λ t. none (value i h))
 
-  moment-column : (q : VarlenRange) (at : ℕ) → Reads (λ v. NullOrInYears (momentIn v)) (columnWith Timestamp i r q at)
-  moment-column q at =
+  moment_column_lem : (q : VarlenRange) (at : ℕ) → Reads (λ v. NullOrInYears (moment_in v)) (column_with Timestamp i r q at)
+  moment_column_lem q at =
       let e = at + size_of Timestamp in
-      by_cond (Reads (λ v. NullOrInYears (momentIn v))) (eqb (bit_at i (drop bitmapStart r)) 1) (Value D.Null) (readBytes Timestamp i r at e)
-      (λ b. val tt) (λ b. moment-slot (to_z w64 (fromLe (take (e - at) (drop at r)))))
+      by_cond (Reads (λ v. NullOrInYears (moment_in v))) (eqb (bit_at i (drop bitmap_start r)) 1) (Value D.Null) (read_bytes Timestamp i r at e)
+      (λ b. val tt) (λ b. moment_slot (to_z w64 (from_le (take (e - at) (drop at r)))))
 
 -- ---- all columns, and 17
 
-on-column : {P : DataValue → Type 0} {Q S : List DataValue → Type 0} {c : ColumnRead} {rest : Result (List DataValue)} → Reads P c
-    → Gives Q OfList rest → ((v : DataValue) (vs : List DataValue) → P v → Q vs → S (v ∷ vs)) → Gives S OfList (onColumn c rest)
-on-column (val {v = v} p) g f = before-good v g (λ vs q. f v vs p q)
-on-column (none e) g f = bad e
+on_column_lem : {P : DataValue → Type 0} {Q S : List DataValue → Type 0} {c : ColumnRead} {rest : Result (List DataValue)} → Reads P c
+    → Gives Q OfList rest → ((v : DataValue) (vs : List DataValue) → P v → Q vs → S (v ∷ vs)) → Gives S OfList (on_column c rest)
+on_column_lem (val {v = v} p) g f = before-good v g (λ vs q. f v vs p q)
+on_column_lem (none e) g f = bad e
 
 abbrev MomentAt : ℕ → List DataValue → Type 0
-MomentAt k vs = NullOrInYears (momentIn (get_or vs k D.Null))
+MomentAt k vs = NullOrInYears (moment_in (get_or vs k D.Null))
 
 module _ (k p : Bool) (r : List ℕ) where
   -- the range of column i, and its place
   abbrev range_at : ℕ → VarlenRange
-  range_at i = varlenRange (offsetWidth k) (tableStart (length columns)) (varlens (map shape_of columns)) (rank_of (map shape_of columns) i) r
+  range_at i = varlen_range (offset_width k) (table_start (length columns)) (varlens (map shape_of columns)) (rank_of (map shape_of columns) i) r
 
   abbrev place_at : ℕ → ℕ
-  place_at i = slotPlace (offsetWidth k) p (map shape_of columns) i
+  place_at i = slot_place (offset_width k) p (map shape_of columns) i
 
-  read-sized : Gives (λ vs. InLimits (occupationOf r vs)) OfList (readFrom (offsetWidth k) p columns (λ i. true) r 0 (length columns))
+  read-sized : Gives (λ vs. InLimits (occupation_of r vs)) OfList (read_from (offset_width k) p columns (λ i. true) r 0 (length columns))
   read-sized =
-      on-column {S = λ vs. InLimits (occupationOf r vs)} (text-column 0 (omega arith) r 16 (range_at 0) (place_at 0))
-      (on-column {S = λ vs. Text r 64 (get_or vs 0 D.Null) × MomentAt 1 vs × MomentAt 2 vs}
+      on_column_lem {S = λ vs. InLimits (occupation_of r vs)} (text-column 0 (omega arith) r 16 (range_at 0) (place_at 0))
+      (on_column_lem {S = λ vs. Text r 64 (get_or vs 0 D.Null) × MomentAt 1 vs × MomentAt 2 vs}
       (text-column 1 (omega arith) r 64 (range_at 1) (place_at 1))
-      (on-column {S = λ vs. MomentAt 0 vs × MomentAt 1 vs} (moment-column 2 (omega arith) r (range_at 2) (place_at 2))
-      (on-column {Q = λ vs. Unit {0}} {S = MomentAt 0} (moment-column 3 (omega arith) r (range_at 3) (place_at 3))
+      (on_column_lem {S = λ vs. MomentAt 0 vs × MomentAt 1 vs} (moment_column_lem 2 (omega arith) r (range_at 2) (place_at 2))
+      (on_column_lem {Q = λ vs. Unit {0}} {S = MomentAt 0} (moment_column_lem 3 (omega arith) r (range_at 3) (place_at 3))
       (good {x = []} tt) (λ v vs a b. a))
       (λ v vs a b. (a, b)))
       (λ v vs a b. (a, b.0, b.1)))
-      (λ v vs a b. record { platform-in = a; unit-in = b.0; arrival-in = b.1; departure-in = b.2 })
+      (λ v vs a b. record { platform_in = a; unit_in = b.0; arrival_in = b.1; departure_in = b.2 })
 
 printed : (o : Occupation) → InLimits o → Gives Printable OfList (printable o)
 printed o s =
-    by_cond (Gives Printable OfList) (hasUnprintable o.platform) (refused (Unprintable 0))
-    (cond (hasUnprintable o.unit) (refused (Unprintable 1)) (ok o)) (λ t. bad (text 0 (omega arith)))
+    by_cond (Gives Printable OfList) (has_unprintable o.platform) (refused (Unprintable 0))
+    (cond (has_unprintable o.unit) (refused (Unprintable 1)) (ok o)) (λ t. bad (text 0 (omega arith)))
     (λ a.
-    by_cond (Gives Printable OfList) (hasUnprintable o.unit) (refused (Unprintable 1)) (ok o)
-    (λ t. bad (text 1 (omega arith))) (λ b. good (record { sized = s; platform-clean = a; unit-clean = b })))
+    by_cond (Gives Printable OfList) (has_unprintable o.unit) (refused (Unprintable 1)) (ok o)
+    (λ t. bad (text 1 (omega arith))) (λ b. good (record { sized = s; platform_clean = a; unit_clean = b })))
 
 -- ---- the header: never too long
 
 module _ {B : Type 0} (S : B → Type 0) (k : Bool → Result B) (f : (p : Bool) → Gives S OfList (k p)) where
   abbrev Goes : Frame → Type 0
-  Goes q = Gives S OfList (onFrame q refused k)
+  Goes q = Gives S OfList (on_frame q refused k)
 
-  on-frame : (s : Bool) (n v : ℕ) (least : Bool → ℕ) (r : List ℕ) → length r ≤ rowLimit s → Goes (frameWith s n v least r)
-  on-frame s n v least r h =
+  on_frame_lem : (s : Bool) (n v : ℕ) (least : Bool → ℕ) (r : List ℕ) → length r ≤ row_limit s → Goes (frame_with s n v least r)
+  on_frame_lem s n v least r h =
       let sized = cond (ltb (length r) (least (is_packed r))) (Header.Refused RowTooShort) (Header.Good (is_packed r)) in
-      let varchars = cond (eqb (varlenField r % leastMark s) v) sized (Header.Refused WrongVarlenCount) in
-      let counted = cond (eqb (columnCount r) n) varchars (Header.Refused WrongColumnCount) in
-      by_cond Goes (ltb (rowLimit s) (length r)) (Header.Refused RowTooLong) (cond (ltb (length r) 4) (Header.Refused RowTooShort) counted)
-      (λ t. let l = ltb-true (rowLimit s) (length r) t in absurd (omega arith))
+      let varchars = cond (eqb (varlen_field r % least_mark s) v) sized (Header.Refused WrongVarlenCount) in
+      let counted = cond (eqb (column_count r) n) varchars (Header.Refused WrongColumnCount) in
+      by_cond Goes (ltb (row_limit s) (length r)) (Header.Refused RowTooLong) (cond (ltb (length r) 4) (Header.Refused RowTooShort) counted)
+      (λ t. let l = ltb-true (row_limit s) (length r) t in absurd (omega arith))
       (λ t. by_cond Goes (ltb (length r) 4) (Header.Refused RowTooShort) counted (λ t. bad short)
-      (λ t. by_cond Goes (eqb (columnCount r) n) varchars (Header.Refused WrongColumnCount)
-      (λ t. by_cond Goes (eqb (varlenField r % leastMark s) v) sized (Header.Refused WrongVarlenCount)
+      (λ t. by_cond Goes (eqb (column_count r) n) varchars (Header.Refused WrongColumnCount)
+      (λ t. by_cond Goes (eqb (varlen_field r % least_mark s) v) sized (Header.Refused WrongVarlenCount)
       (λ t. by_cond Goes (ltb (length r) (least (is_packed r))) (Header.Refused RowTooShort) (Header.Good (is_packed r))
       (λ t. bad short) (λ t. f (is_packed r)))
       (λ t. bad R.varchars))
       (λ t. bad R.columns)))
 
-pub occupation-in : (k : Bool) (r : List ℕ) → length r ≤ rowLimit k → Gives Printable OfList (occupationAs k r)
-occupation-in k r h =
-    on-frame Printable _
-    (λ p. on-result (λ vs. printable (occupationOf r vs)) (read-sized k p r) (λ vs s. printed (occupationOf r vs) s))
-    k (length columns) (varlens (map shape_of columns)) (λ p. minimum (offsetWidth k) p (map shape_of columns)) r h
+pub occupation_in_lem : (k : Bool) (r : List ℕ) → length r ≤ row_limit k → Gives Printable OfList (occupation_as k r)
+occupation_in_lem k r h =
+    on_frame_lem Printable _
+    (λ p. on_result_lem (λ vs. printable (occupation_of r vs)) (read-sized k p r) (λ vs s. printed (occupation_of r vs) s))
+    k (length columns) (varlens (map shape_of columns)) (λ p. minimum (offset_width k) p (map shape_of columns)) r h
 
 pub good-printable : ReadPrintable
 good-printable r o e =
-    let k : Bool = isLong r in
-    cases (rowLimit k) (length r) (λ l. absurd (false≢true (ap isGood (rw (lt-ltb (rowLimit k) (length r) l) at e))))
-    (λ l. of-good (occupation-in k r l) e)
+    let k : Bool = is_long r in
+    cases (row_limit k) (length r) (λ l. absurd (false≢true (ap is_good (rw (lt-ltb (row_limit k) (length r) l) at e))))
+    (λ l. of_good (occupation_in_lem k r l) e)
 
 -- ---- row by row
 
@@ -172,20 +172,20 @@ pub record Good (n : ℕ) (os : List Occupation) : Type 0 where
   pub all : Every Printable os
 
 -- a row of either sort may have as many bytes as a short one
-in-limit : (k : Bool) {n : ℕ} → n ≤ rowLimit false → n ≤ rowLimit k
-in-limit false h = h
-in-limit true h = omega arith
+in_limit : (k : Bool) {n : ℕ} → n ≤ row_limit false → n ≤ row_limit k
+in_limit false h = h
+in_limit true h = omega arith
 
-rows-read : (rs : List (List ℕ)) → Every (λ r. length r ≤ rowLimit false) rs → Gives (Good (length rs)) OfList (occupationsIn rs)
+rows-read : (rs : List (List ℕ)) → Every (λ r. length r ≤ row_limit false) rs → Gives (Good (length rs)) OfList (occupations_in rs)
 rows-read [] e = good {x = []} (record { count = omega arith; all = tt })
 rows-read (r ∷ rs) e =
-    on-result (λ o. before o (occupationsIn rs)) (occupation-in (isLong r) r (in-limit (isLong r) e.0))
+    on_result_lem (λ o. before o (occupations_in rs)) (occupation_in_lem (is_long r) r (in_limit (is_long r) e.0))
     (λ o p. before-good o (rows-read rs e.1) (λ os g. record { count = omega (arith, g.count); all = (p, g.all) }))
 
-pub list_read : (list : List ℕ) → Gives (Good rowCountLimit) OfList (occupationsOf list)
-list_read list =
-    on-result occupationsIn (rows-of rowCountLimit list)
+pub list_read_lem : (list : List ℕ) → Gives (Good row_count_limit) OfList (occupations_of list)
+list_read_lem list =
+    on_result_lem occupations_in (rows_of_lem row_count_limit list)
     (λ rs k.
     let l = k.limit in
-    good-map (rows-read rs (every_map (λ r. length r ≤ length list) (λ r. length r ≤ rowLimit false) rs (λ r h. omega arith) k.rows.short))
+    good-map (rows-read rs (every_map (λ r. length r ≤ length list) (λ r. length r ≤ row_limit false) rs (λ r h. omega arith) k.rows.short))
     (λ os g. record { count = omega (arith, g.count, k.rows.count); all = g.all }))

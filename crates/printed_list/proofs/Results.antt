@@ -2,34 +2,34 @@
 use mathlib.Core.Path.{◌≡◌, subst}
 use mathlib.Core.List.{List, ◌∷◌}
 use Rattle.error.specs.declared.Refusal.{Refusal}
-use Rattle.error.specs.Result.{Result, ok, refused, onResult, before}
+use Rattle.error.specs.Result.{Result, ok, refused, on_result, before}
 
 pub data Gives {A : Type 0} (P : A → Type 0) (Q : Refusal → Type 0) : Result A → Type 0 where
   good : {x : A} → P x → Gives P Q (ok x)
   bad : {e : Refusal} → Q e → Gives P Q (refused e)
 
 module _ {A : Type 0} {P : A → Type 0} {Q : Refusal → Type 0} where
-  the-good : {x : A} → Gives P Q (ok x) → P x
-  the-good (good p) = p
+  the_good : {x : A} → Gives P Q (ok x) → P x
+  the_good (good p) = p
 
-  the-bad : {e : Refusal} → Gives P Q (refused e) → Q e
-  the-bad (bad q) = q
+  the_bad : {e : Refusal} → Gives P Q (refused e) → Q e
+  the_bad (bad q) = q
 
-  pub of-good : {res : Result A} → Gives P Q res → {x : A} → res ≡ ok x → P x
-  of-good g e = the-good (subst (Gives P Q) e g)
+  pub of_good : {res : Result A} → Gives P Q res → {x : A} → res ≡ ok x → P x
+  of_good g e = the_good (subst (Gives P Q) e g)
 
-  pub of-bad : {res : Result A} → Gives P Q res → {e : Refusal} → res ≡ refused e → Q e
-  of-bad g e = the-bad (subst (Gives P Q) e g)
+  pub of_bad : {res : Result A} → Gives P Q res → {e : Refusal} → res ≡ refused e → Q e
+  of_bad g e = the_bad (subst (Gives P Q) e g)
 
   -- what holds of either way on
-  pub on-either : {B : Type 0} (R : B → Type 0) {res : Result A} (else : Refusal → B) (k : A → B) → Gives P Q res
-      → ((e : Refusal) → Q e → R (else e)) → ((x : A) → P x → R (k x)) → R (onResult res else k)
-  on-either R else k (good {x = x} p) f g = g x p
-  on-either R else k (bad {e = e} q) f g = f e q
+  pub on_either : {B : Type 0} (R : B → Type 0) {res : Result A} (else : Refusal → B) (k : A → B) → Gives P Q res
+      → ((e : Refusal) → Q e → R (else e)) → ((x : A) → P x → R (k x)) → R (on_result res else k)
+  on_either R else k (good {x = x} p) f g = g x p
+  on_either R else k (bad {e = e} q) f g = f e q
 
-  pub on-result : {B : Type 0} {R : B → Type 0} {res : Result A} (k : A → Result B) → Gives P Q res
-      → ((x : A) → P x → Gives R Q (k x)) → Gives R Q (onResult res refused k)
-  on-result {R = R} k g f = on-either (Gives R Q) refused k g (λ e q. bad q) f
+  pub on_result_lem : {B : Type 0} {R : B → Type 0} {res : Result A} (k : A → Result B) → Gives P Q res
+      → ((x : A) → P x → Gives R Q (k x)) → Gives R Q (on_result res refused k)
+  on_result_lem {R = R} k g f = on_either (Gives R Q) refused k g (λ e q. bad q) f
 
   pub good-map : {R : A → Type 0} {res : Result A} → Gives P Q res → ((x : A) → P x → R x) → Gives R Q res
   good-map (good {x = x} p) f = good (f x p)

@@ -4,19 +4,19 @@ use Rattle.std.specs.Prelude.{ℕ, ◌≡◌, ◌↔◌, List, [], ◌∷◌}
 use Rattle.error.specs.declared.Refusal.{Refusal}
 use Rattle.error.specs.Refusal.{number_of}
 use Rattle.error.specs.Result.{refused}
-use Rattle.error.specs.Answer.{unchangedBoth}
-use Rattle.row_decode.specs.Read.{readCall}
-use Rattle.occupation.specs.Occupation.{occupationIn}
+use Rattle.error.specs.Answer.{unchanged_both}
+use Rattle.row_decode.specs.Read.{read_call}
+use Rattle.occupation.specs.Occupation.{occupation_in}
 
 -- Varchar(16), Varchar(64), Timestamp, Timestamp
-abbrev pub occupationSchema : List ℕ
-occupationSchema = 0x0B ∷ 0x10 ∷ 0x00 ∷ 0x0B ∷ 0x40 ∷ 0x00 ∷ 0x0F ∷ 0x0F ∷ []
+abbrev pub occupation_schema : List ℕ
+occupation_schema = 0x0B ∷ 0x10 ∷ 0x00 ∷ 0x0B ∷ 0x40 ∷ 0x00 ∷ 0x0F ∷ 0x0F ∷ []
 
-abbrev pub allColumns : List ℕ
-allColumns = 0 ∷ 1 ∷ 2 ∷ 3 ∷ []
+abbrev pub all_columns : List ℕ
+all_columns = 0 ∷ 1 ∷ 2 ∷ 3 ∷ []
 
 abbrev pub RefusedAsRead : Type 0
 RefusedAsRead =
     (r out counts : List ℕ) (e : Refusal) → (number_of e ≡ 14 → ⊥) → (number_of e ≡ 17 → ⊥)
-    → (occupationIn r ≡ refused e)
-    ↔ (readCall occupationSchema r allColumns out counts ≡ unchangedBoth out counts e)
+    → (occupation_in r ≡ refused e)
+    ↔ (read_call occupation_schema r all_columns out counts ≡ unchanged_both out counts e)

@@ -3,7 +3,7 @@ use Rattle.std.specs.Prelude.{ℕ, ◌-◌, ◌≡◌, List, [], ◌∷◌, ◌+
 use Prim.Native.Char.{code}
 use Prim.Native.String.{String, [] as end, ◌∷◌ as ◌then◌}
 use Rattle.laws.specs.Bytes.{concat}
-use Rattle.calendar.specs.Moment.{momentText, sinceYearOne}
+use Rattle.calendar.specs.Moment.{moment_text, since_year_one}
 use Rattle.occupation_list.specs.Print.{report}
 
 abbrev pub ascii : String → List ℕ
@@ -54,12 +54,12 @@ abbrev pub late : List ℕ → List ℕ
 late platform = row 0x1A 0x02 0x19 0x00 zeros (replicate 8 0x7F) platform
 
 -- the same row padded: the flag of its header is clear
-abbrev pub paddedRow : List ℕ
-paddedRow = take 5 t41 ++ (0x00 ∷ drop 6 t41)
+abbrev pub padded_row : List ℕ
+padded_row = take 5 t41 ++ (0x00 ∷ drop 6 t41)
 
 -- 02, request 5: the same row long by its marks, packed or padded; without the mark of its sort it is another row
-abbrev pub longRow : ℕ → List ℕ
-longRow marks =
+abbrev pub long_row : ℕ → List ℕ
+long_row marks =
     0x21 ∷ 0x00 ∷ 0x04 ∷ 0x00 ∷ 0x02 ∷ marks ∷ 0x08 ∷ 0x1D ∷ 0x00 ∷ 0x00 ∷ 0x00 ∷ 0x1E ∷ 0x00 ∷ 0x00 ∷ 0x00
     ∷ (replicate 16 0x00 ++ (0x33 ∷ 0x54 ∷ 0x34 ∷ 0x31 ∷ []))
 
@@ -80,10 +80,10 @@ table =
           ∷ []
           );
     }
-    ∷ record { input = paddedRow; output = line-t41 }
-    ∷ record { input = longRow 0xC0; output = line-t41 }
-    ∷ record { input = longRow 0x40 ++ t41; output = line-t41 ++ line-t41 }
-    ∷ record { input = longRow 0x80; output = ascii "\"3T41\"|-|1970-01-01 00:00:00|-\n" }
+    ∷ record { input = padded_row; output = line-t41 }
+    ∷ record { input = long_row 0xC0; output = line-t41 }
+    ∷ record { input = long_row 0x40 ++ t41; output = line-t41 ++ line-t41 }
+    ∷ record { input = long_row 0x80; output = ascii "\"3T41\"|-|1970-01-01 00:00:00|-\n" }
     ∷ record { input = take (length four - 1) four; output = ascii "16 0\n" }
     ∷ record { input = t41 ++ (0x03 ∷ 0x00 ∷ 0x04 ∷ 0x00 ∷ 0x02 ∷ []); output = ascii "3 0\n" }
     ∷ record { input = t41 ++ quote; output = ascii "17 1\n" }
@@ -116,4 +116,4 @@ moments =
     ∷ []
 
 abbrev pub WorkedMoments : Type 0
-WorkedMoments = map (λ c. momentText (sinceYearOne c.micros)) moments ≡ map (λ c. c.output) moments
+WorkedMoments = map (λ c. moment_text (since_year_one c.micros)) moments ≡ map (λ c. c.output) moments

@@ -2,13 +2,13 @@
 -- rows, and a list that is whole has no byte that is not of its rows.
 use Rattle.std.specs.Prelude.{ℕ, ◌≤◌, ◌<◌, ◌≡◌, List, length}
 use Rattle.error.specs.Result.{ok}
-use Rattle.row_list.specs.Rows.{listLimit, rows_of}
+use Rattle.row_list.specs.Rows.{list_limit, rows_of}
 use Rattle.row_list.specs.Framed.{framed}
 use Rattle.printed_list.specs.Sorted.{Every}
 
 abbrev pub RowsFramed : Type 0
 RowsFramed =
-    (most : ℕ) (rs : List (List ℕ)) → length rs ≤ most → length (framed rs) ≤ listLimit
+    (most : ℕ) (rs : List (List ℕ)) → length rs ≤ most → length (framed rs) ≤ list_limit
     → rows_of most (framed rs) ≡ ok rs
 
 abbrev pub FramedRows : Type 0

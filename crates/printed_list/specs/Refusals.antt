@@ -5,7 +5,7 @@ use Rattle.error.specs.declared.Refusal.{Refusal}
 use Rattle.error.specs.declared.Refusal.TheVariants.{RowTooShort, WrongColumnCount, WrongVarlenCount}
 use Rattle.error.specs.declared.Refusal.TheVariants.{BadRange, NoValue, BadList, Unprintable}
 use Rattle.error.specs.Result.{refused}
-use Rattle.occupation_list.specs.Print.{occupationsOf}
+use Rattle.occupation_list.specs.Print.{occupations_of}
 
 pub data OfList : Refusal → Type 0 where
   short : OfList RowTooShort
@@ -17,4 +17,4 @@ pub data OfList : Refusal → Type 0 where
   text : (i : ℕ) → i ≤ 1 → OfList (Unprintable i)
 
 abbrev pub RefusalsTold : Type 0
-RefusalsTold = (bytes : List ℕ) (e : Refusal) → occupationsOf bytes ≡ refused e → OfList e
+RefusalsTold = (bytes : List ℕ) (e : Refusal) → occupations_of bytes ≡ refused e → OfList e

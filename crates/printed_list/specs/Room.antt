@@ -5,28 +5,28 @@ use Rattle.std.proofs.lemmas.List.Edits.{sets}
 use Rattle.error.specs.declared.Answer.TheVariants.{Done}
 use Rattle.error.specs.Result.{ok}
 use Rattle.occupation.specs.Occupation.{Occupation}
-use Rattle.occupation_list.specs.Print.{occupationsOf, lines_of, printCall, report, reportCall}
+use Rattle.occupation_list.specs.Print.{occupations_of, lines_of, print_call, report, report_call}
 
-abbrev pub linesLimit : ℕ
-linesLimit = 64512
+abbrev pub lines_limit : ℕ
+lines_limit = 64512
 
-abbrev pub reportLimit : ℕ
-reportLimit = 65536
+abbrev pub report_limit : ℕ
+report_limit = 65536
 
 -- the call on a list of the occupations os, which is not refused
 pub record LinesFit (list : List ℕ) (os : List Occupation) : Type 0 where
-  pub lines : length (lines_of os) ≤ linesLimit
-  pub done : (out : List ℕ) → linesLimit ≤ length out
-      → printCall list out ≡ (Done (length (lines_of os)), sets out 0 (lines_of os))
+  pub lines : length (lines_of os) ≤ lines_limit
+  pub done : (out : List ℕ) → lines_limit ≤ length out
+      → print_call list out ≡ (Done (length (lines_of os)), sets out 0 (lines_of os))
 
 -- the program on any list
 pub record ReportFits (list : List ℕ) : Type 0 where
-  pub lines : length (report list) ≤ reportLimit
-  pub done : (out : List ℕ) → reportLimit ≤ length out
-      → reportCall list out ≡ (Done (length (report list)), sets out 0 (report list))
+  pub lines : length (report list) ≤ report_limit
+  pub done : (out : List ℕ) → report_limit ≤ length out
+      → report_call list out ≡ (Done (length (report list)), sets out 0 (report list))
 
 abbrev pub LinesFitAlways : Type 0
-LinesFitAlways = (list : List ℕ) (os : List Occupation) → occupationsOf list ≡ ok os → LinesFit list os
+LinesFitAlways = (list : List ℕ) (os : List Occupation) → occupations_of list ≡ ok os → LinesFit list os
 
 abbrev pub ReportFitsAlways : Type 0
 ReportFitsAlways = (list : List ℕ) → ReportFits list

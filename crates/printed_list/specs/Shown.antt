@@ -7,8 +7,8 @@ use Rattle.error.specs.Result.{Result, ok, refused}
 use Rattle.occupation.specs.Occupation.{Occupation}
 use Rattle.occupation.specs.Order.{precedes}
 use Rattle.occupation_list.specs.Ordered.{ordered}
-use Rattle.occupation_list.specs.Print.{occupationsOf, lines_of, report}
-use Rattle.printed_list.specs.Sorted.{isLevel, InOrder}
+use Rattle.occupation_list.specs.Print.{occupations_of, lines_of, report}
+use Rattle.printed_list.specs.Sorted.{is_level, InOrder}
 
 -- texts, nulls and seconds
 pub record Shown : Type 0 where
@@ -31,19 +31,19 @@ shown o =
     }
 
 -- "taken in this order"
-abbrev pub shownInOrder : List Occupation → List Shown
-shownInOrder os = map shown (ordered precedes os)
+abbrev pub shown_in_order : List Occupation → List Shown
+shown_in_order os = map shown (ordered precedes os)
 
 abbrev pub NeverSame : Type 0
 NeverSame =
-    (a b : List ℕ) (os qs : List Occupation) → occupationsOf a ≡ ok os → occupationsOf b ≡ ok qs
-    → (shownInOrder os ≡ shownInOrder qs → ⊥) → lines_of os ≡ lines_of qs → ⊥
+    (a b : List ℕ) (os qs : List Occupation) → occupations_of a ≡ ok os → occupations_of b ≡ ok qs
+    → (shown_in_order os ≡ shown_in_order qs → ⊥) → lines_of os ≡ lines_of qs → ⊥
 
 -- and, as nothing else is printed, exactly
 abbrev pub LinesTell : Type 0
 LinesTell =
-    (a b : List ℕ) (os qs : List Occupation) → occupationsOf a ≡ ok os → occupationsOf b ≡ ok qs
-    → (lines_of os ≡ lines_of qs) ↔ (shownInOrder os ≡ shownInOrder qs)
+    (a b : List ℕ) (os qs : List Occupation) → occupations_of a ≡ ok os → occupations_of b ≡ ok qs
+    → (lines_of os ≡ lines_of qs) ↔ (shown_in_order os ≡ shown_in_order qs)
 
 -- the rows are printed in order, of which there is one
 abbrev pub RowsOrdered : Type 0
@@ -52,14 +52,14 @@ RowsOrdered = (os qs : List Occupation) → InOrder precedes os qs ↔ (qs ≡ o
 -- those of which neither precedes the other, and which stand as they came, are those of one platform and one arrival
 abbrev pub LevelIs : Type 0
 LevelIs =
-    (a b : Occupation) → (isLevel precedes a b ≡ true) ↔ ((a.platform ≡ b.platform) × (a.arrival ≡ b.arrival))
+    (a b : Occupation) → (is_level precedes a b ≡ true) ↔ ((a.platform ≡ b.platform) × (a.arrival ≡ b.arrival))
 
 -- ---- the program
 
 -- what two lists have in common of which it prints the same
 pub data SameReport : Result (List Occupation) → Result (List Occupation) → Type 0 where
-  lines : (os qs : List Occupation) → shownInOrder os ≡ shownInOrder qs → SameReport (ok os) (ok qs)
+  lines : (os qs : List Occupation) → shown_in_order os ≡ shown_in_order qs → SameReport (ok os) (ok qs)
   refusal : (e : Refusal) → SameReport (refused e) (refused e)
 
 abbrev pub ReportTells : Type 0
-ReportTells = (a b : List ℕ) → report a ≡ report b → SameReport (occupationsOf a) (occupationsOf b)
+ReportTells = (a b : List ℕ) → report a ≡ report b → SameReport (occupations_of a) (occupations_of b)

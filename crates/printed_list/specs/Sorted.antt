@@ -18,8 +18,8 @@ Rises lt [] = Unit {0}
 Rises lt (x ∷ xs) = Every (λ y. lt y x ≡ false) xs × Rises lt xs
 
 -- of equal rank: neither goes before the other
-abbrev pub isLevel : {A : Type 0} → (A → A → Bool) → A → A → Bool
-isLevel lt x y = not (lt x y || lt y x)
+abbrev pub is_level : {A : Type 0} → (A → A → Bool) → A → A → Bool
+is_level lt x y = not (lt x y || lt y x)
 
 -- one element more, at any place of either list
 pub data Permutes {A : Type 0} : List A → List A → Type 0 where
@@ -29,4 +29,4 @@ pub data Permutes {A : Type 0} : List A → List A → Type 0 where
 pub record InOrder {A : Type 0} (lt : A → A → Bool) (xs ys : List A) : Type 0 where
   pub permutes : Permutes xs ys
   pub rises : Rises lt ys
-  pub stable : (x : A) → kept (isLevel lt x) ys ≡ kept (isLevel lt x) xs
+  pub stable : (x : A) → kept (is_level lt x) ys ≡ kept (is_level lt x) xs

@@ -1,10 +1,10 @@
 // The records of value lists, written.
 ghost use Rattle.std.specs.Prelude.{◌≡◌, ◌+◌, ◌≤◌, true, false, [], ◌∷◌, length};
 ghost use Rattle.std.proofs.lemmas.List.Edits.{sets};
-ghost use Rattle.laws.specs.Bytes.{toLe};
-ghost use Rattle.row_format.specs.Places.{offsetWidth};
-ghost use Rattle.value.specs.Kinds.{longKind};
-ghost use Rattle.value_list.specs.Records.{numericBytes, rangeRecord, recordOf, NarrowRange};
+ghost use Rattle.laws.specs.Bytes.{to_le};
+ghost use Rattle.row_format.specs.Places.{offset_width};
+ghost use Rattle.value.specs.Kinds.{long_kind};
+ghost use Rattle.value_list.specs.Records.{numeric_bytes, range_record, record_of, NarrowRange};
 ghost use Rattle.value_list.specs.InnerRecords.{Narrow};
 
 use value::{DataValue, NumericValue, TextRange, value_kinds};
@@ -36,7 +36,7 @@ pub fn write_8(out: &mut [u8], at: usize, kind: u8, x: u8) -> usize
 
 pub fn write_16(out: &mut [u8], at: usize, kind: u8, x: u16) -> usize
     requires { at + 3 ≤ length out.old }
-    ensures { (result ≡ at + 3) × (out.new ≡ sets out.old at (kind ∷ toLe 2 x)) }
+    ensures { (result ≡ at + 3) × (out.new ≡ sets out.old at (kind ∷ to_le 2 x)) }
 {
     put(out, at, kind);
     endian::write_u16(out, at + 1, x);
@@ -45,7 +45,7 @@ pub fn write_16(out: &mut [u8], at: usize, kind: u8, x: u16) -> usize
 
 pub fn write_32(out: &mut [u8], at: usize, kind: u8, x: u32) -> usize
     requires { at + 5 ≤ length out.old }
-    ensures { (result ≡ at + 5) × (out.new ≡ sets out.old at (kind ∷ toLe 4 x)) }
+    ensures { (result ≡ at + 5) × (out.new ≡ sets out.old at (kind ∷ to_le 4 x)) }
 {
     put(out, at, kind);
     endian::write_u32(out, at + 1, x);
@@ -54,7 +54,7 @@ pub fn write_32(out: &mut [u8], at: usize, kind: u8, x: u32) -> usize
 
 pub fn write_64(out: &mut [u8], at: usize, kind: u8, x: u64) -> usize
     requires { at + 9 ≤ length out.old }
-    ensures { (result ≡ at + 9) × (out.new ≡ sets out.old at (kind ∷ toLe 8 x)) }
+    ensures { (result ≡ at + 9) × (out.new ≡ sets out.old at (kind ∷ to_le 8 x)) }
 {
     put(out, at, kind);
     endian::write_u64(out, at + 1, x);
@@ -63,7 +63,7 @@ pub fn write_64(out: &mut [u8], at: usize, kind: u8, x: u64) -> usize
 
 fn write_numeric(out: &mut [u8], at: usize, n: NumericValue) -> usize
     requires { at + 18 ≤ length out.old }
-    ensures { (result ≡ at + 18) × (out.new ≡ sets out.old at (6 ∷ numericBytes n)) }
+    ensures { (result ≡ at + 18) × (out.new ≡ sets out.old at (6 ∷ numeric_bytes n)) }
 {
     put(out, at, value_kinds::NUMERIC);
     endian::write_u64(out, at + 1, n.low);
@@ -74,7 +74,7 @@ fn write_numeric(out: &mut [u8], at: usize, n: NumericValue) -> usize
 
 // The kind of a range for long rows, of a kind of range for short ones.
 fn long_kind(kind: u8) -> u8
-    ensures { result ≡ longKind kind }
+    ensures { result ≡ long_kind kind }
 {
     if kind == value_kinds::CHAR {
         return value_kinds::LONG_CHAR;
@@ -87,7 +87,7 @@ fn long_kind(kind: u8) -> u8
 
 fn write_long_range(out: &mut [u8], at: usize, kind: u8, r: TextRange) -> usize
     requires { (at + 9 ≤ length out.old) × NarrowRange 4 r }
-    ensures { (result ≡ at + 9) × (out.new ≡ sets out.old at (rangeRecord true kind r)) }
+    ensures { (result ≡ at + 9) × (out.new ≡ sets out.old at (range_record true kind r)) }
 {
     put(out, at, long_kind(kind));
     endian::write_u32(out, at + 1, r.start as u32);
@@ -97,7 +97,7 @@ fn write_long_range(out: &mut [u8], at: usize, kind: u8, r: TextRange) -> usize
 
 fn write_short_range(out: &mut [u8], at: usize, kind: u8, r: TextRange) -> usize
     requires { (at + 5 ≤ length out.old) × NarrowRange 2 r }
-    ensures { (result ≡ at + 5) × (out.new ≡ sets out.old at (rangeRecord false kind r)) }
+    ensures { (result ≡ at + 5) × (out.new ≡ sets out.old at (range_record false kind r)) }
 {
     put(out, at, kind);
     endian::write_u16(out, at + 1, r.start as u16);
@@ -107,10 +107,10 @@ fn write_short_range(out: &mut [u8], at: usize, kind: u8, r: TextRange) -> usize
 
 // A range of a kind for short rows, as a record for rows of a sort.
 pub fn write_range(out: &mut [u8], at: usize, is_long: bool, kind: u8, r: TextRange) -> usize
-    requires { (at + length (rangeRecord is_long kind r) ≤ length out.old)
-        × NarrowRange (offsetWidth is_long) r }
-    ensures { (result ≡ at + length (rangeRecord is_long kind r))
-        × (out.new ≡ sets out.old at (rangeRecord is_long kind r)) }
+    requires { (at + length (range_record is_long kind r) ≤ length out.old)
+        × NarrowRange (offset_width is_long) r }
+    ensures { (result ≡ at + length (range_record is_long kind r))
+        × (out.new ≡ sets out.old at (range_record is_long kind r)) }
 {
     if is_long {
         return write_long_range(out, at, kind, r);
@@ -120,9 +120,9 @@ pub fn write_range(out: &mut [u8], at: usize, is_long: bool, kind: u8, r: TextRa
 
 // A value's record for rows of a sort, and the place after it.
 pub fn write_value_record(out: &mut [u8], at: usize, is_long: bool, v: DataValue) -> usize
-    requires { (at + length (recordOf is_long v) ≤ length out.old) × Narrow is_long v }
-    ensures { (result ≡ at + length (recordOf is_long v))
-        × (out.new ≡ sets out.old at (recordOf is_long v)) }
+    requires { (at + length (record_of is_long v) ≤ length out.old) × Narrow is_long v }
+    ensures { (result ≡ at + length (record_of is_long v))
+        × (out.new ≡ sets out.old at (record_of is_long v)) }
 {
     match v {
         DataValue::Null => write_null(out, at),

@@ -2,18 +2,18 @@
 // slot, by kinds and bytes.
 ghost use Rattle.std.specs.Prelude.{◌≡◌, ◌+◌, ◌*◌, ◌%◌, ◌≤◌, ◌<◌, true, false, cond, eqb, length};
 ghost use Rattle.std.proofs.lemmas.List.Edits.{sets};
-ghost use Rattle.row_format.specs.Places.{offsetWidth};
+ghost use Rattle.row_format.specs.Places.{offset_width};
 ghost use Rattle.text.specs.Check.{points};
-ghost use Rattle.bit_utils.specs.Bits.{bytesFor};
+ghost use Rattle.bit_utils.specs.Bits.{bytes_for};
 ghost use Rattle.datatype.specs.Types.{size_of};
-ghost use Rattle.datatype.specs.Schema.{columnRecordAt};
-ghost use Rattle.datatype.specs.InnerSteps.{typeIn};
-ghost use Rattle.value.specs.Kinds.{plainKind};
+ghost use Rattle.datatype.specs.Schema.{column_record_at};
+ghost use Rattle.datatype.specs.InnerSteps.{type_in};
+ghost use Rattle.value.specs.Kinds.{plain_kind};
 ghost use Rattle.value.specs.Ranges.{part};
 ghost use Rattle.record_slot.specs.Stored.{is_null};
-ghost use Rattle.value_list.specs.Records.{numericAt, rangeAt, recordAt as valueRecordAt};
-ghost use Rattle.value_list.specs.InnerSizes.{bodyIn};
-ghost use Rattle.record_slot.specs.InnerSteps.{length_at, HasType, Readable, declaredAt, afterColumn, textSuits, bitsSuit, numberSuits, suitsAt, Testable, payloadLength, payloadIn, Short, valueIn, formIn, blankFilled, numberStored, bitsStored, SlotReady, NumberReady, TextThere, Suited, pointsStored};
+ghost use Rattle.value_list.specs.Records.{numeric_at, range_at, record_at as valueRecordAt};
+ghost use Rattle.value_list.specs.InnerSizes.{body_in};
+ghost use Rattle.record_slot.specs.InnerSteps.{length_at, HasType, Readable, declared_at, after_column, text_suits, bits_suit, number_suits, suits_at, Testable, payload_length, payload_in, Short, value_in, form_in, blank_filled, number_stored, bits_stored, SlotReady, NumberReady, TextThere, Suited, points_stored};
 
 use datatype::schema_kinds;
 use error::{Answer, Refusal};
@@ -22,7 +22,7 @@ use value::value_kinds;
 // The two bytes after the kind of a column, a length or precision and scale; 0 where the record is too short for them.
 fn declared_length(schema: &[u8], at: usize) -> usize
     requires { at < length schema.now }
-    ensures { (result ≡ declaredAt schema.now at) × (result ≤ 65535) }
+    ensures { (result ≡ declared_at schema.now at) × (result ≤ 65535) }
 {
     if schema.len() < at + 3 {
         return 0;
@@ -33,7 +33,7 @@ fn declared_length(schema: &[u8], at: usize) -> usize
 // The place after a column's record, which was accepted.
 pub fn after_column(schema: &[u8], at: usize) -> usize
     requires { at < length schema.now }
-    ensures { result ≡ afterColumn schema.now at }
+    ensures { result ≡ after_column schema.now at }
 {
     if datatype::plain_size(schema[at]) == 0 {
         return at + 3;
@@ -69,9 +69,9 @@ fn text_suits(
     n: usize,
     text: &[u8],
 ) -> bool
-    requires { body + 2 * offsetWidth is_long ≤ length values.now }
+    requires { body + 2 * offset_width is_long ≤ length values.now }
     ensures { result
-        ≡ textSuits by_points n (rangeAt (offsetWidth is_long) values.now body)
+        ≡ text_suits by_points n (range_at (offset_width is_long) values.now body)
         text.now }
 {
     let range = value_list::range_at(values, is_long, body);
@@ -85,9 +85,9 @@ fn text_suits(
 
 // Whether the range at a place of the list is a bit string of as many bytes as n bits fill.
 fn bits_suit(values: &[u8], is_long: bool, body: usize, n: usize, text: &[u8]) -> bool
-    requires { (body + 2 * offsetWidth is_long ≤ length values.now) × (n ≤ 65535) }
+    requires { (body + 2 * offset_width is_long ≤ length values.now) × (n ≤ 65535) }
     ensures { result
-        ≡ bitsSuit n (rangeAt (offsetWidth is_long) values.now body) text.now }
+        ≡ bits_suit n (range_at (offset_width is_long) values.now body) text.now }
 {
     let range = value_list::range_at(values, is_long, body);
     let start = range.start;
@@ -101,7 +101,7 @@ fn bits_suit(values: &[u8], is_long: bool, body: usize, n: usize, text: &[u8]) -
 // Whether the number at a place of the list suits a column whose precision and scale n has.
 fn number_suits(values: &[u8], body: usize, n: usize) -> bool
     requires { (body + 17 ≤ length values.now) × ((n ≤ 65535) × (n % 256 ≤ 38)) }
-    ensures { result ≡ numberSuits n (numericAt values.now body) }
+    ensures { result ≡ number_suits n (numeric_at values.now body) }
 {
     value_encode::fits_number(
         endian::read_i64(values, body + 8),
@@ -125,7 +125,7 @@ fn suits_at(
 ) -> bool
     requires { Testable is_long kind n values.now body }
     ensures { result
-        ≡ suitsAt by_points (offsetWidth is_long) kind n values.now body text.now }
+        ≡ suits_at by_points (offset_width is_long) kind n values.now body text.now }
 {
     match kind {
         value_kinds::NUMERIC => number_suits(values, body, n),
@@ -142,8 +142,8 @@ fn suits_at(
 
 // The payload of a value whose body stands at a place of the list.
 fn payload_length(kind: u8, is_long: bool, values: &[u8], body: usize) -> usize
-    requires { body + bodyIn is_long kind ≤ length values.now }
-    ensures { result ≡ payloadLength (offsetWidth is_long) kind values.now body }
+    requires { body + body_in is_long kind ≤ length values.now }
+    ensures { result ≡ payload_length (offset_width is_long) kind values.now body }
 {
     if kind == value_kinds::VARCHAR {
         let range = value_list::range_at(values, is_long, body);
@@ -154,7 +154,7 @@ fn payload_length(kind: u8, is_long: bool, values: &[u8], body: usize) -> usize
 
 // Whether a record has values of a kind. Most have the kind itself: that is tested first.
 fn is_of_kind(given: u8, kind: u8) -> bool
-    ensures { result ≡ eqb (plainKind given) kind }
+    ensures { result ≡ eqb (plain_kind given) kind }
 {
     if given < value_kinds::LONG_CHAR {
         return given == kind;
@@ -172,7 +172,7 @@ pub fn payload_at(
     text: &[u8],
 ) -> Answer
     requires { Readable schema.now at values.now from × (length text.now ≤ 1048576) }
-    ensures { (result ≡ payloadIn column schema.now at values.now from text.now)
+    ensures { (result ≡ payload_in column schema.now at values.now from text.now)
         × Short result }
 {
     let given = values[from];
@@ -203,7 +203,7 @@ pub fn payload_at(
 // The bytes of a column's slot.
 pub fn slot_size(schema: &[u8], at: usize) -> usize
     requires { HasType schema.now at }
-    ensures { result ≡ size_of (typeIn (columnRecordAt schema.now at)) }
+    ensures { result ≡ size_of (type_in (column_record_at schema.now at)) }
 {
     let size = datatype::plain_size(schema[at]);
     if size != 0 {
@@ -221,7 +221,7 @@ pub fn slot_size(schema: &[u8], at: usize) -> usize
 
 // The bytes in the offset table of a column that holds values of a kind.
 pub fn entry_size(kind: u8, is_long: bool) -> usize
-    ensures { (result ≡ cond (eqb kind 9) (offsetWidth is_long) 0) × (result ≤ 4) }
+    ensures { (result ≡ cond (eqb kind 9) (offset_width is_long) 0) × (result ≤ 4) }
 {
     if kind == value_kinds::VARCHAR {
         return row_layout::offset_width(is_long);
@@ -239,12 +239,12 @@ fn write_char(
     body: usize,
     text: &[u8],
 )
-    requires { (body + 2 * offsetWidth is_long ≤ length values.now)
+    requires { (body + 2 * offset_width is_long ≤ length values.now)
         × ((slot + n ≤ length out.old)
-        × (textSuits false n (rangeAt (offsetWidth is_long) values.now body) text.now ≡ true)) }
+        × (text_suits false n (range_at (offset_width is_long) values.now body) text.now ≡ true)) }
     ensures { out.new
         ≡ sets out.old slot
-        (blankFilled n (part text.now (rangeAt (offsetWidth is_long) values.now body))) }
+        (blank_filled n (part text.now (range_at (offset_width is_long) values.now body))) }
 {
     let range = value_list::range_at(values, is_long, body);
     let start = range.start;
@@ -255,9 +255,9 @@ fn write_char(
 // The packed form of the number at a place of the list.
 fn write_number(out: &mut [u8], slot: usize, p: usize, values: &[u8], body: usize)
     requires { (body + 17 ≤ length values.now)
-        × NumberReady p (numericAt values.now body) slot (length out.old) }
+        × NumberReady p (numeric_at values.now body) slot (length out.old) }
     ensures { out.new
-        ≡ sets out.old slot (numberStored p (numericAt values.now body)) }
+        ≡ sets out.old slot (number_stored p (numeric_at values.now body)) }
 {
     value_encode::write_number(
         out,
@@ -278,12 +278,12 @@ fn write_bits(
     body: usize,
     text: &[u8],
 )
-    requires { (body + 2 * offsetWidth is_long ≤ length values.now)
-        × ((slot + bytesFor n ≤ length out.old)
-        × (bitsSuit n (rangeAt (offsetWidth is_long) values.now body) text.now ≡ true)) }
+    requires { (body + 2 * offset_width is_long ≤ length values.now)
+        × ((slot + bytes_for n ≤ length out.old)
+        × (bits_suit n (range_at (offset_width is_long) values.now body) text.now ≡ true)) }
     ensures { out.new
         ≡ sets out.old slot
-        (bitsStored n (part text.now (rangeAt (offsetWidth is_long) values.now body))) }
+        (bits_stored n (part text.now (range_at (offset_width is_long) values.now body))) }
 {
     let range = value_list::range_at(values, is_long, body);
     let start = range.start;
@@ -302,11 +302,11 @@ pub fn write_slot(
     slot: usize,
 )
     requires { Readable schema.now at values.now from
-        × SlotReady (typeIn (columnRecordAt schema.now at)) (valueIn (valueRecordAt values.now from))
+        × SlotReady (type_in (column_record_at schema.now at)) (value_in (valueRecordAt values.now from))
         text.now slot (length out.old) }
     ensures { out.new
         ≡ sets out.old slot
-        (formIn schema.now at values.now from text.now) }
+        (form_in schema.now at values.now from text.now) }
 {
     let given = values[from];
     let kind = value::held_kind(schema[at]);
@@ -336,10 +336,10 @@ pub fn write_slot(
 
 // The code points of the text whose range stands at a place of the list.
 fn text_points(values: &[u8], is_long: bool, body: usize, text: &[u8]) -> usize
-    requires { (body + 2 * offsetWidth is_long ≤ length values.now)
-        × TextThere (rangeAt (offsetWidth is_long) values.now body) text.now }
+    requires { (body + 2 * offset_width is_long ≤ length values.now)
+        × TextThere (range_at (offset_width is_long) values.now body) text.now }
     ensures { (result
-        ≡ points (part text.now (rangeAt (offsetWidth is_long) values.now body)))
+        ≡ points (part text.now (range_at (offset_width is_long) values.now body)))
         × (result < 4294967296) }
 {
     let range = value_list::range_at(values, is_long, body);
@@ -350,12 +350,12 @@ fn text_points(values: &[u8], is_long: bool, body: usize, text: &[u8]) -> usize
 
 // With the blanks up to n bytes, each of which is one.
 fn char_points(values: &[u8], is_long: bool, body: usize, n: usize, text: &[u8]) -> usize
-    requires { (body + 2 * offsetWidth is_long ≤ length values.now)
+    requires { (body + 2 * offset_width is_long ≤ length values.now)
         × ((n ≤ 65535)
-        × (textSuits false n (rangeAt (offsetWidth is_long) values.now body) text.now ≡ true)) }
+        × (text_suits false n (range_at (offset_width is_long) values.now body) text.now ≡ true)) }
     ensures { (result
-        ≡ points (blankFilled n
-        (part text.now (rangeAt (offsetWidth is_long) values.now body))))
+        ≡ points (blank_filled n
+        (part text.now (range_at (offset_width is_long) values.now body))))
         × (result ≤ n) }
 {
     let range = value_list::range_at(values, is_long, body);
@@ -365,11 +365,11 @@ fn char_points(values: &[u8], is_long: bool, body: usize, n: usize, text: &[u8])
 // The code points of a column's text, as stored; 0 for a null and where the value is no text.
 pub fn points_at(schema: &[u8], at: usize, values: &[u8], from: usize, text: &[u8]) -> u32
     requires { Readable schema.now at values.now from
-        × (is_null (valueIn (valueRecordAt values.now from)) ≡ false
-        → Suited (typeIn (columnRecordAt schema.now at)) (valueIn (valueRecordAt values.now from))
+        × (is_null (value_in (valueRecordAt values.now from)) ≡ false
+        → Suited (type_in (column_record_at schema.now at)) (value_in (valueRecordAt values.now from))
         text.now) }
     ensures { result
-        ≡ pointsStored schema.now at values.now from text.now }
+        ≡ points_stored schema.now at values.now from text.now }
 {
     let given = values[from];
     if given == value_kinds::NULL {

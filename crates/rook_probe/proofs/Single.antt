@@ -9,38 +9,38 @@ use lib.ListN.{length, drop, length-drop}
 use lib.Seq.{length-take-le}
 use Rattle.error.specs.declared.Refusal.{Refusal}
 use Rattle.datatype.specs.declared.DataType.{DataType}
-use Rattle.datatype.specs.Types.{size_of, isVarlen}
+use Rattle.datatype.specs.Types.{size_of, is_varlen}
 use Rattle.value.specs.declared.DataValue.{DataValue}
 use Rattle.value.specs.Kinds.{matches}
 use Rattle.value.specs.Ranges.{range_of, text_of}
 use Rattle.value_list.specs.declared.ValueRecord.TheVariants.{Value}
 use Rattle.value_list.specs.declared.ListCheck.TheVariants as Check
-use Rattle.value_list.specs.Records.{recordAt, NarrowRange}
+use Rattle.value_list.specs.Records.{record_at, NarrowRange}
 use Rattle.value_list.specs.Lists.{checked}
-use Rattle.value_list.proofs.Records.{range-narrow}
-use Rattle.value_list.proofs.Sole.{sole-value, refused-list}
+use Rattle.value_list.proofs.Records.{range_narrow}
+use Rattle.value_list.proofs.Sole.{sole_value, refused-list}
 use Rattle.value_list.specs.InnerRecords.{Narrow}
 use Rattle.value_list.specs.InnerLists.{answer}
 use Rattle.stored_form.specs.declared.SlotRead.TheVariants as Slot
-use Rattle.stored_form.specs.Write.{accepted, storedForm}
+use Rattle.stored_form.specs.Write.{accepted, stored_form}
 use Rattle.stored_form.specs.Read.{read_slot}
 use Rattle.stored_form.proofs.Lengths.{length-stored, accepted-inside, accepted-suits}
 use Rattle.stored_form.proofs.Within.{slot-range}
 use Rattle.rook_probe.specs.declared.OneValue.TheVariants as One
-use Rattle.rook_probe.specs.Values.{onlyValue, formLength, fitsSlot}
+use Rattle.rook_probe.specs.Values.{only_value, form_length, fits_slot}
 
 -- ---- a list's one value
 
 module _ (area : ℕ) (s : List ℕ) where
-  pub one_value : Check.Good ≡ answer (checked false 1 area s) → (v : DataValue) (next : ℕ) → recordAt s 0 ≡ Value v next → One.Only v ≡ onlyValue (checked false 1 area s)
-  one_value g v next e = rw (sole-value false area s g v next e)
+  pub one_value_lem : Check.Good ≡ answer (checked false 1 area s) → (v : DataValue) (next : ℕ) → record_at s 0 ≡ Value v next → One.Only v ≡ only_value (checked false 1 area s)
+  one_value_lem g v next e = rw (sole_value false area s g v next e)
 
-  pub none-good : (r : Refusal) → answer (checked false 1 area s) ≡ Check.Refused r → One.Bad ≡ onlyValue (checked false 1 area s)
+  pub none-good : (r : Refusal) → answer (checked false 1 area s) ≡ Check.Refused r → One.Bad ≡ only_value (checked false 1 area s)
   none-good r e = rw (refused-list false area s (checked false 1 area s) r e)
 
 -- ---- a stored form's length
 
-pub form-length : (t : DataType) (v : DataValue) (area : List ℕ) → matches t v ≡ true → accepted t v area ≡ true → length (storedForm t v (text_of area v)) ≡ formLength t v
+pub form-length : (t : DataType) (v : DataValue) (area : List ℕ) → matches t v ≡ true → accepted t v area ≡ true → length (stored_form t v (text_of area v)) ≡ form_length t v
 form-length t v area m e =
     let h = accepted-inside t v area e in
     let text : length (text_of area v) ≡ (range_of v).length = length-take-le (range_of v).length (drop (range_of v).start area) (rw (length-drop (range_of v).start area) (omega arith)) in
@@ -48,9 +48,9 @@ form-length t v area m e =
 
 -- ---- a value that was read
 
-pub read-narrow : (start : ℕ) (bs : List ℕ) → start ≤ 65535 → length bs ≤ 65535 → (t : DataType) {v : DataValue} → read_slot t start bs ≡ Slot.Value v → Narrow false v
-read-narrow start bs h k t {v} e =
-    range-narrow false v (rw e at (slot-range (NarrowRange 2) (record { start = omega arith; size = omega arith }) start bs (record { start = omega arith; size = omega arith }) t))
+pub read_narrow : (start : ℕ) (bs : List ℕ) → start ≤ 65535 → length bs ≤ 65535 → (t : DataType) {v : DataValue} → read_slot t start bs ≡ Slot.Value v → Narrow false v
+read_narrow start bs h k t {v} e =
+    range_narrow false v (rw e at (slot-range (NarrowRange 2) (record { start = omega arith; size = omega arith }) start bs (record { start = omega arith; size = omega arith }) t))
 
-pub slot-size : (t : DataType) (n : ℕ) → fitsSlot t n ≡ true → isVarlen t ≡ false → n ≡ size_of t
+pub slot-size : (t : DataType) (n : ℕ) → fits_slot t n ≡ true → is_varlen t ≡ false → n ≡ size_of t
 slot-size t n e f = eqb-true n (size_of t) (rw f at e)

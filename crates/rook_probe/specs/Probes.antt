@@ -4,8 +4,8 @@ use Rattle.datatype.specs.declared.SchemaCheck.{SchemaCheck}
 use Rattle.datatype.specs.declared.SchemaCheck.TheVariants.{Good, Refused}
 use Rattle.rook_probe.specs.declared.LayoutProbe.{LayoutProbe}
 
-abbrev pub layoutProbe : SchemaCheck → LayoutProbe
-layoutProbe (Good l) =
+abbrev pub layout_probe : SchemaCheck → LayoutProbe
+layout_probe (Good l) =
     record {
       number = 0;
       place = 0;
@@ -14,5 +14,5 @@ layoutProbe (Good l) =
       packed = l.packed_size;
       padded = l.padded_size;
     }
-layoutProbe (Refused r) =
+layout_probe (Refused r) =
     record { number = number_of r; place = place_of r; columns = 0; varlens = 0; packed = 0; padded = 0 }

@@ -1,15 +1,15 @@
 // Inner functions, exported for the comparison with the Rust alone. This is no part of the library that is delivered.
 ghost use Rattle.std.specs.Prelude.{◌≡◌, true, false, ◌≤◌, length};
-ghost use Rattle.datatype.specs.Types.{precisionOf};
-ghost use Rattle.datatype.specs.Schema.{schemaOf};
-ghost use Rattle.datatype.specs.InnerCheck.{checkedSchema};
+ghost use Rattle.datatype.specs.Types.{precision_of};
+ghost use Rattle.datatype.specs.Schema.{schema_of};
+ghost use Rattle.datatype.specs.InnerCheck.{checked_schema};
 ghost use Rattle.value.specs.Kinds.{matches};
 ghost use Rattle.value.specs.Ranges.{text_of};
 ghost use Rattle.value_list.specs.Lists.{checked as checkedList};
-ghost use Rattle.stored_form.specs.Write.{accepted, storedForm};
+ghost use Rattle.stored_form.specs.Write.{accepted, stored_form};
 ghost use Rattle.stored_form.specs.Read.{read_slot};
-ghost use Rattle.rook_probe.specs.Probes.{layoutProbe};
-ghost use Rattle.rook_probe.specs.Values.{onlyType, Precise, onlyValue, formLength, placedForm, storedValue, storedList, storedAs, fitsSlot, placedRead, readValue, readAs};
+ghost use Rattle.rook_probe.specs.Probes.{layout_probe};
+ghost use Rattle.rook_probe.specs.Values.{only_type, Precise, only_value, form_length, placed_form, stored_value, stored_list, stored_as, fits_slot, placed_read, read_value, read_as};
 
 use datatype::{DataType, Record, SchemaCheck};
 use stored_form::SlotRead;
@@ -30,7 +30,7 @@ pub struct LayoutProbe {
 // The layout of a schema's short rows: the fixed columns' bytes, packed and padded.
 #[unsafe(no_mangle)]
 pub extern "C" fn rook_probe_layout(schema: &[u8]) -> LayoutProbe
-    ensures { result ≡ layoutProbe (checkedSchema false (schemaOf false schema.now)) }
+    ensures { result ≡ layout_probe (checked_schema false (schema_of false schema.now)) }
 {
     match datatype::check_schema(schema, false) {
         SchemaCheck::Good(layout) => LayoutProbe {
@@ -81,7 +81,7 @@ fn refused(number: u32) -> ValueProbe
 
 // The type of a schema that is exactly one record.
 fn one_type(schema: &[u8]) -> OneType
-    ensures { (result ≡ onlyType schema.now) × Precise result }
+    ensures { (result ≡ only_type schema.now) × Precise result }
 {
     if schema.len() == 0 {
         return OneType::Bad(1);
@@ -99,7 +99,7 @@ fn one_type(schema: &[u8]) -> OneType
 
 // The value of a list that is exactly one record, beside a text area of `area` bytes.
 fn one_value(list: &[u8], area: usize) -> OneValue
-    ensures { result ≡ onlyValue (checkedList false 1 area list.now) }
+    ensures { result ≡ only_value (checkedList false 1 area list.now) }
 {
     match value_list::check_values(list, false, 1, area) {
         ListCheck::Good => match value_list::value_record_at(list, 0) {
@@ -111,7 +111,7 @@ fn one_value(list: &[u8], area: usize) -> OneValue
 }
 
 fn form_length(ty: DataType, value: DataValue) -> usize
-    ensures { result ≡ formLength ty value }
+    ensures { result ≡ form_length ty value }
 {
     if ty.is_variable_length() {
         let range = value.range();
@@ -122,9 +122,9 @@ fn form_length(ty: DataType, value: DataValue) -> usize
 
 // The stored form of a value that the type holds.
 fn place_value(ty: DataType, value: DataValue, area: &[u8], out: &mut [u8]) -> ValueProbe
-    requires { (precisionOf ty ≤ 38) × ((matches ty value ≡ true) × (accepted ty value area.now ≡ true)) }
+    requires { (precision_of ty ≤ 38) × ((matches ty value ≡ true) × (accepted ty value area.now ≡ true)) }
     ensures { (result, out.new)
-        ≡ placedForm (storedForm ty value (text_of area.now value)) out.old }
+        ≡ placed_form (stored_form ty value (text_of area.now value)) out.old }
 {
     let length = form_length(ty, value);
     if out.len() < length {
@@ -135,8 +135,8 @@ fn place_value(ty: DataType, value: DataValue, area: &[u8], out: &mut [u8]) -> V
 }
 
 fn store_value(ty: DataType, value: DataValue, area: &[u8], out: &mut [u8]) -> ValueProbe
-    requires { precisionOf ty ≤ 38 }
-    ensures { (result, out.new) ≡ storedValue ty value area.now out.old }
+    requires { precision_of ty ≤ 38 }
+    ensures { (result, out.new) ≡ stored_value ty value area.now out.old }
 {
     if value::data_value_matches_type(ty, value) {
         if value_encode::suits(ty, value, area) {
@@ -148,8 +148,8 @@ fn store_value(ty: DataType, value: DataValue, area: &[u8], out: &mut [u8]) -> V
 }
 
 fn store_list(ty: DataType, list: &[u8], area: &[u8], out: &mut [u8]) -> ValueProbe
-    requires { precisionOf ty ≤ 38 }
-    ensures { (result, out.new) ≡ storedList ty list.now area.now out.old }
+    requires { precision_of ty ≤ 38 }
+    ensures { (result, out.new) ≡ stored_list ty list.now area.now out.old }
 {
     match one_value(list, area.len()) {
         OneValue::Only(v) => store_value(ty, v, area, out),
@@ -166,7 +166,7 @@ pub extern "C" fn rook_probe_store(
     out: &mut [u8],
 ) -> ValueProbe
     ensures { (result, out.new)
-        ≡ storedAs (onlyType schema.now) list.now area.now out.old }
+        ≡ stored_as (only_type schema.now) list.now area.now out.old }
 {
     match one_type(schema) {
         OneType::Only(t) => store_list(t, list, area, out),
@@ -175,7 +175,7 @@ pub extern "C" fn rook_probe_store(
 }
 
 fn fits_slot(ty: DataType, size: usize) -> bool
-    ensures { result ≡ fitsSlot ty size }
+    ensures { result ≡ fits_slot ty size }
 {
     if ty.is_variable_length() {
         return true;
@@ -185,9 +185,9 @@ fn fits_slot(ty: DataType, size: usize) -> bool
 
 // What the bytes of a slot, or of a payload, read as.
 fn place_read(ty: DataType, bytes: &[u8], start: usize, out: &mut [u8]) -> ValueProbe
-    requires { (precisionOf ty ≤ 38)
-        × ((fitsSlot ty (length bytes.now) ≡ true) × ((start ≤ 65535) × (length bytes.now ≤ 65535))) }
-    ensures { (result, out.new) ≡ placedRead (read_slot ty start bytes.now) out.old }
+    requires { (precision_of ty ≤ 38)
+        × ((fits_slot ty (length bytes.now) ≡ true) × ((start ≤ 65535) × (length bytes.now ≤ 65535))) }
+    ensures { (result, out.new) ≡ placed_read (read_slot ty start bytes.now) out.old }
 {
     if out.len() < 18 {
         return refused(14);
@@ -205,8 +205,8 @@ fn place_read(ty: DataType, bytes: &[u8], start: usize, out: &mut [u8]) -> Value
 const ROW_LIMIT: usize = 65535;
 
 fn read_value(ty: DataType, bytes: &[u8], start: usize, out: &mut [u8]) -> ValueProbe
-    requires { precisionOf ty ≤ 38 }
-    ensures { (result, out.new) ≡ readValue ty bytes.now start out.old }
+    requires { precision_of ty ≤ 38 }
+    ensures { (result, out.new) ≡ read_value ty bytes.now start out.old }
 {
     if ROW_LIMIT < start {
         return refused(4);
@@ -230,7 +230,7 @@ pub extern "C" fn rook_probe_slot(
     out: &mut [u8],
 ) -> ValueProbe
     ensures { (result, out.new)
-        ≡ readAs (onlyType schema.now) bytes.now start out.old }
+        ≡ read_as (only_type schema.now) bytes.now start out.old }
 {
     match one_type(schema) {
         OneType::Only(t) => read_value(t, bytes, start, out),

@@ -13,8 +13,8 @@ use Rattle.rook_row.specs.declared.HandleAnswer.{HandleAnswer}
 use Rattle.rook_row.specs.contracts.HandleAnswer as E
 use Rattle.rook_row.proofs.HandleAnswer.TheLaws as E'
 
-abbrev pub handleVal : RowHandle → Val
-handleVal = LL.val T.the_type T'.the_laws
+abbrev pub handle_val : RowHandle → Val
+handle_val = LL.val T.the_type T'.the_laws
 
 abbrev pub answer_val : RowAnswer → Val
 answer_val = LL.val N.the_type N'.the_laws
@@ -22,5 +22,5 @@ answer_val = LL.val N.the_type N'.the_laws
 pub answer-is : (e : HandleAnswer) (vs : List Val) → Is E.the_row e vs → Is N.the_row e.answer (answer_val e.answer ∷ [])
 answer-is e vs is = (LL.owed E.the_type E'.the_laws e vs is).0
 
-pub handle-is : (e : HandleAnswer) (vs : List Val) → Is E.the_row e vs → Is T.the_row e.handle (handleVal e.handle ∷ [])
+pub handle-is : (e : HandleAnswer) (vs : List Val) → Is E.the_row e vs → Is T.the_row e.handle (handle_val e.handle ∷ [])
 handle-is e vs is = (LL.owed E.the_type E'.the_laws e vs is).1.0

@@ -7,7 +7,7 @@ use Rattle.error.specs.declared.Flag.{Flag}
 use Rattle.error.specs.declared.Flag.TheVariants as Flag
 use Rattle.error.specs.Answer.{Outcome, Counted}
 use Rattle.error.specs.Refusal.{number_of, place_of}
-use Rattle.laws.specs.Bits.{bitValue}
+use Rattle.laws.specs.Bits.{bit_value}
 use Rattle.row_handle.specs.declared.RowHandle.{RowHandle}
 use Rattle.row_handle.specs.Handle.{Handled}
 use Rattle.rook_row.specs.declared.RowAnswer.{RowAnswer}
@@ -20,31 +20,31 @@ use Rattle.text.specs.declared.TextCheck.TheVariants as Check
 use Rattle.rook_row.specs.declared.CheckAnswer.{CheckAnswer}
 
 -- a refusal hands out n: 0, or for an edit the row length that it got, so that a caller who stores it loses nothing
-abbrev pub rowAnswer : ℕ → Answer → RowAnswer
-rowAnswer n (Done m) = record { number = 0; place = 0; length = m }
-rowAnswer n (Refused e) = record { number = number_of e; place = place_of e; length = n }
+abbrev pub row_answer : ℕ → Answer → RowAnswer
+row_answer n (Done m) = record { number = 0; place = 0; length = m }
+row_answer n (Refused e) = record { number = number_of e; place = place_of e; length = n }
 
 -- with the bytes of the lent output
-abbrev pub rowOutcome : ℕ → Outcome → RowAnswer × List ℕ
-rowOutcome n o = (rowAnswer n o.0, o.1)
+abbrev pub row_outcome : ℕ → Outcome → RowAnswer × List ℕ
+row_outcome n o = (row_answer n o.0, o.1)
 
 -- and the numbers of the lent list
-abbrev pub countedOutcome : ℕ → Counted → RowAnswer × (List ℕ × List ℕ)
-countedOutcome n o = (rowAnswer n o.0, o.1)
+abbrev pub counted_outcome : ℕ → Counted → RowAnswer × (List ℕ × List ℕ)
+counted_outcome n o = (row_answer n o.0, o.1)
 
-abbrev pub flagAnswer : Flag → FlagAnswer
-flagAnswer (Flag.Is b) = record { number = 0; place = 0; flag = bitValue b }
-flagAnswer (Flag.Refused e) = record { number = number_of e; place = place_of e; flag = 0 }
+abbrev pub flag_answer : Flag → FlagAnswer
+flag_answer (Flag.Is b) = record { number = 0; place = 0; flag = bit_value b }
+flag_answer (Flag.Refused e) = record { number = number_of e; place = place_of e; flag = 0 }
 
-abbrev pub textAnswer : ColumnText → TextAnswer
-textAnswer (Text.Part x) = record { number = 0; place = 0; start = x.start; length = x.length }
-textAnswer (Text.Refused e) = record { number = number_of e; place = place_of e; start = 0; length = 0 }
+abbrev pub text_answer : ColumnText → TextAnswer
+text_answer (Text.Part x) = record { number = 0; place = 0; start = x.start; length = x.length }
+text_answer (Text.Refused e) = record { number = number_of e; place = place_of e; start = 0; length = 0 }
 
 -- 1 with the number of code points, or 0 and 0
-abbrev pub checkAnswer : TextCheck → CheckAnswer
-checkAnswer (Check.Valid n) = record { valid = 1; points = n }
-checkAnswer Check.Invalid = record { valid = 0; points = 0 }
+abbrev pub check_answer : TextCheck → CheckAnswer
+check_answer (Check.Valid n) = record { valid = 1; points = n }
+check_answer Check.Invalid = record { valid = 0; points = 0 }
 
 -- a call through a handle: with the bytes of the buffer and the handle after it
-abbrev pub handleOutcome : ℕ → Handled → RowAnswer × (List ℕ × RowHandle)
-handleOutcome n o = (rowAnswer n o.0, o.1)
+abbrev pub handle_outcome : ℕ → Handled → RowAnswer × (List ℕ × RowHandle)
+handle_outcome n o = (row_answer n o.0, o.1)

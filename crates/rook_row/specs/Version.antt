@@ -2,8 +2,8 @@
 -- within it no call changes its form, in another one it may; an added call or kind raises the patch.
 use Rattle.std.specs.Prelude.{ℕ, ◌+◌, ◌*◌}
 
-abbrev pub versionNumber : ℕ → ℕ → ℕ → ℕ
-versionNumber major minor patch = 65536 * major + 256 * minor + patch
+abbrev pub version_number : ℕ → ℕ → ℕ → ℕ
+version_number major minor patch = 65536 * major + 256 * minor + patch
 
 abbrev pub version : ℕ
-version = versionNumber 0 4 0
+version = version_number 0 4 0

@@ -2,17 +2,17 @@
 // An enum does not cross that border, so an answer is a struct of numbers: document 01's number and place, and what
 // the call hands out.
 ghost use Rattle.std.specs.Prelude.{◌≡◌};
-ghost use Rattle.null_bitmap.specs.Bitmap.{nullFlag};
-ghost use Rattle.occupation_list.specs.Print.{printCall};
-ghost use Rattle.row_build.specs.Build.{freshCall, buildCall};
-ghost use Rattle.row_decode.specs.Read.{readCall};
-ghost use Rattle.row_edit.specs.Edit.{setCall, setNullCall};
-ghost use Rattle.row_handle.specs.Handle.{handleSet, handleSetNull};
-ghost use Rattle.row_same.specs.Rows.{sameCall};
-ghost use Rattle.row_text.specs.Text.{textCall};
-ghost use Rattle.text.specs.Rfc3629.{codePoints};
-ghost use Rattle.text.specs.Check.{checkOf};
-ghost use Rattle.rook_row.specs.Answers.{rowAnswer, rowOutcome, countedOutcome, handleOutcome, flagAnswer, textAnswer, checkAnswer};
+ghost use Rattle.null_bitmap.specs.Bitmap.{null_flag};
+ghost use Rattle.occupation_list.specs.Print.{print_call};
+ghost use Rattle.row_build.specs.Build.{fresh_call, build_call};
+ghost use Rattle.row_decode.specs.Read.{read_call};
+ghost use Rattle.row_edit.specs.Edit.{set_call, set_null_call};
+ghost use Rattle.row_handle.specs.Handle.{handle_set, handle_set_null};
+ghost use Rattle.row_same.specs.Rows.{same_call};
+ghost use Rattle.row_text.specs.Text.{text_call};
+ghost use Rattle.text.specs.Rfc3629.{code_points};
+ghost use Rattle.text.specs.Check.{check_of};
+ghost use Rattle.rook_row.specs.Answers.{row_answer, row_outcome, counted_outcome, handle_outcome, flag_answer, text_answer, check_answer};
 ghost use Rattle.rook_row.specs.Version.{version};
 
 use error::{Answer, Flag};
@@ -54,7 +54,7 @@ pub struct CheckAnswer {
 
 // A refusal hands out `otherwise`.
 fn row_answer(answer: Answer, otherwise: usize) -> RowAnswer
-    ensures { result ≡ rowAnswer otherwise answer }
+    ensures { result ≡ row_answer otherwise answer }
 {
     match answer {
         Answer::Done(n) => RowAnswer {
@@ -71,7 +71,7 @@ fn row_answer(answer: Answer, otherwise: usize) -> RowAnswer
 }
 
 fn flag_answer(answer: Flag) -> FlagAnswer
-    ensures { result ≡ flagAnswer answer }
+    ensures { result ≡ flag_answer answer }
 {
     match answer {
         Flag::Is(b) => FlagAnswer {
@@ -91,7 +91,7 @@ fn flag_answer(answer: Flag) -> FlagAnswer
 #[unsafe(no_mangle)]
 pub extern "C" fn rook_row_fresh(schema: &[u8], is_long: bool, out: &mut [u8]) -> RowAnswer
     ensures { (result, out.new)
-        ≡ rowOutcome 0 (freshCall is_long schema.now out.old) }
+        ≡ row_outcome 0 (fresh_call is_long schema.now out.old) }
 {
     row_answer(row_build::fresh(schema, is_long, out), 0)
 }
@@ -108,8 +108,8 @@ pub extern "C" fn rook_row_build(
     counts: &mut [u32],
 ) -> RowAnswer
     ensures { (result, (out.new, counts.new))
-        ≡ countedOutcome 0
-        (buildCall is_long schema.now values.now text.now
+        ≡ counted_outcome 0
+        (build_call is_long schema.now values.now text.now
         out.old counts.old) }
 {
     row_answer(
@@ -129,8 +129,8 @@ pub extern "C" fn rook_row_read(
     counts: &mut [u32],
 ) -> RowAnswer
     ensures { (result, (out.new, counts.new))
-        ≡ countedOutcome 0
-        (readCall schema.now row.now wanted.now
+        ≡ counted_outcome 0
+        (read_call schema.now row.now wanted.now
         out.old counts.old) }
 {
     row_answer(row_decode::decode(schema, row, wanted, out, counts), 0)
@@ -148,8 +148,8 @@ pub extern "C" fn rook_row_set(
     text: &[u8],
 ) -> RowAnswer
     ensures { (result, buf.new)
-        ≡ rowOutcome row_length
-        (setCall schema.now buf.old row_length column
+        ≡ row_outcome row_length
+        (set_call schema.now buf.old row_length column
         values.now text.now) }
 {
     row_answer(
@@ -167,8 +167,8 @@ pub extern "C" fn rook_row_set_null(
     column: usize,
 ) -> RowAnswer
     ensures { (result, buf.new)
-        ≡ rowOutcome row_length
-        (setNullCall schema.now buf.old row_length column) }
+        ≡ row_outcome row_length
+        (set_null_call schema.now buf.old row_length column) }
 {
     row_answer(
         row_edit::set_null(schema, buf, row_length, column),
@@ -192,8 +192,8 @@ fn handle_value(
     text: &[u8],
 ) -> HandleAnswer
     ensures { (result.answer, (buf.new, result.handle))
-        ≡ handleOutcome handle.length
-        (handleSet schema.now buf.old handle column
+        ≡ handle_outcome handle.length
+        (handle_set schema.now buf.old handle column
         values.now text.now) }
 {
     let edited = row_handle::with_value(schema, buf, handle, column, values, text);
@@ -207,8 +207,8 @@ fn handle_value(
 
 fn handle_null(schema: &[u8], buf: &mut [u8], handle: RowHandle, column: usize) -> HandleAnswer
     ensures { (result.answer, (buf.new, result.handle))
-        ≡ handleOutcome handle.length
-        (handleSetNull schema.now buf.old handle column) }
+        ≡ handle_outcome handle.length
+        (handle_set_null schema.now buf.old handle column) }
 {
     let edited = row_handle::with_null(schema, buf, handle, column);
     let answer = edited.answer;
@@ -231,8 +231,8 @@ pub extern "C" fn rook_row_handle_set(
     text: &[u8],
 ) -> RowAnswer
     ensures { (result, (buf.new, handle.new))
-        ≡ handleOutcome handle.old.length
-        (handleSet schema.now buf.old handle.old
+        ≡ handle_outcome handle.old.length
+        (handle_set schema.now buf.old handle.old
         column values.now text.now) }
 {
     let before = *handle;
@@ -250,8 +250,8 @@ pub extern "C" fn rook_row_handle_set_null(
     column: usize,
 ) -> RowAnswer
     ensures { (result, (buf.new, handle.new))
-        ≡ handleOutcome handle.old.length
-        (handleSetNull schema.now buf.old handle.old
+        ≡ handle_outcome handle.old.length
+        (handle_set_null schema.now buf.old handle.old
         column) }
 {
     let before = *handle;
@@ -263,7 +263,7 @@ pub extern "C" fn rook_row_handle_set_null(
 // The text of a column: where it stands in the row. A null has number 0 and an empty range at 0.
 #[unsafe(no_mangle)]
 pub extern "C" fn rook_row_text(schema: &[u8], row: &[u8], column: usize) -> TextAnswer
-    ensures { result ≡ textAnswer (textCall schema.now row.now column) }
+    ensures { result ≡ text_answer (text_call schema.now row.now column) }
 {
     match row_text::column_text(schema, row, column) {
         ColumnText::Part(part) => TextAnswer {
@@ -285,7 +285,7 @@ pub extern "C" fn rook_row_text(schema: &[u8], row: &[u8], column: usize) -> Tex
 #[unsafe(no_mangle)]
 pub extern "C" fn rook_row_same_content(schema: &[u8], a: &[u8], b: &[u8]) -> FlagAnswer
     ensures { result
-        ≡ flagAnswer (sameCall schema.now a.now b.now) }
+        ≡ flag_answer (same_call schema.now a.now b.now) }
 {
     flag_answer(row_same::same_content(schema, a, b))
 }
@@ -293,7 +293,7 @@ pub extern "C" fn rook_row_same_content(schema: &[u8], a: &[u8], b: &[u8]) -> Fl
 // Whether a column of a row is null: 1 or 0 in `flag`.
 #[unsafe(no_mangle)]
 pub extern "C" fn rook_row_is_null(row: &[u8], column: usize) -> FlagAnswer
-    ensures { result ≡ flagAnswer (nullFlag row.now column) }
+    ensures { result ≡ flag_answer (null_flag row.now column) }
 {
     flag_answer(null_bitmap::is_column_null_in_row(row, column))
 }
@@ -301,7 +301,7 @@ pub extern "C" fn rook_row_is_null(row: &[u8], column: usize) -> FlagAnswer
 // Whether bytes are text, 1 or 0, and how many code points it has.
 #[unsafe(no_mangle)]
 pub extern "C" fn rook_text_check(s: &[u8]) -> CheckAnswer
-    ensures { result ≡ checkAnswer (checkOf (codePoints s.now)) }
+    ensures { result ≡ check_answer (check_of (code_points s.now)) }
 {
     match text::check(s) {
         TextCheck::Valid(points) => CheckAnswer { valid: 1, points },
@@ -315,7 +315,7 @@ pub extern "C" fn rook_text_check(s: &[u8]) -> CheckAnswer
 // The lines of a list of platform occupations at the front of `out`; `length` is their length.
 #[unsafe(no_mangle)]
 pub extern "C" fn rook_occupations_print(list: &[u8], out: &mut [u8]) -> RowAnswer
-    ensures { (result, out.new) ≡ rowOutcome 0 (printCall list.now out.old) }
+    ensures { (result, out.new) ≡ row_outcome 0 (print_call list.now out.old) }
 {
     row_answer(occupation_list::print(list, out), 0)
 }

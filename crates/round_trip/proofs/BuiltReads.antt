@@ -7,18 +7,18 @@ use native.Mathlib.Nat.{add-zero}
 use native.Mathlib.Omega.{arith}
 use lib.ListN.{length, get_or}
 use Rattle.error.specs.Result.{refused}
-use Rattle.row_format.specs.Places.{offsetWidth}
+use Rattle.row_format.specs.Places.{offset_width}
 use Rattle.datatype.specs.declared.DataType.{DataType}
 use Rattle.value.specs.declared.DataValue.{DataValue}
 use Rattle.value.specs.declared.DataValue.TheVariants.{Null}
 use Rattle.value.specs.Ranges.{text_of}
 use Rattle.value_list.specs.InnerLists.{AllSized}
 use Rattle.row_column.specs.declared.Frame.{Frame}
-use Rattle.row_column.specs.Frame.{onFrame}
-use Rattle.row_decode.specs.Read.{readFrom}
+use Rattle.row_column.specs.Frame.{on_frame}
+use Rattle.row_decode.specs.Read.{read_from}
 use Rattle.row_same.proofs.Read.{ReadsAs}
 use Rattle.row_build.specs.Built.{Built}
-use Rattle.round_trip.specs.ReadBack.{valueBack, valuesBack, row, givenBack}
+use Rattle.round_trip.specs.ReadBack.{value_back, values_back, row, given_back}
 use Rattle.round_trip.proofs.Sorts.{built-sort}
 use Rattle.round_trip.proofs.ReadBack.{taken, frame_back, columns-back}
 
@@ -28,44 +28,44 @@ abbrev wanted : ℕ → Bool
 wanted j = true
 
 module _ (w : ℕ) (ts : List DataType) (area r : List ℕ) where
-  many-back : (i : ℕ) (vs : List DataValue) → length (valuesBack w ts wanted area r i vs) ≡ length vs
+  many-back : (i : ℕ) (vs : List DataValue) → length (values_back w ts wanted area r i vs) ≡ length vs
   many-back i [] = refl
   many-back i (v ∷ vs) = ap suc (many-back (suc i) vs)
 
   back_at : (i : ℕ) (vs : List DataValue) (k : ℕ) → k < length vs
-      → get_or (valuesBack w ts wanted area r i vs) k Null
-      ≡ valueBack w ts (i + k) (get_or vs k Null) (text_of area (get_or vs k Null)) r
+      → get_or (values_back w ts wanted area r i vs) k Null
+      ≡ value_back w ts (i + k) (get_or vs k Null) (text_of area (get_or vs k Null)) r
   back_at i [] k h = absurd (omega arith)
-  back_at i (v ∷ vs) zero h = ap (λ (j : ℕ). valueBack w ts j v (text_of area v) r) (sym (add-zero i))
+  back_at i (v ∷ vs) zero h = ap (λ (j : ℕ). value_back w ts j v (text_of area v) r) (sym (add-zero i))
   back_at i (v ∷ vs) (suc k) h =
       let next : suc i + k ≡ i + suc k = omega arith in
       back_at (suc i) vs k (omega arith)
-      ∙ ap (λ (j : ℕ). valueBack w ts j (get_or vs k Null) (text_of area (get_or vs k Null)) r) next
+      ∙ ap (λ (j : ℕ). value_back w ts j (get_or vs k Null) (text_of area (get_or vs k Null)) r) next
 
 -- ---- a build that answered Done
 
 module _ {sort : Bool} {schema list area out : List ℕ} {n : ℕ} {after : List ℕ}
     (b : Built sort schema list area out n after) where
-  abbrev pub allBack : List DataValue
-  allBack = valuesBack (offsetWidth sort) b.columns wanted area (row b) 0 b.given
+  abbrev pub all_back : List DataValue
+  all_back = values_back (offset_width sort) b.columns wanted area (row b) 0 b.given
 
-  pub all-many : length allBack ≡ length b.columns
-  all-many = many-back (offsetWidth sort) b.columns area (row b) 0 b.given ∙ (taken b).count
+  pub all-many : length all_back ≡ length b.columns
+  all-many = many-back (offset_width sort) b.columns area (row b) 0 b.given ∙ (taken b).count
 
-  pub all-at : (i : ℕ) → i < length b.columns → get_or allBack i Null ≡ givenBack b i
+  pub all-at : (i : ℕ) → i < length b.columns → get_or all_back i Null ≡ given_back b i
   all-at i h =
       let first : 0 + i ≡ i = omega arith in
-      back_at (offsetWidth sort) b.columns area (row b) 0 b.given i (rw (taken b).count h)
-      ∙ ap (λ (j : ℕ). valueBack (offsetWidth sort) b.columns j (get_or b.given i Null) (text_of area (get_or b.given i Null)) (row b)) first
+      back_at (offset_width sort) b.columns area (row b) 0 b.given i (rw (taken b).count h)
+      ∙ ap (λ (j : ℕ). value_back (offset_width sort) b.columns j (get_or b.given i Null) (text_of area (get_or b.given i Null)) (row b)) first
 
-  pub built-reads : AllSized b.given → ReadsAs schema (row b) b.columns allBack
+  pub built-reads : AllSized b.given → ReadsAs schema (row b) b.columns all_back
   built-reads sized =
       record {
         sort = sort;
         marked = built-sort b;
         schema-good = b.schema-good;
         all_read =
-            ap (λ (f : Frame). onFrame f refused (λ p. readFrom (offsetWidth sort) p b.columns wanted (row b) 0 (length b.columns)))
+            ap (λ (f : Frame). on_frame f refused (λ p. read_from (offset_width sort) p b.columns wanted (row b) 0 (length b.columns)))
             (frame_back b)
             ∙ columns-back b sized wanted;
       }

@@ -4,24 +4,24 @@ use mathlib.Core.Path.{◌≡◌, refl, ap, ◌∙◌}
 use mathlib.Core.Bool.{true, false≢true, Bool}
 use mathlib.Core.List.{List}
 use lib.ListN.{length}
-use Rattle.row_format.specs.Places.{offsetWidth}
+use Rattle.row_format.specs.Places.{offset_width}
 use Rattle.row_format.specs.Table.{Cell}
 use Rattle.datatype.specs.Check.{type_at}
 use Rattle.value.specs.declared.DataValue.{DataValue}
 use Rattle.value.specs.declared.DataValue.TheVariants as D
-use Rattle.value.specs.Kinds.{holdsText}
+use Rattle.value.specs.Kinds.{holds_text}
 use Rattle.value.specs.Ranges.{text_of, range_of}
 use Rattle.stored_form.proofs.Points.{has-text}
 use Rattle.row_column.specs.declared.Frame.{Frame}
-use Rattle.row_column.specs.Frame.{onFrame}
-use Rattle.row_column.specs.Column.{columnValue}
+use Rattle.row_column.specs.Frame.{on_frame}
+use Rattle.row_column.specs.Column.{column_value}
 use Rattle.row_text.specs.declared.ColumnText.TheVariants.{Part, Refused}
-use Rattle.row_text.specs.Text.{textRead, textInRow, textCall, textPart}
+use Rattle.row_text.specs.Text.{text_read, text_in_row, text_call, text_part}
 use Rattle.record_slot.specs.Stored.{is_null}
 use Rattle.row_build.specs.Built.{Built}
 use Rattle.record_slot.proofs.Tests.{CellIs, null, stored}
-use Rattle.row_build.proofs.Cells.{cell-at}
-use Rattle.round_trip.specs.ReadBack.{row, givenValue, givenBack, givenForm, ReadsBack}
+use Rattle.row_build.proofs.Cells.{cell_at_lem}
+use Rattle.round_trip.specs.ReadBack.{row, given_value, given_back, given_form, ReadsBack}
 use Rattle.round_trip.specs.Text.{TextBack, BuiltTextBack}
 use Rattle.round_trip.proofs.Sorts.{built-sort}
 use Rattle.round_trip.proofs.ReadBack.{taken, read-built}
@@ -46,27 +46,27 @@ null_is (D.Timestamp z) e = absurd (false≢true e)
 
 module _ {sort : Bool} {schema list area out : List ℕ} {n : ℕ} {after : List ℕ}
     (b : Built sort schema list area out n after) (q : ReadsBack b)
-    (i : ℕ) (h : i < length b.columns) (t : holdsText (type_at b.columns i) ≡ true) where
+    (i : ℕ) (h : i < length b.columns) (t : holds_text (type_at b.columns i) ≡ true) where
   abbrev v : DataValue
-  v = givenValue b i
+  v = given_value b i
 
-  answer-is : textCall schema (row b) i ≡ Part (range_of (givenBack b i))
+  answer-is : text_call schema (row b) i ≡ Part (range_of (given_back b i))
   answer-is =
       text_in-row schema (row b) i b.columns (rw (built-sort b) b.schema-good) h t
-      ∙ ap (λ (k : Bool). textInRow k b.columns (row b) i) (built-sort b)
-      ∙ ap (λ (f : Frame). onFrame f Refused (λ p. textRead (columnValue (offsetWidth sort) p b.columns i (row b)))) q.frame
-      ∙ ap textRead (q.column i h)
+      ∙ ap (λ (k : Bool). text_in_row k b.columns (row b) i) (built-sort b)
+      ∙ ap (λ (f : Frame). on_frame f Refused (λ p. text_read (column_value (offset_width sort) p b.columns i (row b)))) q.frame
+      ∙ ap text_read (q.column i h)
 
-  of-cell : (c : Cell) → CellIs (type_at b.columns i) v area c → text_of (row b) (givenBack b i) ≡ givenForm b i
-  of-cell c (null z) = rw (null_is v z)
-  of-cell c (stored z m a) = q.text i h (has-text (type_at b.columns i) v m t)
+  of_cell : (c : Cell) → CellIs (type_at b.columns i) v area c → text_of (row b) (given_back b i) ≡ given_form b i
+  of_cell c (null z) = rw (null_is v z)
+  of_cell c (stored z m a) = q.text i h (has-text (type_at b.columns i) v m t)
 
   text-back : TextBack b i
   text-back =
       record {
         answer = answer-is;
-        text = ap (textPart (row b)) answer-is
-            ∙ of-cell _ (cell-at area b.columns b.given b.cells-good (taken b).count i h);
+        text = ap (text_part (row b)) answer-is
+            ∙ of_cell _ (cell_at_lem area b.columns b.given b.cells-good (taken b).count i h);
       }
 
 pub built-text : {sort : Bool} {schema list area out : List ℕ} {n : ℕ} {after : List ℕ}

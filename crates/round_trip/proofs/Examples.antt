@@ -7,15 +7,15 @@ use lib.ListN.{length, replicate}
 use native.Mathlib.Omega.{arith}
 use Rattle.error.specs.Result.{ok}
 use Rattle.laws.proofs.Bytes.{Below, AllBytes}
-use Rattle.row_format.specs.Table.{lay, rangeEnd}
-use Rattle.row_format.specs.Header.{isLong}
-use Rattle.row_format.specs.Row.{header, rowWith}
+use Rattle.row_format.specs.Table.{lay, range_end}
+use Rattle.row_format.specs.Header.{is_long}
+use Rattle.row_format.specs.Row.{header, row_with}
 use Rattle.datatype.specs.declared.DataType.{DataType}
 use Rattle.datatype.specs.declared.DataType.TheVariants as T
-use Rattle.datatype.specs.Schema.{schemaOf}
+use Rattle.datatype.specs.Schema.{schema_of}
 use Rattle.value_list.specs.Lists.{values_of}
 use Rattle.text.specs.Rfc3629.{octets}
-use Rattle.row_decode.specs.Read.{isWanted}
+use Rattle.row_decode.specs.Read.{is_wanted}
 use Rattle.row_build.specs.Built.{Built}
 use Rattle.row_build.proofs.Built.{built}
 use Rattle.round_trip.specs.Same.{FullRead}
@@ -30,46 +30,46 @@ written-bytes (x ∷ bs) b zero = record { fits = b.0 }
 written-bytes (x ∷ bs) b (suc k) = written-bytes bs b.1 k
 
 -- the columns of S, whose Varchar counts code points or bytes
-columnsS : Bool → List DataType
-columnsS points = T.Int ∷ T.Varchar points 5 ∷ T.SmallInt ∷ []
+columns_s : Bool → List DataType
+columns_s points = T.Int ∷ T.Varchar points 5 ∷ T.SmallInt ∷ []
 
 -- the builds, which answer Done
 short-built : Built false (S 11) values text (lent 15) 15 short2
-unfolding schemaOf values_of rowWith lay header octets
+unfolding schema_of values_of row_with lay header octets
 short-built =
     (built false (S 11) values text (lent 15) (replicate 3 7) 15 short2 (0 ∷ 2 ∷ 0 ∷ []) refl).built
 
 long-built : Built true (S 11) values text (lent 17) 17 long2
-unfolding schemaOf values_of rowWith lay header octets
+unfolding schema_of values_of row_with lay header octets
 long-built =
     (built true (S 11) values text (lent 17) (replicate 3 7) 17 long2 (0 ∷ 2 ∷ 0 ∷ []) refl).built
 
 characters-built : Built false (S 16) values text (lent 15) 15 short2
-unfolding schemaOf values_of rowWith lay header octets
+unfolding schema_of values_of row_with lay header octets
 characters-built =
     (built false (S 16) values text (lent 15) (replicate 3 7) 15 short2 (0 ∷ 2 ∷ 0 ∷ []) refl).built
 
 columns-alike : AllAlike short-built.columns characters-built.columns
-unfolding schemaOf columnsS
+unfolding schema_of columns_s
 columns-alike =
     subst (λ (ts : List DataType). AllAlike ts characters-built.columns)
     (same-columns false false (S 11) refl short-built.schema-good)
-    (subst (AllAlike (columnsS false)) (same-columns false false (S 16) refl characters-built.schema-good)
+    (subst (AllAlike (columns_s false)) (same-columns false false (S 16) refl characters-built.schema-good)
     (more (same T.Int) (more (varchars false true 5 5) (more (same T.SmallInt) none))))
 
 -- all columns of S are wanted
 abbrev all : List ℕ
 all = 0 ∷ 1 ∷ 2 ∷ []
 
-three-wanted : (i : ℕ) → i < 3 → isWanted all i ≡ true
+three-wanted : (i : ℕ) → i < 3 → is_wanted all i ≡ true
 three-wanted zero h = refl
 three-wanted (suc zero) h = refl
 three-wanted (suc (suc zero)) h = refl
 three-wanted (suc (suc (suc i))) h = absurd (omega arith)
 
-all_wanted : (sort : Bool) (ts : List DataType) → schemaOf sort (S 11) ≡ ok ts
-    → (i : ℕ) → i < length ts → isWanted all i ≡ true
-unfolding schemaOf
+all_wanted : (sort : Bool) (ts : List DataType) → schema_of sort (S 11) ≡ ok ts
+    → (i : ℕ) → i < length ts → is_wanted all i ≡ true
+unfolding schema_of
 all_wanted sort ts good i h =
     three-wanted i
     (subst (λ (us : List DataType). i < length us) (same-columns sort false (S 11) good refl) h)
@@ -77,9 +77,9 @@ all_wanted sort ts good i h =
 abbrev short-list : List ℕ
 short-list = 2 ∷ 1 ∷ 0 ∷ 0 ∷ 0 ∷ 9 ∷ 0x0D ∷ 0 ∷ 2 ∷ 0 ∷ 0 ∷ []
 
-abbrev short-full : FullRead (S 11) short2
-unfolding schemaOf isLong rangeEnd octets
-short-full =
+abbrev short_full : FullRead (S 11) short2
+unfolding schema_of is_long range_end octets
+short_full =
     record {
       wanted = all;
       all = all_wanted false;
@@ -91,9 +91,9 @@ short-full =
       done = refl;
     }
 
-abbrev long-full : FullRead (S 11) long2
-unfolding schemaOf isLong rangeEnd octets
-long-full =
+abbrev long_full : FullRead (S 11) long2
+unfolding schema_of is_long range_end octets
+long_full =
     record {
       wanted = all;
       all = all_wanted true;
@@ -106,7 +106,7 @@ long-full =
     }
 
 pub examples : Examples
-unfolding schemaOf values_of rowWith lay header isLong rangeEnd octets
+unfolding schema_of values_of row_with lay header is_long range_end octets
 examples =
     record {
       short = short-built;
@@ -114,8 +114,8 @@ examples =
       long = long-built;
       characters = characters-built;
       alike = columns-alike;
-      short-read = short-full;
-      long-read = long-full;
+      short-read = short_full;
+      long-read = long_full;
       row-bytes = written-bytes short2 (omega arith);
       rebuilt = refl;
       part = refl;

@@ -4,23 +4,23 @@ use mathlib.Core.Path.{◌≡◌, refl, sym, ap, ◌∙◌}
 use mathlib.Core.Bool.{Bool, false≢true}
 use mathlib.Core.List.{List, [], ◌∷◌, map}
 use mathlib.Core.Option.{some}
-use Rattle.row_format.specs.Places.{offsetWidth}
+use Rattle.row_format.specs.Places.{offset_width}
 use Rattle.error.specs.Result.{ok}
 use Rattle.row_format.specs.declared.Shape.{Shape}
 use Rattle.row_format.specs.Table.{Cell}
-use Rattle.row_format.specs.Row.{builtRow, packedMarks}
+use Rattle.row_format.specs.Row.{built_row, packed_marks}
 use Rattle.datatype.specs.declared.DataType.{DataType}
 use Rattle.datatype.specs.declared.DataType.TheVariants.{Varchar}
 use Rattle.datatype.specs.Types.{shape_of}
 use Rattle.value.specs.declared.DataValue.{DataValue}
 use Rattle.value.specs.Ranges.{text_of}
-use Rattle.stored_form.specs.Write.{storedForm}
+use Rattle.stored_form.specs.Write.{stored_form}
 use Rattle.stored_form.proofs.Matched.{Matched, varchar, matched}
-use Rattle.record_slot.specs.Stored.{cellIn}
-use Rattle.record_slot.proofs.Tests.{CellIs, null, stored, cell-is}
-use Rattle.row_build.specs.Cells.{cellsFrom}
+use Rattle.record_slot.specs.Stored.{cell_in}
+use Rattle.record_slot.proofs.Tests.{CellIs, null, stored, cell_is}
+use Rattle.row_build.specs.Cells.{cells_from}
 use Rattle.row_build.specs.Built.{Built}
-use Rattle.row_build.specs.InnerSteps.{valuesGiven, cellsGiven}
+use Rattle.row_build.specs.InnerSteps.{values_given, cells_given}
 use Rattle.row_build.proofs.Cells.{first_cell}
 use Rattle.round_trip.proofs.ReadBack.{taken}
 use Rattle.round_trip.specs.Layouts.{Alike, same, varchars, AllAlike, none as no-columns, more, OneLayout}
@@ -29,16 +29,16 @@ shape_same : {t u : DataType} → Alike t u → shape_of t ≡ shape_of u
 shape_same (same t) = refl
 shape_same (varchars p q m n) = refl
 
-shapes-same : {ts us : List DataType} → AllAlike ts us → map shape_of ts ≡ map shape_of us
-shapes-same no-columns = refl
-shapes-same (more {t} {u} {ts} {us} a rest) = ap (λ (s : Shape). s ∷ map shape_of ts) (shape_same a) ∙ ap (λ (ss : List Shape). shape_of u ∷ ss) (shapes-same rest)
+shapes_same : {ts us : List DataType} → AllAlike ts us → map shape_of ts ≡ map shape_of us
+shapes_same no-columns = refl
+shapes_same (more {t} {u} {ts} {us} a rest) = ap (λ (s : Shape). s ∷ map shape_of ts) (shape_same a) ∙ ap (λ (ss : List Shape). shape_of u ∷ ss) (shapes_same rest)
 
 -- ---- the cells
 
-form-varchar : (p q : Bool) (m n : ℕ) (v : DataValue) (x : List ℕ) → Matched (Varchar p m) v → storedForm (Varchar p m) v x ≡ storedForm (Varchar q n) v x
+form-varchar : (p q : Bool) (m n : ℕ) (v : DataValue) (x : List ℕ) → Matched (Varchar p m) v → stored_form (Varchar p m) v x ≡ stored_form (Varchar q n) v x
 form-varchar p q m n v x (varchar o l r) = refl
 
-form-same : {t u : DataType} → Alike t u → (v : DataValue) (x : List ℕ) → Matched t v → storedForm t v x ≡ storedForm u v x
+form-same : {t u : DataType} → Alike t u → (v : DataValue) (x : List ℕ) → Matched t v → stored_form t v x ≡ stored_form u v x
 form-same (same t) v x k = refl
 form-same (varchars p q m n) v x k = form-varchar p q m n v x k
 
@@ -50,13 +50,13 @@ module _ (area : List ℕ) where
   cell_same {t} a v (stored e m s) (stored f k l) = ap some (form-same a v (text_of area v) (matched t v m))
 
   cells_same : (i : ℕ) {ts us : List DataType} → AllAlike ts us → (vs : List DataValue) {cs ds : List Cell}
-      → cellsFrom i ts vs area ≡ ok cs → cellsFrom i us vs area ≡ ok ds → cs ≡ ds
-  cells_same i no-columns vs e f = ap cellsGiven (sym e ∙ f)
-  cells_same i (more a rest) [] e f = ap cellsGiven (sym e ∙ f)
+      → cells_from i ts vs area ≡ ok cs → cells_from i us vs area ≡ ok ds → cs ≡ ds
+  cells_same i no-columns vs e f = ap cells_given (sym e ∙ f)
+  cells_same i (more a rest) [] e f = ap cells_given (sym e ∙ f)
   cells_same i (more {t} {u} {ts} {us} a rest) (v ∷ vs) e f =
-      let x = first_cell (cellIn i t v area) (cellsFrom (i + 1) ts vs area) e in
-      let y = first_cell (cellIn i u v area) (cellsFrom (i + 1) us vs area) f in
-      let c = cell_same a v (cell-is i t v area x.cell-good) (cell-is i u v area y.cell-good) in
+      let x = first_cell (cell_in i t v area) (cells_from (i + 1) ts vs area) e in
+      let y = first_cell (cell_in i u v area) (cells_from (i + 1) us vs area) f in
+      let c = cell_same a v (cell_is i t v area x.cell_good) (cell_is i u v area y.cell_good) in
       let d = cells_same (i + 1) rest vs x.others-good y.others-good in
       x.all ∙ ap (λ (z : Cell). z ∷ x.others) c ∙ ap (λ (zs : List Cell). y.cell ∷ zs) d ∙ sym y.all
 
@@ -65,11 +65,11 @@ module _ (area : List ℕ) where
 -- of whatever schemas and sorts, the values are those of the list
 pub same-values : {sort sort' : Bool} {schema list area out : List ℕ} {n : ℕ} {after : List ℕ} (b : Built sort schema list area out n after)
     {schema' out' : List ℕ} {n' : ℕ} {after' : List ℕ} (b' : Built sort' schema' list area out' n' after') → b.given ≡ b'.given
-same-values b b' = ap valuesGiven (sym (taken b).all ∙ (taken b').all)
+same-values b b' = ap values_given (sym (taken b).all ∙ (taken b').all)
 
 module _ {sort : Bool} {schema list area out : List ℕ} {n : ℕ} {after : List ℕ} (b : Built sort schema list area out n after)
     {schema' out' : List ℕ} {n' : ℕ} {after' : List ℕ} (b' : Built sort schema' list area out' n' after') where
   pub one-layout : OneLayout b b'
   one-layout a =
-      let cells = cells_same area 0 a b.given b.cells-good (ap (λ (vs : List DataValue). cellsFrom 0 b'.columns vs area) (same-values b b') ∙ b'.cells-good) in
-      b.row ∙ ap (λ (ss : List Shape). builtRow (offsetWidth sort) (packedMarks sort) ss b.cells) (shapes-same a) ∙ ap (builtRow (offsetWidth sort) (packedMarks sort) (map shape_of b'.columns)) cells ∙ sym b'.row
+      let cells = cells_same area 0 a b.given b.cells-good (ap (λ (vs : List DataValue). cells_from 0 b'.columns vs area) (same-values b b') ∙ b'.cells-good) in
+      b.row ∙ ap (λ (ss : List Shape). built_row (offset_width sort) (packed_marks sort) ss b.cells) (shapes_same a) ∙ ap (built_row (offset_width sort) (packed_marks sort) (map shape_of b'.columns)) cells ∙ sym b'.row

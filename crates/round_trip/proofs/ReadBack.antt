@@ -5,34 +5,34 @@ use mathlib.Core.Bool.{Bool, true}
 use mathlib.Core.List.{List, map}
 use native.Mathlib.Omega.{arith}
 use lib.ListN.{length}
-use Rattle.row_format.proofs.Sorts.{fits-limit}
-use Rattle.row_format.specs.Places.{offsetWidth, rowLimit}
-use Rattle.error.specs.Answer.{unchangedBoth, placedBoth}
-use Rattle.error.specs.Result.{ok, onResult}
-use Rattle.row_format.specs.Row.{builtRow, packedMarks}
+use Rattle.row_format.proofs.Sorts.{fits_limit}
+use Rattle.row_format.specs.Places.{offset_width, row_limit}
+use Rattle.error.specs.Answer.{unchanged_both, placed_both}
+use Rattle.error.specs.Result.{ok, on_result}
+use Rattle.row_format.specs.Row.{built_row, packed_marks}
 use Rattle.datatype.specs.Types.{shape_of}
-use Rattle.datatype.specs.Schema.{Parsed, schemaOf}
+use Rattle.datatype.specs.Schema.{Parsed, schema_of}
 use Rattle.value.specs.Ranges.{text_of}
 use Rattle.value_list.specs.Lists.{list_of}
-use Rattle.stored_form.specs.ReadBack.{hasText}
+use Rattle.stored_form.specs.ReadBack.{has_text}
 use Rattle.value_list.proofs.Lists.{Taken, checked-taken, values-sized}
 use Rattle.value_list.specs.InnerLists.{AllSized}
 use Rattle.row_column.specs.declared.Frame.{Frame}
 use Rattle.row_column.specs.declared.Frame.TheVariants.{Good}
-use Rattle.row_column.specs.Frame.{frame_of, onFrame}
-use Rattle.row_decode.specs.Read.{isWanted, readFrom, handOut, readRow, readCall}
+use Rattle.row_column.specs.Frame.{frame_of, on_frame}
+use Rattle.row_decode.specs.Read.{is_wanted, read_from, hand_out, read_row, read_call}
 use Rattle.row_build.specs.Built.{Built}
 use Rattle.row_build.proofs.Counting.{many-cells, many-points}
 use Rattle.row_build.proofs.Schemas.{schema-few}
-use Rattle.round_trip.specs.ReadBack.{valuesBack, wantedPoints, row, givenValue, givenBack, givenForm, countsPut, ReadsBack, BuiltReadsBack}
+use Rattle.round_trip.specs.ReadBack.{values_back, wanted_points, row, given_value, given_back, given_form, counts_put, ReadsBack, BuiltReadsBack}
 use Rattle.round_trip.proofs.Sorts.{built-sort}
 use Rattle.round_trip.proofs.Counts.{counts-back, all_wanted}
 use Rattle.round_trip.proofs.ReadBuilt.{frame-built, column-built, text-built, columns-built}
 
 module _ {sort : Bool} {schema list area out : List ℕ} {n : ℕ} {after : List ℕ}
     (b : Built sort schema list area out n after) where
-  abbrev pub cellsRow : List ℕ
-  cellsRow = builtRow (offsetWidth sort) (packedMarks sort) (map shape_of b.columns) b.cells
+  abbrev pub cells_row : List ℕ
+  cells_row = built_row (offset_width sort) (packed_marks sort) (map shape_of b.columns) b.cells
 
   pub taken : Taken sort (length b.columns) (length area) list b.given
   taken = checked-taken sort (length b.columns) (length area) list b.list-good
@@ -40,7 +40,7 @@ module _ {sort : Bool} {schema list area out : List ℕ} {n : ℕ} {after : List
   pub few : length b.columns ≤ 256
   few = schema-few sort schema b.schema-good
 
-  pub short : length cellsRow ≤ (rowLimit sort)
+  pub short : length cells_row ≤ (row_limit sort)
   short = rw (← b.size) b.short
 
   -- the row's header is good
@@ -48,33 +48,33 @@ module _ {sort : Bool} {schema list area out : List ℕ} {n : ℕ} {after : List
   frame_back = rw b.row (frame-built sort b.columns b.given area b.cells-good taken.count few short)
 
   module _ (sized : AllSized b.given) where
-    fits : length cellsRow < 256 ^ (offsetWidth sort)
-    fits = fits-limit sort short
+    fits : length cells_row < 256 ^ (offset_width sort)
+    fits = fits_limit sort short
 
     -- the columns that are wanted
-    pub columns-back : (wanted : ℕ → Bool) → readFrom (offsetWidth sort) true b.columns wanted (row b) 0 (length b.columns)
-        ≡ ok (valuesBack (offsetWidth sort) b.columns wanted area (row b) 0 b.given)
+    pub columns-back : (wanted : ℕ → Bool) → read_from (offset_width sort) true b.columns wanted (row b) 0 (length b.columns)
+        ≡ ok (values_back (offset_width sort) b.columns wanted area (row b) 0 b.given)
     columns-back wanted = rw b.row
         (columns-built sort b.columns b.given area b.cells-good taken.count few fits sized wanted)
 
-    text-back : (i : ℕ) → i < length b.columns → hasText (givenValue b i) ≡ true → text_of (row b) (givenBack b i) ≡ givenForm b i
+    text-back : (i : ℕ) → i < length b.columns → has_text (given_value b i) ≡ true → text_of (row b) (given_back b i) ≡ given_form b i
     text-back i h g = rw b.row
         (text-built sort b.columns b.given area b.cells-good taken.count few i h fits sized g)
 
     cells-many : length b.cells ≡ length b.columns
     cells-many = many-cells b.columns b.given area b.cells-good taken.count
 
-    read_back : (ws o counts : List ℕ)
-        → readCall schema (row b) ws o counts ≡ placedBoth o counts
-        (list_of sort (valuesBack (offsetWidth sort) b.columns (isWanted ws) area (row b) 0 b.given)) (wantedPoints (isWanted ws) 0 (countsPut b))
-    read_back ws o counts =
-        ap (λ (k : Bool). onResult (schemaOf k schema) (unchangedBoth o counts) (λ ts. readRow k ts (row b) ws o counts)) (built-sort b)
-        ∙ ap (λ (p : Parsed). onResult p (unchangedBoth o counts) (λ ts. readRow sort ts (row b) ws o counts)) b.schema-good
-        ∙ ap (λ (q : Frame). onFrame q (unchangedBoth o counts)
-        (λ p. handOut sort o counts (row b) (readFrom (offsetWidth sort) p b.columns (isWanted ws) (row b) 0 (length b.columns)))) frame_back
-        ∙ ap (handOut sort o counts (row b)) (columns-back (isWanted ws))
-        ∙ ap (placedBoth o counts (list_of sort (valuesBack (offsetWidth sort) b.columns (isWanted ws) area (row b) 0 b.given)))
-        (counts-back b taken.count cells-many text-back (isWanted ws))
+    read_back_lem : (ws o counts : List ℕ)
+        → read_call schema (row b) ws o counts ≡ placed_both o counts
+        (list_of sort (values_back (offset_width sort) b.columns (is_wanted ws) area (row b) 0 b.given)) (wanted_points (is_wanted ws) 0 (counts_put b))
+    read_back_lem ws o counts =
+        ap (λ (k : Bool). on_result (schema_of k schema) (unchanged_both o counts) (λ ts. read_row k ts (row b) ws o counts)) (built-sort b)
+        ∙ ap (λ (p : Parsed). on_result p (unchanged_both o counts) (λ ts. read_row sort ts (row b) ws o counts)) b.schema-good
+        ∙ ap (λ (q : Frame). on_frame q (unchanged_both o counts)
+        (λ p. hand_out sort o counts (row b) (read_from (offset_width sort) p b.columns (is_wanted ws) (row b) 0 (length b.columns)))) frame_back
+        ∙ ap (hand_out sort o counts (row b)) (columns-back (is_wanted ws))
+        ∙ ap (placed_both o counts (list_of sort (values_back (offset_width sort) b.columns (is_wanted ws) area (row b) 0 b.given)))
+        (counts-back b taken.count cells-many text-back (is_wanted ws))
 
     -- the same of values that fit records, wherever they come from
     pub sized-back : ReadsBack b
@@ -84,8 +84,8 @@ module _ {sort : Bool} {schema list area out : List ℕ} {n : ℕ} {after : List
           column = λ i h. rw b.row
               (column-built sort b.columns b.given area b.cells-good taken.count few i h fits sized);
           text = text-back;
-          read = read_back;
-          all-counts = λ ws h. all_wanted (isWanted ws) 0 (countsPut b) (λ j l. h j (omega (arith, l, many-points b.columns b.given area b.cells-good taken.count)));
+          read = read_back_lem;
+          all-counts = λ ws h. all_wanted (is_wanted ws) 0 (counts_put b) (λ j l. h j (omega (arith, l, many-points b.columns b.given area b.cells-good taken.count)));
         }
 
   pub read-built : BuiltReadsBack b

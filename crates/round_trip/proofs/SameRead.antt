@@ -13,25 +13,25 @@ use Rattle.error.specs.declared.Refusal.TheVariants.{NoRoom}
 use Rattle.error.specs.declared.Flag.{Flag}
 use Rattle.error.specs.declared.Flag.TheVariants.{Is, Refused}
 use Rattle.error.specs.declared.Answer.TheVariants as Answer
-use Rattle.error.specs.Answer.{Counted, unchangedBoth}
-use Rattle.error.specs.Result.{ok, refused, onResult}
-use Rattle.row_format.specs.Places.{offsetWidth}
-use Rattle.row_format.specs.Header.{isLong}
+use Rattle.error.specs.Answer.{Counted, unchanged_both}
+use Rattle.error.specs.Result.{ok, refused, on_result}
+use Rattle.row_format.specs.Places.{offset_width}
+use Rattle.row_format.specs.Header.{is_long}
 use Rattle.datatype.specs.declared.DataType.{DataType}
 use Rattle.datatype.specs.Types.{length_of}
-use Rattle.datatype.specs.Schema.{Parsed, schemaOf}
+use Rattle.datatype.specs.Schema.{Parsed, schema_of}
 use Rattle.datatype.specs.Check.{types_in}
 use Rattle.value.specs.declared.DataValue.{DataValue}
 use Rattle.value.specs.declared.DataValue.TheVariants.{Null}
 use Rattle.value.specs.Ranges.{text_of}
 use Rattle.value_list.specs.Lists.{Values, list_of}
-use Rattle.value_same.specs.Same.{sameContent}
-use Rattle.stored_form.specs.Points.{pointsIn}
+use Rattle.value_same.specs.Same.{same_content}
+use Rattle.stored_form.specs.Points.{points_in}
 use Rattle.row_column.specs.declared.Frame.{Frame}
 use Rattle.row_column.specs.declared.Frame.TheVariants as Frame
-use Rattle.row_column.specs.Frame.{frame_of, onFrame}
-use Rattle.row_decode.specs.Read.{isWanted, readFrom, handOut, readRow, readCall}
-use Rattle.row_same.specs.Rows.{allColumns, valuesRead, sameValues, onValues, sameCall}
+use Rattle.row_column.specs.Frame.{frame_of, on_frame}
+use Rattle.row_decode.specs.Read.{is_wanted, read_from, hand_out, read_row, read_call}
+use Rattle.row_same.specs.Rows.{all_columns, values_read, same_values, on_values, same_call}
 use Rattle.row_same.proofs.Read.{ReadsAs, rows-read, SameAt, values_same}
 use Rattle.round_trip.specs.SameRead.{WantsAll, ReadRefuses, ReadGives, RefusedAs, first, second, ComparedBy, SameAsRead}
 use Rattle.round_trip.proofs.Sorts.{same-columns}
@@ -41,72 +41,72 @@ use Rattle.round_trip.proofs.ReadAll.{columns-read, wanted-all}
 
 module _ (schema r : List ℕ) where
   abbrev sort : Bool
-  sort = isLong r
+  sort = is_long r
 
   -- a call on a schema that is q, on a header that is f, and on values u
   module _ (wanted out counts : List ℕ) where
-    of-schema : (q : Parsed) → schemaOf sort schema ≡ q
-        → readCall schema r wanted out counts ≡ onResult q (unchangedBoth out counts) (λ ts. readRow sort ts r wanted out counts)
-    of-schema q e = ap (λ (p : Parsed). onResult p (unchangedBoth out counts) (λ ts. readRow sort ts r wanted out counts)) e
+    of_schema : (q : Parsed) → schema_of sort schema ≡ q
+        → read_call schema r wanted out counts ≡ on_result q (unchanged_both out counts) (λ ts. read_row sort ts r wanted out counts)
+    of_schema q e = ap (λ (p : Parsed). on_result p (unchanged_both out counts) (λ ts. read_row sort ts r wanted out counts)) e
 
-    of-frame : (ts : List DataType) → schemaOf sort schema ≡ ok ts → (f : Frame) → frame_of sort ts r ≡ f
-        → readCall schema r wanted out counts ≡ onFrame f (unchangedBoth out counts)
-        (λ p. handOut sort out counts r (readFrom (offsetWidth sort) p ts (isWanted wanted) r 0 (length ts)))
-    of-frame ts e f g =
-        of-schema (ok ts) e
-        ∙ ap (λ (x : Frame). onFrame x (unchangedBoth out counts)
-        (λ p. handOut sort out counts r (readFrom (offsetWidth sort) p ts (isWanted wanted) r 0 (length ts)))) g
+    of_frame : (ts : List DataType) → schema_of sort schema ≡ ok ts → (f : Frame) → frame_of sort ts r ≡ f
+        → read_call schema r wanted out counts ≡ on_frame f (unchanged_both out counts)
+        (λ p. hand_out sort out counts r (read_from (offset_width sort) p ts (is_wanted wanted) r 0 (length ts)))
+    of_frame ts e f g =
+        of_schema (ok ts) e
+        ∙ ap (λ (x : Frame). on_frame x (unchanged_both out counts)
+        (λ p. hand_out sort out counts r (read_from (offset_width sort) p ts (is_wanted wanted) r 0 (length ts)))) g
 
-    of_values : (ts : List DataType) → schemaOf sort schema ≡ ok ts → (p : Bool) → frame_of sort ts r ≡ Frame.Good p
-        → WantsAll schema r wanted → (u : Values) → readFrom (offsetWidth sort) p ts (λ j. true) r 0 (length ts) ≡ u
-        → readCall schema r wanted out counts ≡ handOut sort out counts r u
+    of_values : (ts : List DataType) → schema_of sort schema ≡ ok ts → (p : Bool) → frame_of sort ts r ≡ Frame.Good p
+        → WantsAll schema r wanted → (u : Values) → read_from (offset_width sort) p ts (λ j. true) r 0 (length ts) ≡ u
+        → read_call schema r wanted out counts ≡ hand_out sort out counts r u
     of_values ts e p f all u g =
-        of-frame ts e (Frame.Good p) f
-        ∙ ap (handOut sort out counts r)
-        (wanted-all (offsetWidth sort) p ts r (isWanted wanted) (length ts) 0 (λ j h. all ts e j (omega arith)) ∙ g)
+        of_frame ts e (Frame.Good p) f
+        ∙ ap (hand_out sort out counts r)
+        (wanted-all (offset_width sort) p ts r (is_wanted wanted) (length ts) 0 (λ j h. all ts e j (omega arith)) ∙ g)
 
   -- what it does
   data Read : Type 0 where
-    refuses : (e : Refusal) → valuesRead schema r ≡ refused e → ReadRefuses schema r e → Read
-    gives : (ts : List DataType) (vs : List DataValue) → ReadsAs schema r ts vs → valuesRead schema r ≡ ok vs
+    refuses : (e : Refusal) → values_read schema r ≡ refused e → ReadRefuses schema r e → Read
+    gives : (ts : List DataType) (vs : List DataValue) → ReadsAs schema r ts vs → values_read schema r ≡ ok vs
         → ReadGives schema r ts vs → Read
 
-  values_of : (q : Parsed) → schemaOf sort schema ≡ q
-      → valuesRead schema r ≡ onResult q refused (λ ts. allColumns sort ts r)
-  values_of q e = ap (λ (p : Parsed). onResult p refused (λ ts. allColumns sort ts r)) e
+  values_of : (q : Parsed) → schema_of sort schema ≡ q
+      → values_read schema r ≡ on_result q refused (λ ts. all_columns sort ts r)
+  values_of q e = ap (λ (p : Parsed). on_result p refused (λ ts. all_columns sort ts r)) e
 
-  module _ (ts : List DataType) (e : schemaOf sort schema ≡ ok ts) where
-    columns_of : (f : Frame) → frame_of sort ts r ≡ f
-        → allColumns sort ts r ≡ onFrame f refused (λ p. readFrom (offsetWidth sort) p ts (λ j. true) r 0 (length ts))
-    columns_of f g = ap (λ (x : Frame). onFrame x refused (λ p. readFrom (offsetWidth sort) p ts (λ j. true) r 0 (length ts))) g
+  module _ (ts : List DataType) (e : schema_of sort schema ≡ ok ts) where
+    columns_of_lem : (f : Frame) → frame_of sort ts r ≡ f
+        → all_columns sort ts r ≡ on_frame f refused (λ p. read_from (offset_width sort) p ts (λ j. true) r 0 (length ts))
+    columns_of_lem f g = ap (λ (x : Frame). on_frame x refused (λ p. read_from (offset_width sort) p ts (λ j. true) r 0 (length ts))) g
 
     by_values : (p : Bool) → frame_of sort ts r ≡ Frame.Good p → (u : Values)
-        → readFrom (offsetWidth sort) p ts (λ j. true) r 0 (length ts) ≡ u → Read
+        → read_from (offset_width sort) p ts (λ j. true) r 0 (length ts) ≡ u → Read
     by_values p f (refused x) g =
-        refuses x (values_of (ok ts) e ∙ columns_of (Frame.Good p) f ∙ g)
+        refuses x (values_of (ok ts) e ∙ columns_of_lem (Frame.Good p) f ∙ g)
         (λ wanted out counts all. of_values wanted out counts ts e p f all (refused x) g)
     by_values p f (ok vs) g =
-        let all : allColumns sort ts r ≡ ok vs = columns_of (Frame.Good p) f ∙ g in
+        let all : all_columns sort ts r ≡ ok vs = columns_of_lem (Frame.Good p) f ∙ g in
         gives ts vs (record { sort = sort; marked = refl; schema-good = e; all_read = all }) (values_of (ok ts) e ∙ all)
         (record {
           columns = e;
-          many = (columns-read (offsetWidth sort) p ts r (length ts) 0 g).count;
+          many = (columns-read (offset_width sort) p ts r (length ts) 0 g).count;
           read = λ wanted out counts every. of_values wanted out counts ts e p f every (ok vs) g;
         })
 
-    by-frame : (f : Frame) → frame_of sort ts r ≡ f → Read
-    by-frame (Frame.Refused x) f =
-        refuses x (values_of (ok ts) e ∙ columns_of (Frame.Refused x) f)
-        (λ wanted out counts all. of-frame wanted out counts ts e (Frame.Refused x) f)
-    by-frame (Frame.Good p) f = by_values p f (readFrom (offsetWidth sort) p ts (λ j. true) r 0 (length ts)) refl
+    by_frame : (f : Frame) → frame_of sort ts r ≡ f → Read
+    by_frame (Frame.Refused x) f =
+        refuses x (values_of (ok ts) e ∙ columns_of_lem (Frame.Refused x) f)
+        (λ wanted out counts all. of_frame wanted out counts ts e (Frame.Refused x) f)
+    by_frame (Frame.Good p) f = by_values p f (read_from (offset_width sort) p ts (λ j. true) r 0 (length ts)) refl
 
-  by-schema : (q : Parsed) → schemaOf sort schema ≡ q → Read
-  by-schema (refused x) e =
-      refuses x (values_of (refused x) e) (λ wanted out counts all. of-schema wanted out counts (refused x) e)
-  by-schema (ok ts) e = by-frame ts e (frame_of sort ts r) refl
+  by_schema : (q : Parsed) → schema_of sort schema ≡ q → Read
+  by_schema (refused x) e =
+      refuses x (values_of (refused x) e) (λ wanted out counts all. of_schema wanted out counts (refused x) e)
+  by_schema (ok ts) e = by_frame ts e (frame_of sort ts r) refl
 
   is_read : Read
-  is_read = by-schema (schemaOf sort schema) refl
+  is_read = by_schema (schema_of sort schema) refl
 
   -- ---- there is a list of all columns, so that it does one of the two
 
@@ -114,13 +114,13 @@ module _ (schema r : List ℕ) where
   below zero = []
   below (suc n) = n ∷ below n
 
-  below-wanted : (n i : ℕ) → i < n → isWanted (below n) i ≡ true
+  below-wanted : (n i : ℕ) → i < n → is_wanted (below n) i ≡ true
   below-wanted zero i h = absurd (omega arith)
   below-wanted (suc n) i h =
       by_cond (λ (x : Bool). x ≡ true) (eqb n i) _ _ (λ e. refl)
       (λ e. let ne = eqb-false n i e in below-wanted n i (omega arith))
 
-  all_wanted : (q : Parsed) → schemaOf sort schema ≡ q → WantsAll schema r (below (onResult q (λ e. 0) length))
+  all_wanted : (q : Parsed) → schema_of sort schema ≡ q → WantsAll schema r (below (on_result q (λ e. 0) length))
   all_wanted (ok us) e ts g i h = let same : us ≡ ts = cc in below-wanted (length us) i (rw same h)
   all_wanted (refused x) e ts g i h = absurd (refused-ok (sym e ∙ g))
     where
@@ -128,10 +128,10 @@ module _ (schema r : List ℕ) where
       refused-ok p = let z : ◌≡◌ {A = ℕ} 0 1 = cc in omega arith
 
   abbrev everything : List ℕ
-  everything = below (onResult (schemaOf sort schema) (λ e. 0) length)
+  everything = below (on_result (schema_of sort schema) (λ e. 0) length)
 
-  wants-all : WantsAll schema r everything
-  wants-all = all_wanted (schemaOf sort schema) refl
+  wants_all : WantsAll schema r everything
+  wants_all = all_wanted (schema_of sort schema) refl
 
   abbrev reason : Counted → Refusal
   reason (Answer.Refused e, after) = e
@@ -141,82 +141,82 @@ module _ (schema r : List ℕ) where
   IsRefused (Answer.Refused e, after) = Unit {0}
   IsRefused (Answer.Done n, after) = ⊥
 
-  one-reason : {e x : Refusal} → ReadRefuses schema r e → ReadRefuses schema r x → e ≡ x
-  one-reason f g = ap reason (sym (f everything [] [] wants-all) ∙ g everything [] [] wants-all)
+  one_reason : {e x : Refusal} → ReadRefuses schema r e → ReadRefuses schema r x → e ≡ x
+  one_reason f g = ap reason (sym (f everything [] [] wants_all) ∙ g everything [] [] wants_all)
 
-  not-both : {e : Refusal} {ts : List DataType} {vs : List DataValue} → ReadRefuses schema r e → ReadGives schema r ts vs → ⊥
-  not-both {vs = vs} f g =
+  not_both : {e : Refusal} {ts : List DataType} {vs : List DataValue} → ReadRefuses schema r e → ReadGives schema r ts vs → ⊥
+  not_both {vs = vs} f g =
       let l : List ℕ = list_of sort vs in
-      let m : List ℕ = map (pointsIn r) vs in
-      let full = rw (le-ltb (length l) (length l) (omega arith), le-ltb (length m) (length m) (omega arith)) at (g.read everything l m wants-all) in
-      subst IsRefused (sym (f everything l m wants-all) ∙ full) tt
+      let m : List ℕ = map (points_in r) vs in
+      let full = rw (le-ltb (length l) (length l) (omega arith), le-ltb (length m) (length m) (omega arith)) at (g.read everything l m wants_all) in
+      subst IsRefused (sym (f everything l m wants_all) ∙ full) tt
 
 -- ---- column by column: the same exactly if every column is
 
 module _ (a b : List ℕ) where
-  same-values : (ts : List DataType) (vs us : List DataValue) → sameValues ts a vs b us ≡ true
+  same-values : (ts : List DataType) (vs us : List DataValue) → same_values ts a vs b us ≡ true
       → (i : ℕ) → i < length ts → SameAt a b ts vs us i
   same-values [] vs us e i h = absurd (omega arith)
   same-values (t ∷ ts) [] us e i h = absurd (subst (λ (x : Bool). cond x ⊥ (Unit {0})) e tt)
   same-values (t ∷ ts) (v ∷ vs) [] e i h = absurd (subst (λ (x : Bool). cond x ⊥ (Unit {0})) e tt)
-  same-values (t ∷ ts) (v ∷ vs) (u ∷ us) e zero h = (both (sameContent (length_of t) v (text_of a v) u (text_of b u)) _ e).0
+  same-values (t ∷ ts) (v ∷ vs) (u ∷ us) e zero h = (both (same_content (length_of t) v (text_of a v) u (text_of b u)) _ e).0
   same-values (t ∷ ts) (v ∷ vs) (u ∷ us) e (suc i) h =
-      same-values ts vs us (both (sameContent (length_of t) v (text_of a v) u (text_of b u)) _ e).1 i (omega arith)
+      same-values ts vs us (both (same_content (length_of t) v (text_of a v) u (text_of b u)) _ e).1 i (omega arith)
 
 -- ---- the call
 
 module _ (schema a b : List ℕ) where
-  abbrev flagOf : Flag → Bool
-  flagOf (Is x) = x
-  flagOf (Refused e) = false
+  abbrev flag_of : Flag → Bool
+  flag_of (Is x) = x
+  flag_of (Refused e) = false
 
-  abbrev reasonOf : Flag → Refusal
-  reasonOf (Is x) = NoRoom
-  reasonOf (Refused e) = e
+  abbrev reason_of : Flag → Refusal
+  reason_of (Is x) = NoRoom
+  reason_of (Refused e) = e
 
   abbrev Told : Flag → Type 0
   Told (Is x) = ⊥
   Told (Refused e) = Unit {0}
 
-  of-first : (x : Values) → valuesRead schema a ≡ x
-      → sameCall schema a b ≡ onValues x (λ vs. onValues (valuesRead schema b) (λ us. Is (sameValues (types_in schema) a vs b us)))
-  of-first x e = ap (λ (y : Values). onValues y (λ vs. onValues (valuesRead schema b) (λ us. Is (sameValues (types_in schema) a vs b us)))) e
+  of_first : (x : Values) → values_read schema a ≡ x
+      → same_call schema a b ≡ on_values x (λ vs. on_values (values_read schema b) (λ us. Is (same_values (types_in schema) a vs b us)))
+  of_first x e = ap (λ (y : Values). on_values y (λ vs. on_values (values_read schema b) (λ us. Is (same_values (types_in schema) a vs b us)))) e
 
-  of-second : (vs : List DataValue) → valuesRead schema a ≡ ok vs → (y : Values) → valuesRead schema b ≡ y
-      → sameCall schema a b ≡ onValues y (λ us. Is (sameValues (types_in schema) a vs b us))
-  of-second vs e y g = of-first (ok vs) e ∙ ap (λ (z : Values). onValues z (λ us. Is (sameValues (types_in schema) a vs b us))) g
+  of_second : (vs : List DataValue) → values_read schema a ≡ ok vs → (y : Values) → values_read schema b ≡ y
+      → same_call schema a b ≡ on_values y (λ us. Is (same_values (types_in schema) a vs b us))
+  of_second vs e y g = of_first (ok vs) e ∙ ap (λ (z : Values). on_values z (λ us. Is (same_values (types_in schema) a vs b us))) g
 
-  module _ {e : Refusal} (call : sameCall schema a b ≡ Refused e) (there : RefusedAs schema a b e)
+  module _ {e : Refusal} (call : same_call schema a b ≡ Refused e) (there : RefusedAs schema a b e)
       (only : (x : Refusal) → RefusedAs schema a b x → e ≡ x) where
-    refused-call : SameAsRead schema a b
-    refused-call =
+    refused_call : SameAsRead schema a b
+    refused_call =
         record {
-          refuses = λ x. (λ c. subst (RefusedAs schema a b) (ap reasonOf (sym call ∙ c)) there, λ g. call ∙ ap Refused (only x g));
+          refuses = λ x. (λ c. subst (RefusedAs schema a b) (ap reason_of (sym call ∙ c)) there, λ g. call ∙ ap Refused (only x g));
           tells = λ x c. absurd (subst Told (sym call ∙ c) tt);
         }
 
   first-only : {e : Refusal} → ReadRefuses schema a e → (x : Refusal) → RefusedAs schema a b x → e ≡ x
-  first-only f x (first g) = one-reason schema a f g
-  first-only f x (second g h) = absurd (not-both schema a f g)
+  first-only f x (first g) = one_reason schema a f g
+  first-only f x (second g h) = absurd (not_both schema a f g)
 
   second-only : {e : Refusal} {ts : List DataType} {vs : List DataValue} → ReadGives schema a ts vs → ReadRefuses schema b e
       → (x : Refusal) → RefusedAs schema a b x → e ≡ x
-  second-only g f x (first h) = absurd (not-both schema a h g)
-  second-only g f x (second h k) = one-reason schema b f k
+  second-only g f x (first h) = absurd (not_both schema a h g)
+  second-only g f x (second h k) = one_reason schema b f k
 
   none-refused : {ts us : List DataType} {vs ws : List DataValue} → ReadGives schema a ts vs → ReadGives schema b us ws
       → (x : Refusal) → RefusedAs schema a b x → ⊥
-  none-refused g h x (first f) = not-both schema a f g
-  none-refused g h x (second k f) = not-both schema b f h
+  none-refused g h x (first f) = not_both schema a f g
+  none-refused g h x (second k f) = not_both schema b f h
 
-  both_read : {ts : List DataType} {vs us : List DataValue} → ReadsAs schema a ts vs → ReadsAs schema b ts us
+  both_read_lem : {ts : List DataType} {vs us : List DataValue} → ReadsAs schema a ts vs → ReadsAs schema b ts us
       → ReadGives schema a ts vs → ReadGives schema b ts us → SameAsRead schema a b
-  both_read {ts} {vs} {us} p q g h =
+  both_read_lem {ts} {vs} {us} p q g h =
       let call = rows-read p q in
       record {
         refuses = λ x. (λ c. absurd (subst Told (sym c ∙ call) tt), λ f. absurd (none-refused g h x f));
         tells = λ x c.
-            let is : sameValues ts a vs b us ≡ x = ap flagOf (sym call ∙ c) in
+            let is : same_values ts a vs b us ≡ x = ap flag_of (sym call ∙ c) in
             record {
               columns = ts;
               first-values = vs;
@@ -227,17 +227,17 @@ module _ (schema a b : List ℕ) where
             };
       }
 
-  by-second : {ts : List DataType} {vs : List DataValue} → ReadsAs schema a ts vs → valuesRead schema a ≡ ok vs → ReadGives schema a ts vs
+  by_second : {ts : List DataType} {vs : List DataValue} → ReadsAs schema a ts vs → values_read schema a ≡ ok vs → ReadGives schema a ts vs
       → Read schema b → SameAsRead schema a b
-  by-second {vs = vs} p e g (refuses x k f) = refused-call (of-second vs e (refused x) k) (second g f) (second-only g f)
-  by-second {ts} p e g (gives us ws q k h) =
-      let same = same-columns (isLong b) (isLong a) schema h.columns g.columns in
-      both_read p (subst (λ (xs : List DataType). ReadsAs schema b xs ws) same q) g
+  by_second {vs = vs} p e g (refuses x k f) = refused_call (of_second vs e (refused x) k) (second g f) (second-only g f)
+  by_second {ts} p e g (gives us ws q k h) =
+      let same = same-columns (is_long b) (is_long a) schema h.columns g.columns in
+      both_read_lem p (subst (λ (xs : List DataType). ReadsAs schema b xs ws) same q) g
       (subst (λ (xs : List DataType). ReadGives schema b xs ws) same h)
 
   by_first : Read schema a → SameAsRead schema a b
-  by_first (refuses x k f) = refused-call (of-first (refused x) k) (first f) (first-only f)
-  by_first (gives ts vs p e g) = by-second p e g (is_read schema b)
+  by_first (refuses x k f) = refused_call (of_first (refused x) k) (first f) (first-only f)
+  by_first (gives ts vs p e g) = by_second p e g (is_read schema b)
 
-  pub same-as-read : SameAsRead schema a b
-  same-as-read = by_first (is_read schema a)
+  pub same_as_read : SameAsRead schema a b
+  same_as_read = by_first (is_read schema a)

@@ -11,23 +11,23 @@ use Rattle.error.specs.declared.Refusal.{Refusal}
 use Rattle.error.specs.declared.Refusal.TheVariants.{BadSchema}
 use Rattle.error.specs.Result.{ok, refused}
 use Rattle.row_format.specs.declared.Shape.{Shape}
-use Rattle.row_format.specs.Places.{minimum, offsetWidth, rowLimit}
+use Rattle.row_format.specs.Places.{minimum, offset_width, row_limit}
 use Rattle.row_format.specs.Row.{slots_of}
-use Rattle.row_format.specs.Header.{isLong}
+use Rattle.row_format.specs.Header.{is_long}
 use Rattle.row_format.proofs.Places.{varlens-le}
 use Rattle.row_format.proofs.Header.{row-sort}
 use Rattle.datatype.specs.declared.DataType.{DataType}
 use Rattle.datatype.specs.Types.{shape_of}
-use Rattle.datatype.specs.Schema.{schemaOf}
-use Rattle.datatype.specs.Check.{columnsOf}
+use Rattle.datatype.specs.Schema.{schema_of}
+use Rattle.datatype.specs.Check.{columns_of}
 use Rattle.row_build.specs.Built.{Built}
 use Rattle.row_build.proofs.Schemas.{schema-records, schema-few}
 use Rattle.round_trip.specs.Sorts.{ShortIsLong, OfItsSort}
 
 -- a schema says the same columns for whatever sorts it is good
-pub same-columns : (j k : Bool) (s : List ℕ) {ts us : List DataType} → schemaOf j s ≡ ok ts → schemaOf k s ≡ ok us
+pub same-columns : (j k : Bool) (s : List ℕ) {ts us : List DataType} → schema_of j s ≡ ok ts → schema_of k s ≡ ok us
     → ts ≡ us
-same-columns j k s e f = ap columnsOf (sym (schema-records j s e) ∙ schema-records k s f)
+same-columns j k s e f = ap columns_of (sym (schema-records j s e) ∙ schema-records k s f)
 
 -- behind the test after the last record
 passed : (t : Bool) (e : Refusal) (ts : List DataType) → cond t (refused e) (ok ts) ≡ ok ts → t ≡ false
@@ -36,15 +36,15 @@ passed false e ts p = refl
 
 -- a table of at most 256 offsets grows by 512 bytes
 pub short-is-long : (schema : List ℕ) → ShortIsLong schema
-unfolding schemaOf
+unfolding schema_of
 short-is-long schema ts e =
     let ss : List Shape = map shape_of ts in
     let all = schema-records false schema e in
-    let short = ltb-false (rowLimit false) (minimum (offsetWidth false) false ss)
-    (passed (ltb (rowLimit false) (minimum (offsetWidth false) false ss)) (BadSchema (length schema)) ts (rw all at e)) in
+    let short = ltb-false (row_limit false) (minimum (offset_width false) false ss)
+    (passed (ltb (row_limit false) (minimum (offset_width false) false ss)) (BadSchema (length schema)) ts (rw all at e)) in
     rw (
       all,
-      le-ltb (rowLimit true) (minimum (offsetWidth true) false ss)
+      le-ltb (row_limit true) (minimum (offset_width true) false ss)
           (omega (arith, short, varlens-le ss, length-map ts shape_of, schema-few false schema e)),
     )
 
@@ -52,6 +52,6 @@ pub built-sort : {sort : Bool} {schema list area out : List ℕ} {n : ℕ} {afte
     (b : Built sort schema list area out n after) → OfItsSort b
 built-sort {sort} {schema} b =
     let ss : List Shape = map shape_of b.columns in
-    ap isLong b.row
+    ap is_long b.row
     ∙ row-sort sort ss b.cells (slots_of ss b.cells)
     (omega (arith, varlens-le ss, length-map b.columns shape_of, schema-few sort schema b.schema-good))

@@ -5,7 +5,7 @@ use mathlib.Core.Bool.{Bool, true, false, cond}
 use mathlib.Core.List.{List, []}
 use lib.ListN.{length, get_or}
 use Rattle.error.specs.declared.Flag.TheVariants.{Is}
-use Rattle.row_format.specs.Places.{offsetWidth}
+use Rattle.row_format.specs.Places.{offset_width}
 use Rattle.laws.proofs.Bytes.{AllBytes}
 use Rattle.laws.proofs.Same.{same_self as bytes-self}
 use Rattle.datatype.specs.declared.DataType.{DataType}
@@ -15,26 +15,26 @@ use Rattle.value.specs.declared.DataValue.{DataValue}
 use Rattle.value.specs.declared.DataValue.TheVariants as D
 use Rattle.value.specs.Ranges.{text_of}
 use Rattle.value_list.proofs.Lists.{values-sized}
-use Rattle.stored_form.specs.ReadBack.{readBack, hasText}
-use Rattle.value_same.specs.Same.{sameContent}
+use Rattle.stored_form.specs.ReadBack.{read_back, has_text}
+use Rattle.value_same.specs.Same.{same_content}
 use Rattle.value_same.proofs.Equivalence.{same_self}
 use Rattle.record_slot.specs.Stored.{is_null}
-use Rattle.row_same.specs.Rows.{sameCall}
-use Rattle.row_same.proofs.Read.{ReadsAs, SameAt, twins-same}
+use Rattle.row_same.specs.Rows.{same_call}
+use Rattle.row_same.proofs.Read.{ReadsAs, SameAt, twins_same}
 use Rattle.row_build.specs.Built.{Built}
-use Rattle.round_trip.specs.ReadBack.{start_in, valueBack, row, givenValue, givenText, givenBack}
+use Rattle.round_trip.specs.ReadBack.{start_in, value_back, row, given_value, given_text, given_back}
 use Rattle.round_trip.specs.Sorts.{Twins}
 use Rattle.round_trip.proofs.Sorts.{same-columns}
 use Rattle.round_trip.proofs.ReadBack.{taken, read-built}
-use Rattle.round_trip.proofs.BuiltReads.{allBack, all-many, all-at, built-reads}
+use Rattle.round_trip.proofs.BuiltReads.{all_back, all-many, all-at, built-reads}
 use Rattle.round_trip.proofs.Layouts.{same-values}
 
 -- a value that is read back at two places, with texts y and z of the same bytes if it has any
 module _ (t : DataType) (n s s' : ℕ) (x y z : List ℕ) where
   abbrev back : ℕ → DataValue → DataValue
-  back at v = cond (is_null v) D.Null (readBack t at v x)
+  back at v = cond (is_null v) D.Null (read_back t at v x)
 
-  same_back : (v : DataValue) → (hasText v ≡ true → y ≡ z) → sameContent n (back s v) y (back s' v) z ≡ true
+  same_back : (v : DataValue) → (has_text v ≡ true → y ≡ z) → same_content n (back s v) y (back s' v) z ≡ true
   same_back D.Null e = refl
   same_back (D.SmallInt i) e = same_self n (D.SmallInt i) []
   same_back (D.Int i) e = same_self n (D.Int i) []
@@ -54,40 +54,40 @@ module _ {sort sort' : Bool} {schema list area out : List ℕ} {n : ℕ} {after 
     (b : Built sort schema list area out n after)
     {out' : List ℕ} {n' : ℕ} {after' : List ℕ} (b' : Built sort' schema list area out' n' after')
     (bytes : AllBytes list) where
-  columns-are : b'.columns ≡ b.columns
-  columns-are = same-columns sort' sort schema b'.schema-good b.schema-good
+  columns_are : b'.columns ≡ b.columns
+  columns_are = same-columns sort' sort schema b'.schema-good b.schema-good
 
-  given-are : b'.given ≡ b.given
-  given-are = same-values b' b
+  given_are : b'.given ≡ b.given
+  given_are = same-values b' b
 
   -- what column i of the second row gives back, by the columns and values of the first build
   abbrev twin : ℕ → DataValue
-  twin i = valueBack (offsetWidth sort') b.columns i (givenValue b i) (givenText b i) (row b')
+  twin i = value_back (offset_width sort') b.columns i (given_value b i) (given_text b i) (row b')
 
-  twin-at : (i : ℕ) → i < length b.columns → get_or (allBack b') i D.Null ≡ twin i
-  twin-at i h =
-      all-at b' i (rw columns-are h)
-      ∙ ap₂ (λ (ts : List DataType) (vs : List DataValue). valueBack (offsetWidth sort') ts i (get_or vs i D.Null) (text_of area (get_or vs i D.Null)) (row b'))
-      columns-are given-are
+  twin_at : (i : ℕ) → i < length b.columns → get_or (all_back b') i D.Null ≡ twin i
+  twin_at i h =
+      all-at b' i (rw columns_are h)
+      ∙ ap₂ (λ (ts : List DataType) (vs : List DataValue). value_back (offset_width sort') ts i (get_or vs i D.Null) (text_of area (get_or vs i D.Null)) (row b'))
+      columns_are given_are
 
-  same_text : (i : ℕ) → i < length b.columns → hasText (givenValue b i) ≡ true
-      → text_of (row b) (givenBack b i) ≡ text_of (row b') (twin i)
+  same_text : (i : ℕ) → i < length b.columns → has_text (given_value b i) ≡ true
+      → text_of (row b) (given_back b i) ≡ text_of (row b') (twin i)
   same_text i h t =
-      (read-built b bytes).text i h t ∙ sym (let text = rw (columns-are, given-are) at ((read-built b' bytes).text i) in text h t)
+      (read-built b bytes).text i h t ∙ sym (let text = rw (columns_are, given_are) at ((read-built b' bytes).text i) in text h t)
 
-  column-same : (i : ℕ) → i < length b.columns → SameAt (row b) (row b') b.columns (allBack b) (allBack b') i
+  column-same : (i : ℕ) → i < length b.columns → SameAt (row b) (row b') b.columns (all_back b) (all_back b') i
   column-same i h =
-      rw (all-at b i h, twin-at i h)
+      rw (all-at b i h, twin_at i h)
       (same_back (type_at b.columns i) (length_of (type_at b.columns i))
-      (start_in (offsetWidth sort) b.columns i (row b)) (start_in (offsetWidth sort') b.columns i (row b'))
-      (givenText b i) (text_of (row b) (givenBack b i)) (text_of (row b') (twin i)) (givenValue b i) (same_text i h))
+      (start_in (offset_width sort) b.columns i (row b)) (start_in (offset_width sort') b.columns i (row b'))
+      (given_text b i) (text_of (row b) (given_back b i)) (text_of (row b') (twin i)) (given_value b i) (same_text i h))
 
-  pub same_rows : sameCall schema (row b) (row b') ≡ Is true
+  pub same_rows : same_call schema (row b) (row b') ≡ Is true
   same_rows =
-      twins-same (built-reads b (values-sized list bytes (taken b).all))
-      (subst (λ (ts : List DataType). ReadsAs schema (row b') ts (allBack b')) columns-are
+      twins_same (built-reads b (values-sized list bytes (taken b).all))
+      (subst (λ (ts : List DataType). ReadsAs schema (row b') ts (all_back b')) columns_are
       (built-reads b' (values-sized list bytes (taken b').all)))
-      (all-many b) (all-many b' ∙ ap length columns-are) column-same
+      (all-many b) (all-many b' ∙ ap length columns_are) column-same
 
 pub twins : {schema list area out : List ℕ} {n : ℕ} {after : List ℕ} (b : Built false schema list area out n after)
     {out' : List ℕ} {n' : ℕ} {after' : List ℕ} (b' : Built true schema list area out' n' after') → Twins b b'

@@ -9,16 +9,16 @@ use lib.Dec.{leb, ltb}
 use lib.ListN.{length, get_or, take, drop}
 use Rattle.error.specs.declared.Refusal.TheVariants.{BadRecord, BadSchema}
 use Rattle.error.specs.Result.{ok}
-use Rattle.laws.specs.Bytes.{fromLe}
+use Rattle.laws.specs.Bytes.{from_le}
 use Rattle.laws.proofs.Truths.{and_left, and_right, by_cond, cases}
 use Rattle.datatype.specs.declared.DataType.{DataType}
 use Rattle.datatype.specs.declared.Record.{Record}
 use Rattle.datatype.specs.declared.Record.TheVariants.{Column, Refused}
-use Rattle.datatype.specs.Types.{precisionOf, scale_of}
-use Rattle.datatype.specs.Schema.{Kind, unknown, plain, sized, digits, columnKind, goodDigits, columnRecordOf, columnRecordAt, columnRecords, schemaOf}
+use Rattle.datatype.specs.Types.{precision_of, scale_of}
+use Rattle.datatype.specs.Schema.{Kind, unknown, plain, sized, digits, column_kind, good_digits, column_record_of, column_record_at, column_records, schema_of}
 use Rattle.datatype.specs.Check.{type_at}
 use Rattle.datatype.proofs.Records.{few-digits}
-use Rattle.datatype.proofs.Walk.{none_left, some_left, not-refused, first-left}
+use Rattle.datatype.proofs.Walk.{none_left, some_left, not_refused, first-left}
 use Rattle.row_build.proofs.Schemas.{schema-records}
 
 -- ---- one record: "scale above precision" gives 2
@@ -39,61 +39,61 @@ same_scale p s = refl
 no-scale : (n : ℕ) → ◌≡◌ {A = ℕ} 0 0
 no-scale n = refl
 
-scale-of : (k : ℕ) → Scaled (columnKind k)
-scale-of k = search (chosen, none, plainly, sizedly, given, same_scale, no-scale) depth 18
+scale_of_lem : (k : ℕ) → Scaled (column_kind k)
+scale_of_lem k = search (chosen, none, plainly, sizedly, given, same_scale, no-scale) depth 18
 
 abbrev SmallScale : Record → Type 0
 SmallScale (Column t next) = scale_of t ≤ 38
 SmallScale (Refused r) = Unit {0}
 
-small_of : {q : Kind} → Scaled q → (s : List ℕ) (at : ℕ) → SmallScale (columnRecordOf q s at)
+small_of : {q : Kind} → Scaled q → (s : List ℕ) (at : ℕ) → SmallScale (column_record_of q s at)
 small_of none s at = tt
 small_of (plainly e) s at = rw e (omega arith)
 small_of (sizedly {t} e) s at =
     by_cond SmallScale (ltb (length s) (at + 3)) (Refused (BadRecord at)) _ (λ f. tt)
-    (λ f. rw (e (fromLe (take 2 (drop (at + 1) s)))) (omega arith))
+    (λ f. rw (e (from_le (take 2 (drop (at + 1) s)))) (omega arith))
 small_of (given {t} e) s at =
     let p : ℕ = get_or s (at + 1) 0 in
     let z : ℕ = get_or s (at + 2) 0 in
     by_cond SmallScale (ltb (length s) (at + 3)) (Refused (BadRecord at)) _ (λ f. tt)
-    (λ f. by_cond SmallScale (goodDigits p z) (Column (t p z) (at + 3)) (Refused (BadSchema at))
+    (λ f. by_cond SmallScale (good_digits p z) (Column (t p z) (at + 3)) (Refused (BadSchema at))
     (λ g.
     let few = leb-true p 38 (and_right (leb 1 p) (leb p 38) (and_left (leb 1 p && leb p 38) (leb z p) g)) in
     let under = leb-true z p (and_right (leb 1 p && leb p 38) (leb z p) g) in
     rw (e p z) (omega arith)) (λ g. tt))
 
-small-scale : (s : List ℕ) (at : ℕ) {t : DataType} {next : ℕ} → columnRecordAt s at ≡ Column t next → scale_of t ≤ 38
-small-scale s at e = rw e at (small_of (scale-of (get_or s at 0)) s at)
+small-scale : (s : List ℕ) (at : ℕ) {t : DataType} {next : ℕ} → column_record_at s at ≡ Column t next → scale_of t ≤ 38
+small-scale s at e = rw e at (small_of (scale_of_lem (get_or s at 0)) s at)
 
 -- ---- every column
 
 module _ (P : DataType → Type 0) (s : List ℕ)
-    (holds : (at : ℕ) (t : DataType) (next : ℕ) → columnRecordAt s at ≡ Column t next → P t) where
-  first-or : {t : DataType} {us : List DataType} → P t → ((i : ℕ) → i < length us → P (type_at us i))
+    (holds : (at : ℕ) (t : DataType) (next : ℕ) → column_record_at s at ≡ Column t next → P t) where
+  first_or : {t : DataType} {us : List DataType} → P t → ((i : ℕ) → i < length us → P (type_at us i))
       → (ts : List DataType) → ts ≡ t ∷ us → (i : ℕ) → i < length ts → P (type_at ts i)
-  first-or p f ts e zero h = rw e p
-  first-or p f ts e (suc i) h = rw e (f i (omega (arith, ap length e)))
+  first_or p f ts e zero h = rw e p
+  first_or p f ts e (suc i) h = rw e (f i (omega (arith, ap length e)))
 
-  each : (n at : ℕ) (ts : List DataType) → columnRecords n s at ≡ ok ts → (i : ℕ) → i < length ts → P (type_at ts i)
+  each : (n at : ℕ) (ts : List DataType) → column_records n s at ≡ ok ts → (i : ℕ) → i < length ts → P (type_at ts i)
   each zero at ts e i h =
       cases at (length s) (λ k. absurd (omega (arith, some_left s at 0 e k)))
       (λ k. absurd (omega (arith, ap length (none_left s at 0 e k))))
   each (suc n) at ts e i h =
-      cases at (length s) (λ k. of-record (each n) (columnRecordAt s at) refl k)
+      cases at (length s) (λ k. of_record (each n) (column_record_at s at) refl k)
       (λ k. absurd (omega (arith, ap length (none_left s at (suc n) e k))))
     where
-      of-record : ((next : ℕ) (us : List DataType) → columnRecords n s next ≡ ok us → (j : ℕ) → j < length us
+      of_record : ((next : ℕ) (us : List DataType) → column_records n s next ≡ ok us → (j : ℕ) → j < length us
           → P (type_at us j))
-          → (q : Record) → columnRecordAt s at ≡ q → at < length s → P (type_at ts i)
-      of-record rest (Refused u) f k = absurd (not-refused s at (suc n) e k f)
-      of-record rest (Column t next) f k =
+          → (q : Record) → column_record_at s at ≡ q → at < length s → P (type_at ts i)
+      of_record rest (Refused u) f k = absurd (not_refused s at (suc n) e k f)
+      of_record rest (Column t next) f k =
           let p = first-left s at (suc n) e k n refl f in
-          first-or (holds at t next f) (rest next p.tail p.ahead) ts p.split i h
+          first_or (holds at t next f) (rest next p.tail p.ahead) ts p.split i h
 
-module _ (sort : Bool) (s : List ℕ) {ts : List DataType} (e : schemaOf sort s ≡ ok ts) (i : ℕ)
+module _ (sort : Bool) (s : List ℕ) {ts : List DataType} (e : schema_of sort s ≡ ok ts) (i : ℕ)
     (h : i < length ts) where
-  pub column-digits : precisionOf (type_at ts i) ≤ 38
-  column-digits = each (λ t. precisionOf t ≤ 38) s (λ at t next f. few-digits s at f) 256 0 ts
+  pub column-digits : precision_of (type_at ts i) ≤ 38
+  column-digits = each (λ t. precision_of t ≤ 38) s (λ at t next f. few-digits s at f) 256 0 ts
       (schema-records sort s e) i h
 
   pub column-scale : scale_of (type_at ts i) ≤ 38

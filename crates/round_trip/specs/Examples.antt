@@ -4,11 +4,11 @@ use Rattle.std.specs.Prelude.{ℕ, Bool, true, false, List, [], ◌∷◌, ◌�
 use Rattle.std.specs.Int.{w8}
 use Rattle.std.proofs.Common.{Fits}
 use Rattle.error.specs.declared.Answer.TheVariants.{Done}
-use Rattle.row_build.specs.Build.{buildCall}
+use Rattle.row_build.specs.Build.{build_call}
 use Rattle.row_build.specs.Built.{Built}
 use Rattle.row_text.specs.declared.ColumnText.TheVariants.{Part}
-use Rattle.row_text.specs.Text.{textCall}
-use Rattle.round_trip.specs.Same.{FullRead, listRead}
+use Rattle.row_text.specs.Text.{text_call}
+use Rattle.round_trip.specs.Same.{FullRead, list_read}
 use Rattle.round_trip.specs.Layouts.{AllAlike}
 
 -- "S is Int, Varchar(5), SmallInt"; with kind 16 the Varchar has at most 5 code points
@@ -49,7 +49,7 @@ pub record Examples : Type 0 where
   pub long-read : FullRead (S 11) long2
   -- `SameAsBuilt`: what was read is built again, as a row of the other sort
   pub row-bytes : OfBytes short2
-  pub rebuilt : buildCall true (S 11) (listRead short-read) short2 (lent 17) (replicate 3 7)
+  pub rebuilt : build_call true (S 11) (list_read short-read) short2 (lent 17) (replicate 3 7)
       ≡ (Done 17, (long2, 0 ∷ 2 ∷ 0 ∷ []))
   -- `TextAsRead`: the text call answers neither 9 nor 11
-  pub part : textCall (S 11) short2 1 ≡ Part (record { start = 13; length = 2 })
+  pub part : text_call (S 11) short2 1 ≡ Part (record { start = 13; length = 2 })

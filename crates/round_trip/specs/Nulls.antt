@@ -2,13 +2,13 @@
 use Rattle.std.specs.Prelude.{ℕ, ◌≤◌, ◌<◌, List, ◌≡◌, length, Bool}
 use Rattle.error.specs.declared.Refusal.TheVariants.{NoSuchColumn}
 use Rattle.error.specs.declared.Flag.TheVariants.{Is, Refused}
-use Rattle.null_bitmap.specs.Bitmap.{nullFlag}
+use Rattle.null_bitmap.specs.Bitmap.{null_flag}
 use Rattle.record_slot.specs.Stored.{is_null}
 use Rattle.row_build.specs.Built.{Built}
-use Rattle.round_trip.specs.ReadBack.{row, givenValue}
+use Rattle.round_trip.specs.ReadBack.{row, given_value}
 
 -- a build that answered Done: whether null was given for a column; "9 against the header's count" past the last one
 pub record NullsBack {sort : Bool} {schema list area out : List ℕ} {n : ℕ} {after : List ℕ}
     (b : Built sort schema list area out n after) : Type 0 where
-  pub flag : (i : ℕ) → i < length b.columns → nullFlag (row b) i ≡ Is (is_null (givenValue b i))
-  pub past : (i : ℕ) → length b.columns ≤ i → nullFlag (row b) i ≡ Refused NoSuchColumn
+  pub flag : (i : ℕ) → i < length b.columns → null_flag (row b) i ≡ Is (is_null (given_value b i))
+  pub past : (i : ℕ) → length b.columns ≤ i → null_flag (row b) i ≡ Refused NoSuchColumn

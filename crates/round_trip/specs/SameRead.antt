@@ -3,39 +3,39 @@
 use Rattle.std.specs.Prelude.{ℕ, ◌<◌, Bool, true, List, map, ◌↔◌, ◌≡◌, length, get_or}
 use Rattle.error.specs.declared.Refusal.{Refusal}
 use Rattle.error.specs.declared.Flag.TheVariants.{Is, Refused}
-use Rattle.error.specs.Answer.{unchangedBoth, placedBoth}
+use Rattle.error.specs.Answer.{unchanged_both, placed_both}
 use Rattle.error.specs.Result.{ok}
-use Rattle.row_format.specs.Header.{isLong}
+use Rattle.row_format.specs.Header.{is_long}
 use Rattle.datatype.specs.declared.DataType.{DataType}
 use Rattle.datatype.specs.Types.{length_of}
-use Rattle.datatype.specs.Schema.{schemaOf}
+use Rattle.datatype.specs.Schema.{schema_of}
 use Rattle.datatype.specs.Check.{type_at}
 use Rattle.value.specs.declared.DataValue.{DataValue}
 use Rattle.value.specs.declared.DataValue.TheVariants.{Null}
 use Rattle.value.specs.Ranges.{text_of}
 use Rattle.value_list.specs.Lists.{list_of}
-use Rattle.value_same.specs.Same.{sameContent}
-use Rattle.stored_form.specs.Points.{pointsIn}
-use Rattle.row_decode.specs.Read.{isWanted, readCall}
-use Rattle.row_same.specs.Rows.{sameCall}
+use Rattle.value_same.specs.Same.{same_content}
+use Rattle.stored_form.specs.Points.{points_in}
+use Rattle.row_decode.specs.Read.{is_wanted, read_call}
+use Rattle.row_same.specs.Rows.{same_call}
 
 -- the list of wanted columns has all that the schema has for rows of r's sort
 abbrev pub WantsAll : List ℕ → List ℕ → List ℕ → Type 0
 WantsAll schema r wanted =
-    (ts : List DataType) → schemaOf (isLong r) schema ≡ ok ts → (i : ℕ) → i < length ts → isWanted wanted i ≡ true
+    (ts : List DataType) → schema_of (is_long r) schema ≡ ok ts → (i : ℕ) → i < length ts → is_wanted wanted i ≡ true
 
 -- "a read of all columns" refuses with e, whatever room it has: so not for want of room, 14
 abbrev pub ReadRefuses : List ℕ → List ℕ → Refusal → Type 0
 ReadRefuses schema r e =
     (wanted out counts : List ℕ) → WantsAll schema r wanted
-    → readCall schema r wanted out counts ≡ unchangedBoth out counts e
+    → read_call schema r wanted out counts ≡ unchanged_both out counts e
 
 -- it gives the values vs of columns ts
 pub record ReadGives (schema r : List ℕ) (ts : List DataType) (vs : List DataValue) : Type 0 where
-  pub columns : schemaOf (isLong r) schema ≡ ok ts
+  pub columns : schema_of (is_long r) schema ≡ ok ts
   pub many : length vs ≡ length ts
   pub read : (wanted out counts : List ℕ) → WantsAll schema r wanted
-      → readCall schema r wanted out counts ≡ placedBoth out counts (list_of (isLong r) vs) (map (pointsIn r) vs)
+      → read_call schema r wanted out counts ≡ placed_both out counts (list_of (is_long r) vs) (map (points_in r) vs)
 
 module _ (schema a b : List ℕ) where
   -- "the first row, then [..] the second"
@@ -52,10 +52,10 @@ module _ (schema a b : List ℕ) where
     pub first_read : ReadGives schema a columns first-values
     pub second-read : ReadGives schema b columns second-values
     pub same : (x ≡ true)
-        ↔ ((i : ℕ) → i < length columns → sameContent (length_of (type_at columns i))
+        ↔ ((i : ℕ) → i < length columns → same_content (length_of (type_at columns i))
         (get_or first-values i Null) (text_of a (get_or first-values i Null))
         (get_or second-values i Null) (text_of b (get_or second-values i Null)) ≡ true)
 
   pub record SameAsRead : Type 0 where
-    pub refuses : (e : Refusal) → (sameCall schema a b ≡ Refused e) ↔ RefusedAs e
-    pub tells : (x : Bool) → sameCall schema a b ≡ Is x → ComparedBy x
+    pub refuses : (e : Refusal) → (same_call schema a b ≡ Refused e) ↔ RefusedAs e
+    pub tells : (x : Bool) → same_call schema a b ≡ Is x → ComparedBy x

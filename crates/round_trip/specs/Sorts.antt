@@ -4,30 +4,30 @@ use Rattle.std.specs.Int.{w8}
 use Rattle.std.proofs.Common.{Fits}
 use Rattle.error.specs.declared.Flag.TheVariants.{Is}
 use Rattle.error.specs.Result.{ok}
-use Rattle.row_format.specs.Header.{isLong}
+use Rattle.row_format.specs.Header.{is_long}
 use Rattle.datatype.specs.declared.DataType.{DataType}
-use Rattle.datatype.specs.Schema.{schemaOf}
-use Rattle.row_same.specs.Rows.{sameCall}
+use Rattle.datatype.specs.Schema.{schema_of}
+use Rattle.row_same.specs.Rows.{same_call}
 use Rattle.row_build.specs.Built.{Built}
 use Rattle.round_trip.specs.ReadBack.{row}
 
 -- "2 [..] use the greater limit for the long sort": a schema that is good for short rows is good for long ones, with
 -- the same columns
 abbrev pub ShortIsLong : List ℕ → Type 0
-ShortIsLong schema = (ts : List DataType) → schemaOf false schema ≡ ok ts → schemaOf true schema ≡ ok ts
+ShortIsLong schema = (ts : List DataType) → schema_of false schema ≡ ok ts → schema_of true schema ≡ ok ts
 
 -- "The caller chooses short or long when a row is made": the mark of a built row tells the sort it was built as
 abbrev pub OfItsSort : {sort : Bool} {schema list area out : List ℕ} {n : ℕ} {after : List ℕ}
     (b : Built sort schema list area out n after) → Type 0
-OfItsSort {sort = sort} b = isLong (row b) ≡ sort
+OfItsSort {sort = sort} b = is_long (row b) ≡ sort
 
 -- "A long row [..] has four bytes for each offset; all else keeps its order": a short row and its long twin, built of
 -- one value list and one text area, have the same content, either way round
 module _ {schema list area out : List ℕ} {n : ℕ} {after : List ℕ} (b : Built false schema list area out n after)
     {out' : List ℕ} {n' : ℕ} {after' : List ℕ} (b' : Built true schema list area out' n' after') where
   pub record SameTwins : Type 0 where
-    pub short-first : sameCall schema (row b) (row b') ≡ Is true
-    pub long-first : sameCall schema (row b') (row b) ≡ Is true
+    pub short-first : same_call schema (row b) (row b') ≡ Is true
+    pub long-first : same_call schema (row b') (row b) ≡ Is true
 
   -- where the value list is a list of bytes
   abbrev pub Twins : Type 0

@@ -7,15 +7,15 @@ use native.Mathlib.Omega.{arith}
 use borrow.Author.Tests.{lt-leb}
 use lib.ListN.{length, take, drop, length-drop}
 use Rattle.laws.proofs.Parts.{part-all, part_none}
-use Rattle.row_format.specs.Places.{bitmapStart}
-use Rattle.row_format.specs.Edit.{bitEdit}
+use Rattle.row_format.specs.Places.{bitmap_start}
+use Rattle.row_format.specs.Edit.{bit_edit}
 use Rattle.null_bitmap.specs.declared.BitAnswer.{BitAnswer}
-use Rattle.null_bitmap.specs.InnerBitmap.{flagPut}
+use Rattle.null_bitmap.specs.InnerBitmap.{flag_put}
 
-pub bit-cleared : (out : List ℕ) (n i : ℕ) (r : BitAnswer) (x : List ℕ) {b : ℕ} → b ≡ bitmapStart → i < n
-    → bitmapStart + i / 8 < length out → (r, x) ≡ flagPut 0 n i (take (length out - b) (drop b out))
-    → take b out ++ (x ++ drop (length out - b) (drop b out)) ≡ bitEdit i (some []) out
-bit-cleared out n i r x b-is h k f =
+pub bit_cleared : (out : List ℕ) (n i : ℕ) (r : BitAnswer) (x : List ℕ) {b : ℕ} → b ≡ bitmap_start → i < n
+    → bitmap_start + i / 8 < length out → (r, x) ≡ flag_put 0 n i (take (length out - b) (drop b out))
+    → take b out ++ (x ++ drop (length out - b) (drop b out)) ≡ bit_edit i (some []) out
+bit_cleared out n i r x b-is h k f =
     let e = rw b-is at f in
     let long : i / 8 < length (drop 4 out) = rw length-drop (omega arith) in
     let p = rw (part-all out 4, lt-leb n i h, lt-leb (length (drop 4 out)) (i / 8) long) at e in

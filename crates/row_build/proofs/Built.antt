@@ -11,25 +11,25 @@ use lib.Seq.{sets}
 use Rattle.error.specs.declared.Refusal.TheVariants.{RowLimit, NoRoom}
 use Rattle.error.specs.declared.Answer.{Answer}
 use Rattle.error.specs.declared.Answer.TheVariants as Answer
-use Rattle.error.specs.Answer.{Outcome, unchanged, placed, Counted, unchangedBoth, placedBoth}
-use Rattle.error.specs.Result.{Result, ok, refused, onResult}
+use Rattle.error.specs.Answer.{Outcome, unchanged, placed, Counted, unchanged_both, placed_both}
+use Rattle.error.specs.Result.{Result, ok, refused, on_result}
 use Rattle.laws.specs.InnerForall.{Forall₂}
 use Rattle.laws.proofs.Bytes.{part-stored}
-use Rattle.row_format.specs.Places.{offsetWidth, rowLimit}
+use Rattle.row_format.specs.Places.{offset_width, row_limit}
 use Rattle.row_format.specs.Table.{Cell}
-use Rattle.row_format.specs.Row.{packedMarks, builtRow}
-use Rattle.row_format.proofs.Cells.{built-inj}
-use Rattle.row_format.proofs.Sorts.{fits-limit}
+use Rattle.row_format.specs.Row.{packed_marks, built_row}
+use Rattle.row_format.proofs.Cells.{built_inj}
+use Rattle.row_format.proofs.Sorts.{fits_limit}
 use Rattle.row_format.specs.InnerRow.{FitsCell}
 use Rattle.datatype.specs.declared.DataType.{DataType}
 use Rattle.datatype.specs.Types.{shape_of}
-use Rattle.datatype.specs.Schema.{Parsed, schemaOf}
-use Rattle.datatype.specs.Check.{columnsOf}
+use Rattle.datatype.specs.Schema.{Parsed, schema_of}
+use Rattle.datatype.specs.Check.{columns_of}
 use Rattle.value.specs.declared.DataValue.{DataValue}
 use Rattle.value_list.specs.Lists.{Values, checked}
 use Rattle.value_list.proofs.Lists.{checked-taken}
-use Rattle.row_build.specs.Cells.{cellsFrom}
-use Rattle.row_build.specs.Build.{rowPlacedBoth, cellsPoints, buildValues, buildRow}
+use Rattle.row_build.specs.Cells.{cells_from}
+use Rattle.row_build.specs.Build.{row_placed_both, cells_points, build_values, build_row}
 use Rattle.row_build.specs.Built.{Built, DoneBuild, DoneIsBuilt, EqualRows}
 use Rattle.row_build.proofs.Cells.{cells_fit}
 use Rattle.row_build.proofs.Counting.{many-points}
@@ -39,9 +39,9 @@ abbrev pub IsDone : {B : Type 0} → Answer × B → Type 0
 IsDone (Answer.Done n, b) = Unit {0}
 IsDone (Answer.Refused e, b) = ⊥
 
-abbrev doneIn : {B : Type 0} → Answer × B → ℕ
-doneIn (Answer.Done n, b) = n
-doneIn (Answer.Refused e, b) = 0
+abbrev done_in : {B : Type 0} → Answer × B → ℕ
+done_in (Answer.Done n, b) = n
+done_in (Answer.Refused e, b) = 0
 
 -- what a result x leaves of the output
 pub record Placed (out x : List ℕ) (n : ℕ) (after : List ℕ) : Type 0 where
@@ -62,25 +62,25 @@ is-placed out x k m s =
     record { size = m; room = h; stored = s; part = rw (s, m) (part-stored out 0 x (omega arith)) }
 
 pub placed-done : (out x : List ℕ) {n : ℕ} {after : List ℕ} → placed out x ≡ (Answer.Done n, after) → Placed out x n after
-placed-done out x {n} {after} e = by-room (ltb (length out) (length x)) refl e
+placed-done out x {n} {after} e = by_room (ltb (length out) (length x)) refl e
   where
-    by-room : (t : Bool) → ltb (length out) (length x) ≡ t
+    by_room : (t : Bool) → ltb (length out) (length x) ≡ t
         → ◌≡◌ {A = Outcome} (cond t (unchanged out NoRoom) (Answer.Done (length x), sets out 0 x)) (Answer.Done n, after)
         → Placed out x n after
-    by-room true k p = absurd (subst IsDone (sym p) tt)
-    by-room false k p = is-placed out x k (sym (ap doneIn p)) (sym (ap (λ (z : Outcome). z.1) p))
+    by_room true k p = absurd (subst IsDone (sym p) tt)
+    by_room false k p = is-placed out x k (sym (ap done_in p)) (sym (ap (λ (z : Outcome). z.1) p))
 
-pub placed-both-done : (out counts x ns : List ℕ) {n : ℕ} {after numbers : List ℕ} → placedBoth out counts x ns ≡ (Answer.Done n, (after, numbers)) → PlacedBoth out counts x ns n after numbers
-placed-both-done out counts x ns {n} {after} {numbers} e = by-room (ltb (length out) (length x)) (ltb (length counts) (length ns)) refl refl e
+pub placed-both-done : (out counts x ns : List ℕ) {n : ℕ} {after numbers : List ℕ} → placed_both out counts x ns ≡ (Answer.Done n, (after, numbers)) → PlacedBoth out counts x ns n after numbers
+placed-both-done out counts x ns {n} {after} {numbers} e = by_room (ltb (length out) (length x)) (ltb (length counts) (length ns)) refl refl e
   where
-    by-room : (t u : Bool) → ltb (length out) (length x) ≡ t → ltb (length counts) (length ns) ≡ u
-        → ◌≡◌ {A = Counted} (cond (t || u) (unchangedBoth out counts NoRoom) (Answer.Done (length x), (sets out 0 x, sets counts 0 ns))) (Answer.Done n, (after, numbers))
+    by_room : (t u : Bool) → ltb (length out) (length x) ≡ t → ltb (length counts) (length ns) ≡ u
+        → ◌≡◌ {A = Counted} (cond (t || u) (unchanged_both out counts NoRoom) (Answer.Done (length x), (sets out 0 x, sets counts 0 ns))) (Answer.Done n, (after, numbers))
         → PlacedBoth out counts x ns n after numbers
-    by-room true u k l p = absurd (subst IsDone (sym p) tt)
-    by-room false true k l p = absurd (subst IsDone (sym p) tt)
-    by-room false false k l p =
+    by_room true u k l p = absurd (subst IsDone (sym p) tt)
+    by_room false true k l p = absurd (subst IsDone (sym p) tt)
+    by_room false false k l p =
         record {
-          bytes = is-placed out x k (sym (ap doneIn p)) (sym (ap (λ (z : Counted). z.1.0) p));
+          bytes = is-placed out x k (sym (ap done_in p)) (sym (ap (λ (z : Counted). z.1.0) p));
           enough = ltb-false (length counts) (length ns) l;
           put = sym (ap (λ (z : Counted). z.1.1) p);
         }
@@ -89,23 +89,23 @@ module _ (k : Bool) (schema list area out counts : List ℕ) (n : ℕ) (after nu
   abbrev Goal : Type 0
   Goal = DoneBuild k schema list area out counts n after numbers
 
-  of-cells : (ts : List DataType) → schemaOf k schema ≡ ok ts → (vs : List DataValue) → checked k (length ts) (length area) list ≡ ok vs
-      → (q : Result (List Cell)) → cellsFrom 0 ts vs area ≡ q
-      → onResult q (unchangedBoth out counts) (λ cs. rowPlacedBoth k out counts (builtRow (offsetWidth k) (packedMarks k) (map shape_of ts) cs) (cellsPoints ts cs)) ≡ (Answer.Done n, (after, numbers)) → Goal
-  of-cells ts e vs f (refused u) g o = absurd (subst IsDone (sym o) tt)
-  of-cells ts e vs f (ok cs) g o = by-limit (ltb (rowLimit k) (length r)) refl o
+  of_cells : (ts : List DataType) → schema_of k schema ≡ ok ts → (vs : List DataValue) → checked k (length ts) (length area) list ≡ ok vs
+      → (q : Result (List Cell)) → cells_from 0 ts vs area ≡ q
+      → on_result q (unchanged_both out counts) (λ cs. row_placed_both k out counts (built_row (offset_width k) (packed_marks k) (map shape_of ts) cs) (cells_points ts cs)) ≡ (Answer.Done n, (after, numbers)) → Goal
+  of_cells ts e vs f (refused u) g o = absurd (subst IsDone (sym o) tt)
+  of_cells ts e vs f (ok cs) g o = by_limit (ltb (row_limit k) (length r)) refl o
     where
       r : List ℕ
-      r = builtRow (offsetWidth k) (packedMarks k) (map shape_of ts) cs
+      r = built_row (offset_width k) (packed_marks k) (map shape_of ts) cs
 
-      many : length (cellsPoints ts cs) ≡ length ts
+      many : length (cells_points ts cs) ≡ length ts
       many = many-points ts vs area g (checked-taken k (length ts) (length area) list f).count
 
-      by-limit : (t : Bool) → ltb (rowLimit k) (length r) ≡ t
-          → cond t (unchangedBoth out counts RowLimit) (placedBoth out counts r (cellsPoints ts cs)) ≡ (Answer.Done n, (after, numbers)) → Goal
-      by-limit true l p = absurd (subst IsDone (sym p) tt)
-      by-limit false l p =
-          let q = placed-both-done out counts r (cellsPoints ts cs) p in
+      by_limit : (t : Bool) → ltb (row_limit k) (length r) ≡ t
+          → cond t (unchanged_both out counts RowLimit) (placed_both out counts r (cells_points ts cs)) ≡ (Answer.Done n, (after, numbers)) → Goal
+      by_limit true l p = absurd (subst IsDone (sym p) tt)
+      by_limit false l p =
+          let q = placed-both-done out counts r (cells_points ts cs) p in
           let x = q.bytes in
           record {
             built =
@@ -117,7 +117,7 @@ module _ (k : Bool) (schema list area out counts : List ℕ) (n : ℕ) (after nu
                   cells = cs;
                   cells-good = g;
                   size = x.size;
-                  short = rw x.size (ltb-false (rowLimit k) (length r) l);
+                  short = rw x.size (ltb-false (row_limit k) (length r) l);
                   room = rw x.size x.room;
                   stored = x.stored;
                   row = x.part;
@@ -125,41 +125,41 @@ module _ (k : Bool) (schema list area out counts : List ℕ) (n : ℕ) (after nu
             counted = record { many = many; enough = rw many at q.enough; put = q.put };
           }
 
-  of_values : (ts : List DataType) → schemaOf k schema ≡ ok ts → (q : Values) → checked k (length ts) (length area) list ≡ q
-      → onResult q (unchangedBoth out counts) (λ vs. buildValues k ts vs area out counts) ≡ (Answer.Done n, (after, numbers)) → Goal
+  of_values : (ts : List DataType) → schema_of k schema ≡ ok ts → (q : Values) → checked k (length ts) (length area) list ≡ q
+      → on_result q (unchanged_both out counts) (λ vs. build_values k ts vs area out counts) ≡ (Answer.Done n, (after, numbers)) → Goal
   of_values ts e (refused u) f o = absurd (subst IsDone (sym o) tt)
-  of_values ts e (ok vs) f o = of-cells ts e vs f (cellsFrom 0 ts vs area) refl o
+  of_values ts e (ok vs) f o = of_cells ts e vs f (cells_from 0 ts vs area) refl o
 
-  of-schema : (q : Parsed) → schemaOf k schema ≡ q → onResult q (unchangedBoth out counts) (λ ts. buildRow k ts list area out counts) ≡ (Answer.Done n, (after, numbers)) → Goal
-  of-schema (refused u) e o = absurd (subst IsDone (sym o) tt)
-  of-schema (ok ts) e o = of_values ts e (checked k (length ts) (length area) list) refl o
+  of_schema : (q : Parsed) → schema_of k schema ≡ q → on_result q (unchanged_both out counts) (λ ts. build_row k ts list area out counts) ≡ (Answer.Done n, (after, numbers)) → Goal
+  of_schema (refused u) e o = absurd (subst IsDone (sym o) tt)
+  of_schema (ok ts) e o = of_values ts e (checked k (length ts) (length area) list) refl o
 
 pub built : (k : Bool) (schema list area out counts : List ℕ) → DoneIsBuilt k schema list area out counts
-built k schema list area out counts n after numbers o = of-schema k schema list area out counts n after numbers (schemaOf k schema) refl o
+built k schema list area out counts n after numbers o = of_schema k schema list area out counts n after numbers (schema_of k schema) refl o
 
 -- ---- equal rows
 
-cells-suit : {k : Bool} {schema list area out : List ℕ} {n : ℕ} {after : List ℕ} (b : Built k schema list area out n after)
+cells_suit : {k : Bool} {schema list area out : List ℕ} {n : ℕ} {after : List ℕ} (b : Built k schema list area out n after)
     → Forall₂ FitsCell (map shape_of b.columns) b.cells
-cells-suit {k} {schema} {list} {area} b =
+cells_suit {k} {schema} {list} {area} b =
     cells_fit area 0 b.columns b.given b.cells-good
     (checked-taken k (length b.columns) (length area) list b.list-good).count
 
 module _ {k : Bool} {schema list area out : List ℕ} {n : ℕ} {after : List ℕ} (b : Built k schema list area out n after)
     {list' area' out' : List ℕ} {n' : ℕ} {after' : List ℕ} (b' : Built k schema list' area' out' n' after') where
   same-columns : b.columns ≡ b'.columns
-  same-columns = ap columnsOf (sym b.schema-good ∙ b'.schema-good)
+  same-columns = ap columns_of (sym b.schema-good ∙ b'.schema-good)
 
-  row_out : take n' after' ≡ builtRow (offsetWidth k) (packedMarks k) (map shape_of b.columns) b'.cells
-  row_out = b'.row ∙ ap (λ (ts : List DataType). builtRow (offsetWidth k) (packedMarks k) (map shape_of ts) b'.cells) (sym same-columns)
+  row_out : take n' after' ≡ built_row (offset_width k) (packed_marks k) (map shape_of b.columns) b'.cells
+  row_out = b'.row ∙ ap (λ (ts : List DataType). built_row (offset_width k) (packed_marks k) (map shape_of ts) b'.cells) (sym same-columns)
 
   same_rows : b.cells ≡ b'.cells → take n after ≡ take n' after'
-  same_rows e = b.row ∙ ap (builtRow (offsetWidth k) (packedMarks k) (map shape_of b.columns)) e ∙ sym row_out
+  same_rows e = b.row ∙ ap (built_row (offset_width k) (packed_marks k) (map shape_of b.columns)) e ∙ sym row_out
 
   same-cells : take n after ≡ take n' after' → b.cells ≡ b'.cells
   same-cells e =
-      let f' = cells-suit b' in
-      built-inj (offsetWidth k) (packedMarks k) (cells-suit b) (rw (← same-columns) at f') (rw (← b.size) (fits-limit k b.short)) (sym b.row ∙ e ∙ row_out)
+      let f' = cells_suit b' in
+      built_inj (offset_width k) (packed_marks k) (cells_suit b) (rw (← same-columns) at f') (rw (← b.size) (fits_limit k b.short)) (sym b.row ∙ e ∙ row_out)
 
   pub same-built : EqualRows b b'
   same-built = (same-cells, same_rows)

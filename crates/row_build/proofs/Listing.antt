@@ -6,8 +6,8 @@ use borrow.Author.Tests.{eq-eqb, le-ltb}
 use lib.ListN.{length}
 use Rattle.error.specs.declared.Refusal.{Refusal}
 use Rattle.error.specs.declared.Refusal.TheVariants.{NoRoom}
-use Rattle.error.specs.Result.{ok, refused, onResult}
-use Rattle.row_format.specs.Places.{rowLimit}
+use Rattle.error.specs.Result.{ok, refused, on_result}
+use Rattle.row_format.specs.Places.{row_limit}
 use Rattle.row_layout.specs.declared.RowLayout.{RowLayout}
 use Rattle.datatype.specs.Check.{types_in}
 use Rattle.value.specs.declared.DataValue.{DataValue}
@@ -18,48 +18,48 @@ use Rattle.value_list.proofs.Lists.{Taken, checked-taken}
 use Rattle.value_list.specs.InnerLists.{answer}
 use Rattle.datatype.proofs.Again.{columns-all}
 use Rattle.datatype.specs.InnerCheck.{Accepted}
-use Rattle.row_build.specs.InnerSteps.{valuesGiven, valuesIn, Buildable}
+use Rattle.row_build.specs.InnerSteps.{values_given, values_in, Buildable}
 
-abbrev reasonIn : ListCheck → Refusal
-reasonIn Check.Good = NoRoom
-reasonIn (Check.Refused e) = e
+abbrev reason_in : ListCheck → Refusal
+reason_in Check.Good = NoRoom
+reason_in (Check.Refused e) = e
 
 abbrev IsGood : ListCheck → Type 0
 IsGood Check.Good = Unit {0}
 IsGood (Check.Refused e) = ⊥
 
-good-values : (q : Values) → answer q ≡ Check.Good → q ≡ ok (valuesGiven q)
+good-values : (q : Values) → answer q ≡ Check.Good → q ≡ ok (values_given q)
 good-values (ok vs) e = refl
 good-values (refused u) e = absurd (subst IsGood (sym e) tt)
 
-refused-values : {A : Type 0} (q : Values) {e : Refusal} (bad : Refusal → A) (k : List DataValue → A) → answer q ≡ Check.Refused e → bad e ≡ onResult q bad k
+refused-values : {A : Type 0} (q : Values) {e : Refusal} (bad : Refusal → A) (k : List DataValue → A) → answer q ≡ Check.Refused e → bad e ≡ on_result q bad k
 refused-values (ok vs) bad k f = absurd (subst IsGood f tt)
-refused-values (refused u) bad k f = ap bad (sym (ap reasonIn f))
+refused-values (refused u) bad k f = ap bad (sym (ap reason_in f))
 
 module _ {s : List ℕ} {l : RowLayout} (a : Accepted s l) (list area : List ℕ) {c : ListCheck} (e : c ≡ answer (checked l.is_long l.num_columns (length area) list)) where
   abbrev said : Values
   said = checked l.is_long (length (types_in s)) (length area) list
 
-  said-is : c ≡ answer said
-  said-is = e ∙ ap (λ (n : ℕ). answer (checked l.is_long n (length area) list)) (columns-all a)
+  said_is : c ≡ answer said
+  said_is = e ∙ ap (λ (n : ℕ). answer (checked l.is_long n (length area) list)) (columns-all a)
 
-  pub on-list-refused : {A : Type 0} {u : Refusal} (bad : Refusal → A) (k : List DataValue → A) → c ≡ Check.Refused u → bad u ≡ onResult said bad k
-  on-list-refused bad k f = refused-values said bad k (sym said-is ∙ f)
+  pub on_list-refused : {A : Type 0} {u : Refusal} (bad : Refusal → A) (k : List DataValue → A) → c ≡ Check.Refused u → bad u ≡ on_result said bad k
+  on_list-refused bad k f = refused-values said bad k (sym said_is ∙ f)
 
   module _ (f : c ≡ Check.Good) where
-    taken : Taken l.is_long (length (types_in s)) (length area) list (valuesGiven said)
-    taken = checked-taken l.is_long (length (types_in s)) (length area) list (good-values said (sym said-is ∙ f))
+    taken : Taken l.is_long (length (types_in s)) (length area) list (values_given said)
+    taken = checked-taken l.is_long (length (types_in s)) (length area) list (good-values said (sym said_is ∙ f))
 
-    same-values : valuesIn list ≡ valuesGiven said
-    unfolding valuesIn
-    same-values = ap valuesGiven taken.all
+    same-values : values_in list ≡ values_given said
+    unfolding values_in
+    same-values = ap values_given taken.all
 
     pub listed : Buildable s l list area
     listed = record { accepted = a; taken = taken.all ∙ ap ok (sym same-values); count = ap length same-values ∙ taken.count; short = taken.short }
 
 -- and of a list that is known to be good
 pub on_list : {s : List ℕ} {l : RowLayout} {list area : List ℕ} → Buildable s l list area → {A : Type 0} (bad : Refusal → A) (k : List DataValue → A)
-    → k (valuesIn list) ≡ onResult (checked l.is_long (length (types_in s)) (length area) list) bad k
+    → k (values_in list) ≡ on_result (checked l.is_long (length (types_in s)) (length area) list) bad k
 on_list {s} {l} {list} {area} b bad k =
-    sym (ap (λ (q : Values). onResult (judged l.is_long (length (types_in s)) (length area) (length list) q) bad k) b.taken
-    ∙ rw (eq-eqb (length (valuesIn list)) (length (types_in s)) b.count, le-ltb (rowLimit l.is_long) (length area) b.short))
+    sym (ap (λ (q : Values). on_result (judged l.is_long (length (types_in s)) (length area) (length list) q) bad k) b.taken
+    ∙ rw (eq-eqb (length (values_in list)) (length (types_in s)) b.count, le-ltb (row_limit l.is_long) (length area) b.short))

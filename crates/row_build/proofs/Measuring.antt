@@ -12,39 +12,39 @@ use Rattle.error.specs.declared.Answer.TheVariants as Answer
 use Rattle.error.specs.Result.{Result, ok, refused, before}
 use Rattle.row_format.specs.declared.Shape.{Shape}
 use Rattle.row_format.specs.declared.Shape.TheVariants.{Fixed, Varlen}
-use Rattle.row_format.specs.Places.{rowLimit}
+use Rattle.row_format.specs.Places.{row_limit}
 use Rattle.row_format.specs.Table.{Cell, bytes, payloads}
-use Rattle.row_format.specs.Row.{varlenCells}
+use Rattle.row_format.specs.Row.{varlen_cells}
 use Rattle.row_format.proofs.Sorts.{table-le}
 use Rattle.row_layout.specs.declared.RowLayout.{RowLayout}
-use Rattle.row_layout.specs.InnerLayout.{minimumOf}
+use Rattle.row_layout.specs.InnerLayout.{minimum_of}
 use Rattle.datatype.specs.declared.DataType.{DataType}
-use Rattle.datatype.specs.Types.{size_of, alignmentOf, isVarlen, shape_of}
+use Rattle.datatype.specs.Types.{size_of, alignment_of, is_varlen, shape_of}
 use Rattle.datatype.specs.Check.{types_in}
 use Rattle.datatype.proofs.Again.{columns-all}
-use Rattle.datatype.proofs.Walk.{not-refused}
+use Rattle.datatype.proofs.Walk.{not_refused}
 use Rattle.datatype.specs.InnerCheck.{Accepted}
 use Rattle.value.specs.declared.DataValue.{DataValue}
-use Rattle.value_list.specs.Records.{bodyLength}
+use Rattle.value_list.specs.Records.{body_length}
 use Rattle.value_list.specs.Lists.{values_of}
 use Rattle.value_list.proofs.Records.{given}
-use Rattle.record_slot.specs.Stored.{cellIn}
-use Rattle.row_build.specs.Cells.{onCell, cellsFrom}
-use Rattle.record_slot.specs.InnerSteps.{length_at, Readable, afterColumn, payloadIn, Given, ReadAt, payloadAdded, payloadAnswer, Short}
-use Rattle.row_build.specs.InnerSteps.{valuesGiven, valuesIn, Buildable, measured, Lengthed}
+use Rattle.record_slot.specs.Stored.{cell_in}
+use Rattle.row_build.specs.Cells.{on_cell, cells_from}
+use Rattle.record_slot.specs.InnerSteps.{length_at, Readable, after_column, payload_in, Given, ReadAt, payload_added, payload_answer, Short}
+use Rattle.row_build.specs.InnerSteps.{values_given, values_in, Buildable, measured, Lengthed}
 use Rattle.record_slot.proofs.Held.{some-length, no_length, read_at}
-use Rattle.row_build.proofs.Prefix.{Prefix, prefix-start, prefix-next, prefix-more, prefix-end}
-use Rattle.row_build.proofs.Walk.{Columns, column-there, columns-next, IsValue, readable, Together, together-start, types-split, values-split, together-next}
+use Rattle.row_build.proofs.Prefix.{Prefix, prefix_start, prefix_next, prefix_more, prefix_end}
+use Rattle.row_build.proofs.Walk.{Columns, column_there, columns-next, IsValue, readable, Together, together-start, types_split, values-split, together-next}
 
 -- ---- a column more
 
 payload-first : (t : DataType) (b : Bool) (ss : List Shape) (c : Cell) (cs : List Cell)
-    → length (payloads (varlenCells (cond b Varlen (Fixed (size_of t) (alignmentOf t)) ∷ ss) (c ∷ cs))) ≡ cond b (length (bytes c)) 0 + length (payloads (varlenCells ss cs))
-payload-first t true ss c cs = length-append (bytes c) (payloads (varlenCells ss cs))
+    → length (payloads (varlen_cells (cond b Varlen (Fixed (size_of t) (alignment_of t)) ∷ ss) (c ∷ cs))) ≡ cond b (length (bytes c)) 0 + length (payloads (varlen_cells ss cs))
+payload-first t true ss c cs = length-append (bytes c) (payloads (varlen_cells ss cs))
 payload-first t false ss c cs = omega arith
 
-measured-more : (m : ℕ) (t : DataType) (ts : List DataType) (c : Cell) (q : Result (List Cell)) → measured m (t ∷ ts) (before c q) ≡ measured (m + payloadAdded t c) ts q
-measured-more m t ts c (ok cs) = ap Answer.Done (ap (λ (n : ℕ). m + n) (payload-first t (isVarlen t) (map shape_of ts) c cs) ∙ sym (add_assoc m (payloadAdded t c) (length (payloads (varlenCells (map shape_of ts) cs)))))
+measured-more : (m : ℕ) (t : DataType) (ts : List DataType) (c : Cell) (q : Result (List Cell)) → measured m (t ∷ ts) (before c q) ≡ measured (m + payload_added t c) ts q
+measured-more m t ts c (ok cs) = ap Answer.Done (ap (λ (n : ℕ). m + n) (payload-first t (is_varlen t) (map shape_of ts) c cs) ∙ sym (add_assoc m (payload_added t c) (length (payloads (varlen_cells (map shape_of ts) cs)))))
 measured-more m t ts c (refused e) = refl
 
 -- what an answer says
@@ -57,11 +57,11 @@ IsDone (Answer.Done n) = Unit {0}
 IsDone (Answer.Refused e) = ⊥
 
 module _ (m : ℕ) (t : DataType) (ts : List DataType) (rest : Result (List Cell)) where
-  counted-more : {n : ℕ} (q : Result Cell) → payloadAnswer t q ≡ Answer.Done n → measured m (t ∷ ts) (onCell q rest) ≡ measured (m + n) ts rest
+  counted-more : {n : ℕ} (q : Result Cell) → payload_answer t q ≡ Answer.Done n → measured m (t ∷ ts) (on_cell q rest) ≡ measured (m + n) ts rest
   counted-more (ok c) e = measured-more m t ts c rest ∙ ap (λ (k : ℕ). measured (m + k) ts rest) (ap counted e)
   counted-more (refused u) e = absurd (subst IsDone (sym e) tt)
 
-  counted-bad : {u : Refusal} (q : Result Cell) → payloadAnswer t q ≡ Answer.Refused u → measured m (t ∷ ts) (onCell q rest) ≡ Answer.Refused u
+  counted-bad : {u : Refusal} (q : Result Cell) → payload_answer t q ≡ Answer.Refused u → measured m (t ∷ ts) (on_cell q rest) ≡ Answer.Refused u
   counted-bad (ok c) e = absurd (subst IsDone e tt)
   counted-bad (refused u) e = e
 
@@ -69,62 +69,62 @@ module _ (m : ℕ) (t : DataType) (ts : List DataType) (rest : Result (List Cell
 
 pub record Measuring (s : List ℕ) (l : RowLayout) (list area : List ℕ) (size i at from : ℕ) : Type 0 where
   pub walk : Together s list i at from
-  pub rest : measured size (drop i (types_in s)) (cellsFrom i (drop i (types_in s)) (drop i (valuesIn list)) area) ≡ measured (minimumOf l true) (types_in s) (cellsFrom 0 (types_in s) (valuesIn list) area)
-  pub bound : size ≤ minimumOf l true + 1048576 * i
+  pub rest : measured size (drop i (types_in s)) (cells_from i (drop i (types_in s)) (drop i (values_in list)) area) ≡ measured (minimum_of l true) (types_in s) (cells_from 0 (types_in s) (values_in list) area)
+  pub bound : size ≤ minimum_of l true + 1048576 * i
 
 module _ {s : List ℕ} {l : RowLayout} {list area : List ℕ} (b : Buildable s l list area) where
-  pub measure-start : Measuring s l list area (minimumOf l true) 0 0 0
-  measure-start = record { walk = together-start b; rest = refl; bound = omega arith }
+  pub measure_start : Measuring s l list area (minimum_of l true) 0 0 0
+  measure_start = record { walk = together-start b; rest = refl; bound = omega arith }
 
   -- a column that is left
   pub left : {i : ℕ} → i < l.num_columns → i < length (types_in s)
   left h = omega (arith, columns-all b.accepted)
 
   module _ {size i at from : ℕ} (k : Measuring s l list area size i at from) where
-    pub measure-end : l.num_columns ≤ i → Answer.Done size ≡ measured (minimumOf l true) (types_in s) (cellsFrom 0 (types_in s) (valuesIn list) area)
-    measure-end h =
+    pub measure_end : l.num_columns ≤ i → Answer.Done size ≡ measured (minimum_of l true) (types_in s) (cells_from 0 (types_in s) (values_in list) area)
+    measure_end h =
         let none : drop i (types_in s) ≡ [] = drop_of_length-le (types_in s) {i = i} (omega (arith, columns-all b.accepted)) in
         rw (none, add-zero) at k.rest
 
-    module _ (h : i < length (types_in s)) {g : Given} (r : ReadAt s at list from g) (res : Answer) (e : res ≡ payloadAnswer g.ty (cellIn i g.ty g.value area)) where
+    module _ (h : i < length (types_in s)) {g : Given} (r : ReadAt s at list from g) (res : Answer) (e : res ≡ payload_answer g.ty (cell_in i g.ty g.value area)) where
       abbrev others : Result (List Cell)
-      others = cellsFrom (i + 1) (drop (i + 1) (types_in s)) (drop (i + 1) (valuesIn list)) area
+      others = cells_from (i + 1) (drop (i + 1) (types_in s)) (drop (i + 1) (values_in list)) area
 
-      next : measured size (g.ty ∷ drop (i + 1) (types_in s)) (onCell (cellIn i g.ty g.value area) others) ≡ measured (minimumOf l true) (types_in s) (cellsFrom 0 (types_in s) (valuesIn list) area)
-      next = rw (types-split b k.walk h r, values-split b k.walk h r) at k.rest
+      next : measured size (g.ty ∷ drop (i + 1) (types_in s)) (on_cell (cell_in i g.ty g.value area) others) ≡ measured (minimum_of l true) (types_in s) (cells_from 0 (types_in s) (values_in list) area)
+      next = rw (types_split b k.walk h r, values-split b k.walk h r) at k.rest
 
-      pub measure-bad : {u : Refusal} → res ≡ Answer.Refused u → Answer.Refused u ≡ measured (minimumOf l true) (types_in s) (cellsFrom 0 (types_in s) (valuesIn list) area)
-      measure-bad f = sym (counted-bad size g.ty (drop (i + 1) (types_in s)) others (cellIn i g.ty g.value area) (sym e ∙ f)) ∙ next
+      pub measure_bad : {u : Refusal} → res ≡ Answer.Refused u → Answer.Refused u ≡ measured (minimum_of l true) (types_in s) (cells_from 0 (types_in s) (values_in list) area)
+      measure_bad f = sym (counted-bad size g.ty (drop (i + 1) (types_in s)) others (cell_in i g.ty g.value area) (sym e ∙ f)) ∙ next
 
-      pub measure-more : {n : ℕ} → res ≡ Answer.Done n → Short res → Measuring s l list area (size + n) (i + 1) g.next-type g.next-value
-      measure-more {n} f short =
+      pub measure_more : {n : ℕ} → res ≡ Answer.Done n → Short res → Measuring s l list area (size + n) (i + 1) g.next_type g.next-value
+      measure_more {n} f short =
           let few : n ≤ 1048576 = rw f at short in
           record {
             walk = together-next b k.walk h r;
-            rest = sym (counted-more size g.ty (drop (i + 1) (types_in s)) others (cellIn i g.ty g.value area) (sym e ∙ f)) ∙ next;
+            rest = sym (counted-more size g.ty (drop (i + 1) (types_in s)) others (cell_in i g.ty g.value area) (sym e ∙ f)) ∙ next;
             bound = omega (arith, k.bound);
           }
 
 -- ---- the walk while it is not known whether the list is good
 
-values-are : (list : List ℕ) {vs : List DataValue} → values_of list ≡ ok vs → valuesIn list ≡ vs
-unfolding valuesIn
-values-are list g = ap valuesGiven g
+values_are : (list : List ℕ) {vs : List DataValue} → values_of list ≡ ok vs → values_in list ≡ vs
+unfolding values_in
+values_are list g = ap values_given g
 
 pub record Walking (s : List ℕ) (l : RowLayout) (list area : List ℕ) (size i at from : ℕ) : Type 0 where
   pub told : Buildable s l list area → Measuring s l list area size i at from
   pub side : Columns s i at
   pub prefix : Prefix list i from
-  pub bound : size ≤ minimumOf l true + 1048576 * i
-  pub short : length area ≤ rowLimit l.is_long
+  pub bound : size ≤ minimum_of l true + 1048576 * i
+  pub short : length area ≤ row_limit l.is_long
 
 module _ {s : List ℕ} {l : RowLayout} (a : Accepted s l) {list area : List ℕ} where
-  pub walk_start : length area ≤ rowLimit l.is_long → Walking s l list area (minimumOf l true) 0 0 0
+  pub walk_start : length area ≤ row_limit l.is_long → Walking s l list area (minimum_of l true) 0 0 0
   walk_start h =
       record {
-        told = λ b. measure-start b;
+        told = λ b. measure_start b;
         side = record { within = omega arith; columns = a.schema };
-        prefix = prefix-start list;
+        prefix = prefix_start list;
         bound = omega arith;
         short = h;
       }
@@ -139,56 +139,56 @@ module _ {s : List ℕ} {l : RowLayout} (a : Accepted s l) {list area : List ℕ
       walk_none n b = let r = readable b (k.told b).walk h in r.value_there (no_length list from e n r.value)
 
       module _ (n : z ≡ 0 → ⊥) where
-        pub walk-readable : Readable s at list from
-        walk-readable =
+        pub walk_readable : Readable s at list from
+        walk_readable =
             let w = some-length list from e n in
             record {
-              column = column-there k.side h;
-              type-there = λ f. not-refused s at (256 - i) k.side.columns (column-there k.side h) f;
+              column = column_there k.side h;
+              type_there = λ f. not_refused s at (256 - i) k.side.columns (column_there k.side h) f;
               value = w.0;
               value_there = λ f. subst IsValue (sym w.1.0.value ∙ f) tt;
             }
 
-        module _ (res : Answer) (f : res ≡ payloadIn i s at list from area) where
-          pub walk-bad : {u : Refusal} → res ≡ Answer.Refused u → Buildable s l list area → Answer.Refused u ≡ measured (minimumOf l true) (types_in s) (cellsFrom 0 (types_in s) (valuesIn list) area)
-          walk-bad g b = measure-bad b (k.told b) h (read_at walk-readable) res f g
+        module _ (res : Answer) (f : res ≡ payload_in i s at list from area) where
+          pub walk_bad : {u : Refusal} → res ≡ Answer.Refused u → Buildable s l list area → Answer.Refused u ≡ measured (minimum_of l true) (types_in s) (cells_from 0 (types_in s) (values_in list) area)
+          walk_bad g b = measure_bad b (k.told b) h (read_at walk_readable) res f g
 
           module _ {m : ℕ} (g : res ≡ Answer.Done m) (short : Short res) where
             few : m ≤ 1048576
             few = rw g at short
 
             -- far from the machine's limit
-            pub walk-room : size + m ≤ 400000000
-            walk-room =
+            pub walk_room : size + m ≤ 400000000
+            walk_room =
                 let b = a.bounded in
                 let table = table-le l.is_long l.num_varlen_cols (omega (arith, b.few, b.ranked)) in
                 omega (arith, few, k.bound, h, columns-all a, b.few, b.tight, table)
 
-            pub walk_more : Walking s l list area (size + m) (i + 1) (afterColumn s at) (from + z)
+            pub walk_more : Walking s l list area (size + m) (i + 1) (after_column s at) (from + z)
             walk_more =
                 let w = (some-length list from e n).1 in
-                let next : from + z ≡ from + 1 + bodyLength (get_or list from 0) = rw w.1 (given list from w.0.value).place in
+                let next : from + z ≡ from + 1 + body_length (get_or list from 0) = rw w.1 (given list from w.0.value).place in
                 record {
-                  told = λ b. rw next (measure-more b (k.told b) h (read_at walk-readable) res f g short);
-                  side = columns-next k.side h (read_at walk-readable).type-is;
-                  prefix = rw w.1 (prefix-next k.prefix walk-readable.value w.0.value (omega (arith, w.0.some)) w.0.within);
+                  told = λ b. rw next (measure_more b (k.told b) h (read_at walk_readable) res f g short);
+                  side = columns-next k.side h (read_at walk_readable).type_is;
+                  prefix = rw w.1 (prefix_next k.prefix walk_readable.value w.0.value (omega (arith, w.0.some)) w.0.within);
                   bound = omega (arith, few, k.bound);
                   short = k.short;
                 }
 
     module _ (c : l.num_columns ≤ i) where
       -- a good list has no record more
-      pub walk-left : (from ≡ length list → ⊥) → Buildable s l list area → ⊥
-      walk-left n b =
-          let m = prefix-more k.prefix (omega (arith, n, k.prefix.inside)) b.taken in
+      pub walk_left : (from ≡ length list → ⊥) → Buildable s l list area → ⊥
+      walk_left n b =
+          let m = prefix_more k.prefix (omega (arith, n, k.prefix.inside)) b.taken in
           omega (arith, m, c, b.count, columns-all a)
 
       pub walk_end : from ≡ length list → Lengthed s l list area (Answer.Done size)
       walk_end e =
-          let t = prefix-end k.prefix e in
-          let same : valuesIn list ≡ k.prefix.done = values-are list t in
+          let t = prefix_end k.prefix e in
+          let same : values_in list ≡ k.prefix.done = values_are list t in
           record {
-            good = λ b. measure-end b (k.told b) c;
+            good = λ b. measure_end b (k.told b) c;
             done = λ f. record {
               accepted = a;
               taken = t ∙ ap ok (sym same);
@@ -200,5 +200,5 @@ module _ {s : List ℕ} {l : RowLayout} (a : Accepted s l) {list area : List ℕ
   pub no-length-told : {r : Refusal} → (Buildable s l list area → ⊥) → Lengthed s l list area (Answer.Refused r)
   no-length-told n = record { good = λ b. absurd (n b); done = λ f. absurd (subst IsDone (sym f) tt) }
 
-  pub bad-told : {r : Refusal} → (Buildable s l list area → Answer.Refused r ≡ measured (minimumOf l true) (types_in s) (cellsFrom 0 (types_in s) (valuesIn list) area)) → Lengthed s l list area (Answer.Refused r)
+  pub bad-told : {r : Refusal} → (Buildable s l list area → Answer.Refused r ≡ measured (minimum_of l true) (types_in s) (cells_from 0 (types_in s) (values_in list) area)) → Lengthed s l list area (Answer.Refused r)
   bad-told n = record { good = n; done = λ f. absurd (subst IsDone (sym f) tt) }

@@ -9,8 +9,8 @@ use Rattle.error.specs.Result.{ok, refused, before}
 use Rattle.value.specs.declared.DataValue.{DataValue}
 use Rattle.value_list.specs.declared.ValueRecord.{ValueRecord}
 use Rattle.value_list.specs.declared.ValueRecord.TheVariants as Value
-use Rattle.value_list.specs.Records.{recordAt}
-use Rattle.value_list.specs.Lists.{Values, onRecord, records, values_of}
+use Rattle.value_list.specs.Records.{record_at}
+use Rattle.value_list.specs.Lists.{Values, on_record, records, values_of}
 use Rattle.record_slot.proofs.Tests.{IsGood}
 
 -- values, and those that follow or why there are none
@@ -35,22 +35,22 @@ pub record Prefix (list : List ℕ) (i from : ℕ) : Type 0 where
   pub enough : length list ≤ fuel + from
   pub all : values_of list ≡ after done (records fuel list from)
 
-pub prefix-start : (list : List ℕ) → Prefix list 0 0
+pub prefix_start : (list : List ℕ) → Prefix list 0 0
 unfolding values_of
-prefix-start list = record { done = []; count = refl; inside = omega arith; fuel = length list; enough = omega arith; all = after_none (records (length list) list 0) }
+prefix_start list = record { done = []; count = refl; inside = omega arith; fuel = length list; enough = omega arith; all = after_none (records (length list) list 0) }
 
-abbrev valuesIn : Values → List DataValue
-valuesIn (ok vs) = vs
-valuesIn (refused e) = []
+abbrev values_in : Values → List DataValue
+values_in (ok vs) = vs
+values_in (refused e) = []
 
 module _ {list : List ℕ} {i from : ℕ} (p : Prefix list i from) where
   module _ (h : from < length list) where
-    pub prefix-next : {v : DataValue} {next : ℕ} → recordAt list from ≡ Value.Value v next → from < next → next ≤ length list → Prefix list (i + 1) next
-    prefix-next {v} {next} e l m = by-fuel p.fuel refl
+    pub prefix_next : {v : DataValue} {next : ℕ} → record_at list from ≡ Value.Value v next → from < next → next ≤ length list → Prefix list (i + 1) next
+    prefix_next {v} {next} e l m = by_fuel p.fuel refl
       where
-        by-fuel : (f : ℕ) → p.fuel ≡ f → Prefix list (i + 1) next
-        by-fuel zero g = absurd (omega (arith, p.enough, g))
-        by-fuel (suc f) g =
+        by_fuel : (f : ℕ) → p.fuel ≡ f → Prefix list (i + 1) next
+        by_fuel zero g = absurd (omega (arith, p.enough, g))
+        by_fuel (suc f) g =
             record {
               done = p.done ++ (v ∷ []);
               count = length-append p.done (v ∷ []) ∙ omega (arith, p.count);
@@ -61,25 +61,25 @@ module _ {list : List ℕ} {i from : ℕ} (p : Prefix list i from) where
             }
 
     -- so a good list has a value more
-    pub prefix-more : {vs : List DataValue} → values_of list ≡ ok vs → i < length vs
-    prefix-more {vs} e = by-fuel p.fuel refl
+    pub prefix_more : {vs : List DataValue} → values_of list ≡ ok vs → i < length vs
+    prefix_more {vs} e = by_fuel p.fuel refl
       where
-        of-rest : (v : DataValue) (q : Values) → after p.done (before v q) ≡ ok vs → i < length vs
-        of-rest v (ok us) g =
-            let n : length vs ≡ length p.done + suc (length us) = sym (ap (λ (w : Values). length (valuesIn w)) g) ∙ length-append p.done (v ∷ us) in
+        of_rest : (v : DataValue) (q : Values) → after p.done (before v q) ≡ ok vs → i < length vs
+        of_rest v (ok us) g =
+            let n : length vs ≡ length p.done + suc (length us) = sym (ap (λ (w : Values). length (values_in w)) g) ∙ length-append p.done (v ∷ us) in
             omega (arith, n, p.count)
-        of-rest v (refused u) g = absurd (subst IsGood (sym g) tt)
+        of_rest v (refused u) g = absurd (subst IsGood (sym g) tt)
 
-        of-record : (f : ℕ) (q : ValueRecord) → after p.done (onRecord q (records f list)) ≡ ok vs → i < length vs
-        of-record f (Value.Value v next) g = of-rest v (records f list next) g
-        of-record f (Value.Refused u) g = absurd (subst IsGood (sym g) tt)
+        of_record : (f : ℕ) (q : ValueRecord) → after p.done (on_record q (records f list)) ≡ ok vs → i < length vs
+        of_record f (Value.Value v next) g = of_rest v (records f list next) g
+        of_record f (Value.Refused u) g = absurd (subst IsGood (sym g) tt)
 
-        by-fuel : (f : ℕ) → p.fuel ≡ f → i < length vs
-        by-fuel zero g = absurd (omega (arith, p.enough, g))
-        by-fuel (suc f) g = of-record f (recordAt list from) (rw (g, lt-ltb from (length list) h) at (sym p.all ∙ e))
+        by_fuel : (f : ℕ) → p.fuel ≡ f → i < length vs
+        by_fuel zero g = absurd (omega (arith, p.enough, g))
+        by_fuel (suc f) g = of_record f (record_at list from) (rw (g, lt-ltb from (length list) h) at (sym p.all ∙ e))
 
-  pub prefix-end : from ≡ length list → values_of list ≡ ok p.done
-  prefix-end e = p.all ∙ ap (after p.done) (none p.fuel) ∙ ap ok (append-nil p.done)
+  pub prefix_end : from ≡ length list → values_of list ≡ ok p.done
+  prefix_end e = p.all ∙ ap (after p.done) (none p.fuel) ∙ ap ok (append-nil p.done)
     where
       none : (f : ℕ) → records f list from ≡ ok []
       none zero = refl

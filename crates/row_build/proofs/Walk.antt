@@ -12,20 +12,20 @@ use Rattle.laws.proofs.Truths.{cases}
 use Rattle.row_layout.specs.declared.RowLayout.{RowLayout}
 use Rattle.datatype.specs.declared.DataType.{DataType}
 use Rattle.datatype.specs.declared.DataType.TheVariants as T
-use Rattle.datatype.specs.Types.{precisionOf}
+use Rattle.datatype.specs.Types.{precision_of}
 use Rattle.datatype.specs.declared.Record.TheVariants.{Column}
-use Rattle.datatype.specs.Schema.{columnRecordAt, columnRecords}
+use Rattle.datatype.specs.Schema.{column_record_at, column_records}
 use Rattle.datatype.specs.Check.{type_at, types_in}
 use Rattle.datatype.proofs.Records.{few-digits}
-use Rattle.datatype.proofs.Walk.{First, none_left, some_left, not-refused, first-left}
+use Rattle.datatype.proofs.Walk.{First, none_left, some_left, not_refused, first-left}
 use Rattle.value.specs.declared.DataValue.{DataValue}
 use Rattle.value.specs.declared.DataValue.TheVariants.{Null}
 use Rattle.value_list.specs.declared.ValueRecord.{ValueRecord}
 use Rattle.value_list.specs.declared.ValueRecord.TheVariants as Value
 use Rattle.value_list.specs.Lists.{records as valueRecords, values_of}
 use Rattle.value_list.proofs.Lists.{First as FirstValue, records-first}
-use Rattle.record_slot.specs.InnerSteps.{Given, Readable, ReadAt, valueIn}
-use Rattle.row_build.specs.InnerSteps.{valuesIn, Buildable}
+use Rattle.record_slot.specs.InnerSteps.{Given, Readable, ReadAt, value_in}
+use Rattle.row_build.specs.InnerSteps.{values_in, Buildable}
 
 -- value i of a list
 abbrev pub value_at : List DataValue → ℕ → DataValue
@@ -35,31 +35,31 @@ value_at vs i = get_or vs i Null
 
 pub record Columns (s : List ℕ) (i at : ℕ) : Type 0 where
   pub within : i ≤ length (types_in s)
-  pub columns : columnRecords (256 - i) s at ≡ ok (drop i (types_in s))
+  pub columns : column_records (256 - i) s at ≡ ok (drop i (types_in s))
 
 module _ {s : List ℕ} {i at : ℕ} (w : Columns s i at) (h : i < length (types_in s)) where
   abbrev types : List DataType
   types = types_in s
 
-  pub column-there : at < length s
-  column-there =
+  pub column_there : at < length s
+  column_there =
       cases at (length s) (λ k. k)
       (λ k. let none : length (drop i types) ≡ 0 = ap length (none_left s at (256 - i) w.columns k) in
       let gone = rw length-drop at none in
       absurd (omega arith))
 
   few : i < 256
-  few = omega (arith, some_left s at (256 - i) w.columns column-there)
+  few = omega (arith, some_left s at (256 - i) w.columns column_there)
 
-  module _ {t : DataType} {next : ℕ} (e : columnRecordAt s at ≡ Column t next) where
+  module _ {t : DataType} {next : ℕ} (e : column_record_at s at ≡ Column t next) where
     first : First (256 - (i + 1)) s next t (drop i types)
-    first = first-left s at (256 - i) w.columns column-there (256 - (i + 1)) (omega (arith, few)) e
+    first = first-left s at (256 - i) w.columns column_there (256 - (i + 1)) (omega (arith, few)) e
 
     split : t ∷ first.tail ≡ type_at types i ∷ drop (i + 1) types
     split = sym first.split ∙ rw (add-one i) (drop-cons types i (T.Varchar false 0) h)
 
-    pub type-there : t ≡ type_at types i
-    type-there = ap (λ (us : List DataType). get_or us 0 (T.Varchar false 0)) split
+    pub type_there : t ≡ type_at types i
+    type_there = ap (λ (us : List DataType). get_or us 0 (T.Varchar false 0)) split
 
     pub columns-next : Columns s (i + 1) next
     columns-next = record { within = omega arith; columns = first.ahead ∙ ap ok (ap (λ (us : List DataType). drop 1 us) split) }
@@ -69,15 +69,15 @@ module _ {s : List ℕ} {i at : ℕ} (w : Columns s i at) (h : i < length (types
 pub record Together (s list : List ℕ) (i at from : ℕ) : Type 0 where
   pub side : Columns s i at
   pub fuel : ℕ
-  pub given : valueRecords fuel list from ≡ ok (drop i (valuesIn list))
+  pub given : valueRecords fuel list from ≡ ok (drop i (values_in list))
 
 pub together-start : {s : List ℕ} {l : RowLayout} {list area : List ℕ} → Buildable s l list area → Together s list 0 0 0
 unfolding values_of
 together-start {s} {l} {list} b = record { side = record { within = omega arith; columns = b.accepted.schema }; fuel = length list; given = b.taken }
 
-abbrev nextIn : ValueRecord → ℕ
-nextIn (Value.Value v next) = next
-nextIn (Value.Refused e) = 0
+abbrev next_in : ValueRecord → ℕ
+next_in (Value.Value v next) = next
+next_in (Value.Refused e) = 0
 
 abbrev pub IsValue : ValueRecord → Type 0
 IsValue (Value.Value v next) = Unit {0}
@@ -99,7 +99,7 @@ module _ {s : List ℕ} {l : RowLayout} {list area : List ℕ} (b : Buildable s 
   ts = types_in s
 
   abbrev vs : List DataValue
-  vs = valuesIn list
+  vs = values_in list
 
   value-left : Left list from (value_at vs i) (drop (suc i) vs)
   value-left = some-value w.fuel list from (w.given ∙ ap ok (drop-cons vs i Null (rw b.count h)))
@@ -107,35 +107,35 @@ module _ {s : List ℕ} {l : RowLayout} {list area : List ℕ} (b : Buildable s 
   pub readable : Readable s at list from
   readable =
       record {
-        column = column-there w.side h;
-        type-there = λ e. not-refused s at (256 - i) w.side.columns (column-there w.side h) e;
+        column = column_there w.side h;
+        type_there = λ e. not_refused s at (256 - i) w.side.columns (column_there w.side h) e;
         value = value-left.first.within;
         value_there = λ e. subst IsValue (sym value-left.first.first ∙ e) tt;
       }
 
   module _ {g : Given} (r : ReadAt s at list from g) where
-    pub type-given : g.ty ≡ type_at ts i
-    type-given = type-there w.side h r.type-is
+    pub type_given : g.ty ≡ type_at ts i
+    type_given = type_there w.side h r.type_is
 
-    pub digits-given : precisionOf g.ty ≤ 38
-    digits-given = few-digits s at r.type-is
+    pub digits-given : precision_of g.ty ≤ 38
+    digits-given = few-digits s at r.type_is
 
-    same-record : Value.Value g.value g.next-value ≡ Value.Value (value_at vs i) value-left.first.next
-    same-record = sym r.value-is ∙ value-left.first.first
+    same_record : Value.Value g.value g.next-value ≡ Value.Value (value_at vs i) value-left.first.next
+    same_record = sym r.value-is ∙ value-left.first.first
 
     pub value-given : g.value ≡ value_at vs i
-    value-given = ap valueIn same-record
+    value-given = ap value_in same_record
 
-    pub types-split : drop i ts ≡ g.ty ∷ drop (i + 1) ts
-    types-split = rw (type-given, add-one i) (drop-cons ts i (T.Varchar false 0) h)
+    pub types_split : drop i ts ≡ g.ty ∷ drop (i + 1) ts
+    types_split = rw (type_given, add-one i) (drop-cons ts i (T.Varchar false 0) h)
 
     pub values-split : drop i vs ≡ g.value ∷ drop (i + 1) vs
     values-split = rw (value-given, add-one i) (drop-cons vs i Null (rw b.count h))
 
-    pub together-next : Together s list (i + 1) g.next-type g.next-value
+    pub together-next : Together s list (i + 1) g.next_type g.next-value
     together-next =
         record {
-          side = columns-next w.side h r.type-is;
+          side = columns-next w.side h r.type_is;
           fuel = value-left.fuel;
-          given = ap (valueRecords value-left.fuel list) (ap nextIn same-record) ∙ value-left.first.rest ∙ ap (λ (k : ℕ). ok (drop k vs)) (sym (add-one i));
+          given = ap (valueRecords value-left.fuel list) (ap next_in same_record) ∙ value-left.first.rest ∙ ap (λ (k : ℕ). ok (drop k vs)) (sym (add-one i));
         }

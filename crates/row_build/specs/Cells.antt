@@ -4,14 +4,14 @@ use Rattle.error.specs.Result.{Result, ok, refused, before}
 use Rattle.row_format.specs.Table.{Cell}
 use Rattle.datatype.specs.declared.DataType.{DataType}
 use Rattle.value.specs.declared.DataValue.{DataValue}
-use Rattle.record_slot.specs.Stored.{cellIn}
+use Rattle.record_slot.specs.Stored.{cell_in}
 
 -- the cells of columns i, i + 1, ..
-abbrev pub onCell : Result Cell → Result (List Cell) → Result (List Cell)
-onCell (ok c) rest = before c rest
-onCell (refused e) rest = refused e
+abbrev pub on_cell : Result Cell → Result (List Cell) → Result (List Cell)
+on_cell (ok c) rest = before c rest
+on_cell (refused e) rest = refused e
 
-abbrev pub cellsFrom : ℕ → List DataType → List DataValue → List ℕ → Result (List Cell)
-cellsFrom i [] vs area = ok []
-cellsFrom i (t ∷ ts) [] area = ok []
-cellsFrom i (t ∷ ts) (v ∷ vs) area = onCell (cellIn i t v area) (cellsFrom (i + 1) ts vs area)
+abbrev pub cells_from : ℕ → List DataType → List DataValue → List ℕ → Result (List Cell)
+cells_from i [] vs area = ok []
+cells_from i (t ∷ ts) [] area = ok []
+cells_from i (t ∷ ts) (v ∷ vs) area = on_cell (cell_in i t v area) (cells_from (i + 1) ts vs area)

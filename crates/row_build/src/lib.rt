@@ -3,22 +3,22 @@
 ghost use Rattle.std.specs.Prelude.{◌≡◌, ◌+◌, ◌/◌, ◌≤◌, ◌<◌, true, false, [], length};
 ghost use Rattle.std.proofs.Math.Option.{some};
 ghost use Rattle.std.proofs.lemmas.List.Edits.{sets};
-ghost use Rattle.row_layout.specs.InnerLayout.{Bounded, minimumOf};
+ghost use Rattle.row_layout.specs.InnerLayout.{Bounded, minimum_of};
 ghost use Rattle.error.specs.Answer.{placed};
 ghost use Rattle.error.specs.declared.Answer.TheVariants.{Done};
-ghost use Rattle.row_format.specs.Places.{bitmapStart, bitmapSize};
-ghost use Rattle.row_format.specs.Edit.{bitEdit};
-ghost use Rattle.datatype.specs.Schema.{columnRecordAt};
-ghost use Rattle.datatype.specs.InnerSteps.{typeIn};
+ghost use Rattle.row_format.specs.Places.{bitmap_start, bitmap_size};
+ghost use Rattle.row_format.specs.Edit.{bit_edit};
+ghost use Rattle.datatype.specs.Schema.{column_record_at};
+ghost use Rattle.datatype.specs.InnerSteps.{type_in};
 ghost use Rattle.datatype.specs.Check.{types_in};
 ghost use Rattle.datatype.specs.InnerCheck.{Accepted};
 ghost use Rattle.value.specs.Ranges.{part};
-ghost use Rattle.value_list.specs.Records.{recordAt as valueRecordAt};
+ghost use Rattle.value_list.specs.Records.{record_at as valueRecordAt};
 ghost use Rattle.record_slot.specs.Stored.{is_null};
-ghost use Rattle.row_build.specs.Cells.{cellsFrom};
-ghost use Rattle.row_build.specs.Build.{buildValues, buildRow, buildCall, freshCall};
-ghost use Rattle.record_slot.specs.InnerSteps.{Readable, valueIn, formIn, SlotReady};
-ghost use Rattle.row_build.specs.InnerSteps.{null_bits, nullRow, valuesIn, Buildable, measured, Lengthed, fixedStored, varlenStored, columnStored, PayloadReady, BitReady, Storable, rowGiven, countsGiven, Fillable};
+ghost use Rattle.row_build.specs.Cells.{cells_from};
+ghost use Rattle.row_build.specs.Build.{build_values, build_row, build_call, fresh_call};
+ghost use Rattle.record_slot.specs.InnerSteps.{Readable, value_in, form_in, SlotReady};
+ghost use Rattle.row_build.specs.InnerSteps.{null_bits, null_row, values_in, Buildable, measured, Lengthed, fixed_stored, varlen_stored, column_stored, PayloadReady, BitReady, Storable, row_given, counts_given, Fillable};
 
 use datatype::SchemaCheck;
 use error::{Answer, Refusal};
@@ -28,7 +28,7 @@ use value_list::ListCheck;
 
 // n bits that are set, and clear ones up to the end of the last byte.
 fn write_null_bits(out: &mut [u8], at: usize, n: usize)
-    requires { (n ≤ 256) × (at + bitmapSize n ≤ length out.old) }
+    requires { (n ≤ 256) × (at + bitmap_size n ≤ length out.old) }
     ensures { out.new ≡ sets out.old at (null_bits n) }
 {
     let whole = n / 8;
@@ -41,8 +41,8 @@ fn write_null_bits(out: &mut [u8], at: usize, n: usize)
 
 // The row of nulls of a layout, at the front of the output.
 fn write_nulls(layout: RowLayout, out: &mut [u8])
-    requires { Bounded layout × (minimumOf layout true ≤ length out.old) }
-    ensures { out.new ≡ sets out.old 0 (nullRow layout) }
+    requires { Bounded layout × (minimum_of layout true ≤ length out.old) }
+    ensures { out.new ≡ sets out.old 0 (null_row layout) }
 {
     let n = layout.num_columns;
     let v = layout.num_varlen_cols;
@@ -60,7 +60,7 @@ fn write_nulls(layout: RowLayout, out: &mut [u8])
 // Behind the schema's check, for a caller that keeps its layout.
 fn fresh_row(layout: RowLayout, out: &mut [u8]) -> Answer
     requires { Bounded layout }
-    ensures { (result, out.new) ≡ placed out.old (nullRow layout) }
+    ensures { (result, out.new) ≡ placed out.old (null_row layout) }
 {
     let least = layout.min_row_size(true);
     if out.len() < least {
@@ -72,7 +72,7 @@ fn fresh_row(layout: RowLayout, out: &mut [u8]) -> Answer
 
 // A row of which every column is null.
 pub fn fresh(schema: &[u8], is_long: bool, out: &mut [u8]) -> Answer
-    ensures { (result, out.new) ≡ freshCall is_long schema.now out.old }
+    ensures { (result, out.new) ≡ fresh_call is_long schema.now out.old }
 {
     match datatype::check_schema(schema, is_long) {
         SchemaCheck::Refused(e) => Answer::Refused(e),
@@ -118,8 +118,8 @@ fn row_length(schema: &[u8], layout: RowLayout, values: &[u8], text: &[u8]) -> A
 
 // The bit of column i of n cleared: it is not null.
 fn clear_bit(out: &mut [u8], n: usize, i: usize)
-    requires { (i < n) × (bitmapStart + i / 8 < length out.old) }
-    ensures { out.new ≡ bitEdit i (some []) out.old }
+    requires { (i < n) × (bitmap_start + i / 8 < length out.old) }
+    ensures { out.new ≡ bit_edit i (some []) out.old }
 {
     let bitmap = RowLayout::bitmap_offset();
     null_bitmap::clear_null(&mut out[bitmap..], n, i);
@@ -138,10 +138,10 @@ fn write_fixed(
     slot: usize,
 )
     requires { Readable schema.now at values.now from
-        × (SlotReady (typeIn (columnRecordAt schema.now at)) (valueIn (valueRecordAt values.now from))
+        × (SlotReady (type_in (column_record_at schema.now at)) (value_in (valueRecordAt values.now from))
         text.now slot (length out.old) × BitReady columns column (length out.old)) }
     ensures { out.new
-        ≡ fixedStored column slot (formIn schema.now at values.now from text.now)
+        ≡ fixed_stored column slot (form_in schema.now at values.now from text.now)
         out.old }
 {
     record_slot::write_slot(schema, at, values, from, text, out, slot);
@@ -163,7 +163,7 @@ fn write_varchar(
         × BitReady columns column (length out.old) }
     ensures { (result ≡ end + range.length)
         × (out.new
-        ≡ varlenStored is_long column entry (part text.now range) end out.old) }
+        ≡ varlen_stored is_long column entry (part text.now range) end out.old) }
 {
     let start = range.start;
     let length = range.length;
@@ -189,13 +189,13 @@ fn write_column(
     end: usize,
 ) -> usize
     requires { Readable schema.now at values.now from
-        × (is_null (valueIn (valueRecordAt values.now from)) ≡ false
-        → Storable is_long columns column slot entry (typeIn (columnRecordAt schema.now at))
-        (valueIn (valueRecordAt values.now from)) text.now end (length out.old)) }
+        × (is_null (value_in (valueRecordAt values.now from)) ≡ false
+        → Storable is_long columns column slot entry (type_in (column_record_at schema.now at))
+        (value_in (valueRecordAt values.now from)) text.now end (length out.old)) }
     ensures { (result, out.new)
-        ≡ columnStored is_long column slot entry (typeIn (columnRecordAt schema.now at))
-        (valueIn (valueRecordAt values.now from))
-        (formIn schema.now at values.now from text.now) end
+        ≡ column_stored is_long column slot entry (type_in (column_record_at schema.now at))
+        (value_in (valueRecordAt values.now from))
+        (form_in schema.now at values.now from text.now) end
         out.old }
 {
     let given = values[from];
@@ -223,10 +223,10 @@ fn write_columns(
         × (length (types_in schema.now) ≤ length counts.old) }
     ensures { (out.new
         ≡ sets out.old 0
-        (rowGiven layout.is_long schema.now values.now text.now))
+        (row_given layout.is_long schema.now values.now text.now))
         × (counts.new
         ≡ sets counts.old 0
-        (countsGiven schema.now values.now text.now)) }
+        (counts_given schema.now values.now text.now)) }
 {
     let mut column = 0;
     let mut at = 0;
@@ -272,10 +272,10 @@ fn place_row(
 ) -> Answer
     requires { Buildable schema.now layout values.now text.now
         × (Done n
-        ≡ measured (minimumOf layout true) (types_in schema.now)
-        (cellsFrom 0 (types_in schema.now) (valuesIn values.now) text.now)) }
+        ≡ measured (minimum_of layout true) (types_in schema.now)
+        (cells_from 0 (types_in schema.now) (values_in values.now) text.now)) }
     ensures { (result, (out.new, counts.new))
-        ≡ buildValues layout.is_long (types_in schema.now) (valuesIn values.now)
+        ≡ build_values layout.is_long (types_in schema.now) (values_in values.now)
         text.now out.old counts.old }
 {
     if row_layout::row_limit(layout.is_long) < n {
@@ -304,7 +304,7 @@ fn build_row(
 ) -> Answer
     requires { Accepted schema.now layout }
     ensures { (result, (out.new, counts.new))
-        ≡ buildRow layout.is_long (types_in schema.now) values.now text.now
+        ≡ build_row layout.is_long (types_in schema.now) values.now text.now
         out.old counts.old }
 {
     match row_length(schema, layout, values, text) {
@@ -329,7 +329,7 @@ pub fn serialize_nullable_typed_row(
     counts: &mut [u32],
 ) -> Answer
     ensures { (result, (out.new, counts.new))
-        ≡ buildCall is_long schema.now values.now text.now
+        ≡ build_call is_long schema.now values.now text.now
         out.old counts.old }
 {
     match datatype::check_schema(schema, is_long) {

@@ -9,22 +9,22 @@ use lib.ListN.{length}
 use Rattle.error.specs.declared.Refusal.{Refusal}
 use Rattle.error.specs.declared.Refusal.TheVariants.{RowTooShort, RowTooLong, WrongColumnCount, WrongVarlenCount}
 use Rattle.laws.proofs.Truths.{by_cond}
-use Rattle.row_format.specs.Places.{rowLimit}
-use Rattle.row_format.specs.Row.{leastMark}
+use Rattle.row_format.specs.Places.{row_limit}
+use Rattle.row_format.specs.Row.{least_mark}
 use Rattle.row_layout.specs.declared.RowLayout.{RowLayout}
-use Rattle.row_layout.specs.InnerLayout.{minimumOf}
+use Rattle.row_layout.specs.InnerLayout.{minimum_of}
 use Rattle.datatype.specs.declared.DataType.{DataType}
-use Rattle.datatype.specs.Check.{layoutFor}
+use Rattle.datatype.specs.Check.{layout_for}
 use Rattle.datatype.specs.InnerCheck.{Accepted}
 use Rattle.row_column.specs.declared.Frame.{Frame}
 use Rattle.row_column.specs.declared.Frame.TheVariants.{Good, Refused}
-use Rattle.row_format.specs.Header.{columnCount, varlenField, is_packed}
-use Rattle.row_column.specs.Frame.{frameWith, frame_of, onFrame}
-use Rattle.row_column.specs.InnerWalk.{walkedFrame, Framed}
-use Rattle.row_column.proofs.Walk.{frame-walked}
+use Rattle.row_format.specs.Header.{column_count, varlen_field, is_packed}
+use Rattle.row_column.specs.Frame.{frame_with, frame_of, on_frame}
+use Rattle.row_column.specs.InnerWalk.{walked_frame, Framed}
+use Rattle.row_column.proofs.Walk.{frame_walked}
 
 pub record Fine (k : Bool) (least : Bool → ℕ) (r : List ℕ) (p : Bool) : Type 0 where
-  pub short : length r ≤ rowLimit k
+  pub short : length r ≤ row_limit k
   pub flag : is_packed r ≡ p
   pub long : least p ≤ length r
 
@@ -32,44 +32,44 @@ abbrev IfGood : Bool → (Bool → ℕ) → List ℕ → Frame → Type 0
 IfGood k least r (Good p) = Fine k least r p
 IfGood k least r (Refused e) = Unit {0}
 
-if-good : (k : Bool) (n v : ℕ) (least : Bool → ℕ) (r : List ℕ) → IfGood k least r (frameWith k n v least r)
-if-good k n v least r =
+if_good : (k : Bool) (n v : ℕ) (least : Bool → ℕ) (r : List ℕ) → IfGood k least r (frame_with k n v least r)
+if_good k n v least r =
     let P = IfGood k least r in
-    by_cond P (ltb (rowLimit k) (length r)) (Refused RowTooLong) _ (λ a. tt)
+    by_cond P (ltb (row_limit k) (length r)) (Refused RowTooLong) _ (λ a. tt)
     (λ a. by_cond P (ltb (length r) 4) (Refused RowTooShort) _ (λ b. tt)
-    (λ b. by_cond P (eqb (columnCount r) n) _ (Refused WrongColumnCount)
-    (λ c. by_cond P (eqb (varlenField r % leastMark k) v) _ (Refused WrongVarlenCount)
+    (λ b. by_cond P (eqb (column_count r) n) _ (Refused WrongColumnCount)
+    (λ c. by_cond P (eqb (varlen_field r % least_mark k) v) _ (Refused WrongVarlenCount)
     (λ d. by_cond P (ltb (length r) (least (is_packed r))) (Refused RowTooShort) (Good (is_packed r)) (λ e. tt)
     (λ e. record {
-      short = ltb-false (rowLimit k) (length r) a;
+      short = ltb-false (row_limit k) (length r) a;
       flag = refl;
       long = ltb-false (length r) (least (is_packed r)) e;
     }))
     (λ d. tt))
     (λ c. tt)))
 
-pub fine : (k : Bool) (n v : ℕ) (least : Bool → ℕ) (r : List ℕ) {p : Bool} → frameWith k n v least r ≡ Good p
+pub fine : (k : Bool) (n v : ℕ) (least : Bool → ℕ) (r : List ℕ) {p : Bool} → frame_with k n v least r ≡ Good p
     → Fine k least r p
-fine k n v least r e = rw e at (if-good k n v least r)
+fine k n v least r e = rw e at (if_good k n v least r)
 
-pub framed : {s : List ℕ} {l : RowLayout} {r : List ℕ} {p : Bool} → Accepted s l → walkedFrame l r ≡ Good p
+pub framed : {s : List ℕ} {l : RowLayout} {r : List ℕ} {p : Bool} → Accepted s l → walked_frame l r ≡ Good p
     → Framed s l p r
 framed {s} {l} {r} a e =
-    let f = fine l.is_long l.num_columns l.num_varlen_cols (minimumOf l) r e in
+    let f = fine l.is_long l.num_columns l.num_varlen_cols (minimum_of l) r e in
     record { accepted = a; long = f.long; short = f.short }
 
 -- calls that go on alike
 pub same_good : {A : Type 0} (f : Frame) (bad : Refusal → A) {k k' : Bool → A} → ((p : Bool) → f ≡ Good p → k p ≡ k' p)
-    → onFrame f bad k ≡ onFrame f bad k'
+    → on_frame f bad k ≡ on_frame f bad k'
 same_good (Good p) bad h = h p refl
 same_good (Refused e) bad h = refl
 
 -- the call behind a header, where the layout of the columns ts is known as l
-module _ {A : Type 0} (ts : List DataType) {l : RowLayout} (r : List ℕ) (e : layoutFor l.is_long ts ≡ l)
+module _ {A : Type 0} (ts : List DataType) {l : RowLayout} (r : List ℕ) (e : layout_for l.is_long ts ≡ l)
     (bad : Refusal → A) (k : Bool → A) where
-  pub frame_refused : {q : Refusal} → walkedFrame l r ≡ Refused q → bad q
-      ≡ onFrame (frame_of l.is_long ts r) bad k
-  frame_refused f = sym (ap (λ (x : Frame). onFrame x bad k) (frame-walked ts r e ∙ f))
+  pub frame_refused : {q : Refusal} → walked_frame l r ≡ Refused q → bad q
+      ≡ on_frame (frame_of l.is_long ts r) bad k
+  frame_refused f = sym (ap (λ (x : Frame). on_frame x bad k) (frame_walked ts r e ∙ f))
 
-  pub frame-good : {p : Bool} → walkedFrame l r ≡ Good p → k p ≡ onFrame (frame_of l.is_long ts r) bad k
-  frame-good f = sym (ap (λ (x : Frame). onFrame x bad k) (frame-walked ts r e ∙ f))
+  pub frame-good : {p : Bool} → walked_frame l r ≡ Good p → k p ≡ on_frame (frame_of l.is_long ts r) bad k
+  frame-good f = sym (ap (λ (x : Frame). on_frame x bad k) (frame_walked ts r e ∙ f))

@@ -2,9 +2,9 @@
 use Rattle.std.specs.Prelude.{ℕ, ◌%◌, Bool, cond, List, map, eqb, ltb, length}
 use Rattle.error.specs.declared.Refusal.{Refusal}
 use Rattle.error.specs.declared.Refusal.TheVariants.{RowTooShort, RowTooLong, WrongColumnCount, WrongVarlenCount}
-use Rattle.row_format.specs.Places.{varlens, minimum, offsetWidth, rowLimit}
-use Rattle.row_format.specs.Row.{leastMark}
-use Rattle.row_format.specs.Header.{columnCount, varlenField, is_packed}
+use Rattle.row_format.specs.Places.{varlens, minimum, offset_width, row_limit}
+use Rattle.row_format.specs.Row.{least_mark}
+use Rattle.row_format.specs.Header.{column_count, varlen_field, is_packed}
 use Rattle.datatype.specs.declared.DataType.{DataType}
 use Rattle.datatype.specs.Types.{shape_of}
 use Rattle.row_column.specs.declared.Frame.{Frame}
@@ -14,12 +14,12 @@ use Rattle.row_column.specs.declared.Frame.TheVariants.{Good, Refused}
 -- flag masked off, is not the schema's", which is v; "row [..] under the layout's minimum", which is `least` of the
 -- row's own flag. Both marks are masked off: "the row's own mark tells the sort" (02, request 5), so that a row taken
 -- as short has the packed mark at most
-abbrev pub frameWith : Bool → ℕ → ℕ → (Bool → ℕ) → List ℕ → Frame
-frameWith k n v least r =
-    cond (ltb (rowLimit k) (length r)) (Refused RowTooLong)
+abbrev pub frame_with : Bool → ℕ → ℕ → (Bool → ℕ) → List ℕ → Frame
+frame_with k n v least r =
+    cond (ltb (row_limit k) (length r)) (Refused RowTooLong)
     (cond (ltb (length r) 4) (Refused RowTooShort)
-    (cond (eqb (columnCount r) n)
-    (cond (eqb (varlenField r % leastMark k) v)
+    (cond (eqb (column_count r) n)
+    (cond (eqb (varlen_field r % least_mark k) v)
     (cond (ltb (length r) (least (is_packed r))) (Refused RowTooShort) (Good (is_packed r)))
     (Refused WrongVarlenCount))
     (Refused WrongColumnCount)))
@@ -27,9 +27,9 @@ frameWith k n v least r =
 -- columns of the types ts
 abbrev pub frame_of : Bool → List DataType → List ℕ → Frame
 frame_of k ts r =
-    frameWith k (length ts) (varlens (map shape_of ts)) (λ p. minimum (offsetWidth k) p (map shape_of ts)) r
+    frame_with k (length ts) (varlens (map shape_of ts)) (λ p. minimum (offset_width k) p (map shape_of ts)) r
 
 -- a call on a row: refused with its header, or gone on with the row's own flag
-abbrev pub onFrame : {A : Type 0} → Frame → (Refusal → A) → (Bool → A) → A
-onFrame (Good p) bad k = k p
-onFrame (Refused e) bad k = bad e
+abbrev pub on_frame : {A : Type 0} → Frame → (Refusal → A) → (Bool → A) → A
+on_frame (Good p) bad k = k p
+on_frame (Refused e) bad k = bad e

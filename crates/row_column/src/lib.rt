@@ -1,14 +1,14 @@
 // row.rs, `decode_into`, for one column: the tests of a row's header, where a column stands, and what it reads as.
 ghost use Rattle.std.specs.Prelude.{◌≡◌, true, false, ◌+◌, ◌*◌, ◌-◌, ◌≤◌, ◌<◌, length};
 ghost use Rattle.error.specs.Result.{ok};
-ghost use Rattle.row_format.specs.Places.{offsetWidth};
-ghost use Rattle.row_layout.specs.Range.{varlenRange};
+ghost use Rattle.row_format.specs.Places.{offset_width};
+ghost use Rattle.row_layout.specs.Range.{varlen_range};
 ghost use Rattle.row_layout.specs.InnerLayout.{Bounded};
-ghost use Rattle.datatype.specs.Types.{size_of, isVarlen, precisionOf};
-ghost use Rattle.row_column.specs.InnerWalk.{walkedFrame, walkedColumn, Found, Reachable, InRow};
-ghost use Rattle.row_column.specs.Column.{readBytes, varlenValue};
-ghost use Rattle.datatype.specs.Schema.{columnRecords, columnRecordAt};
-ghost use Rattle.datatype.specs.InnerSteps.{typeIn};
+ghost use Rattle.datatype.specs.Types.{size_of, is_varlen, precision_of};
+ghost use Rattle.row_column.specs.InnerWalk.{walked_frame, walked_column, Found, Reachable, InRow};
+ghost use Rattle.row_column.specs.Column.{read_bytes, varlen_value};
+ghost use Rattle.datatype.specs.Schema.{column_records, column_record_at};
+ghost use Rattle.datatype.specs.InnerSteps.{type_in};
 ghost use Rattle.datatype.specs.Check.{types_in};
 
 use datatype::{DataType, Record};
@@ -26,7 +26,7 @@ pub enum Frame {
 
 pub fn check_frame(layout: RowLayout, row: &[u8]) -> Frame
     requires { Bounded layout }
-    ensures { result ≡ walkedFrame layout row.now }
+    ensures { result ≡ walked_frame layout row.now }
 {
     if row_layout::row_limit(layout.is_long) < row.len() {
         return Frame::Refused(Refusal::RowTooLong);
@@ -59,7 +59,7 @@ pub struct Column {
 // The column whose record stands at a place of a schema that was checked, so that it is not refused.
 fn column_here(schema: &[u8], at: usize, before: RowLayout) -> Column
     requires { at < length schema.now }
-    ensures { (result.before ≡ before) × (result.ty ≡ typeIn (columnRecordAt schema.now at)) }
+    ensures { (result.before ≡ before) × (result.ty ≡ type_in (column_record_at schema.now at)) }
 {
     match datatype::record_at(schema, at) {
         Record::Refused(_) => Column {
@@ -75,7 +75,7 @@ fn column_here(schema: &[u8], at: usize, before: RowLayout) -> Column
 
 // The schema was checked and has this column.
 pub fn column_at(schema: &[u8], column: usize) -> Column
-    requires { (columnRecords 256 schema.now 0 ≡ ok (types_in schema.now))
+    requires { (column_records 256 schema.now 0 ≡ ok (types_in schema.now))
         × (column < length (types_in schema.now)) }
     ensures { Found schema.now column result }
 {
@@ -98,9 +98,9 @@ pub enum ColumnRead {
 
 // The bytes from `start` up to `end`, of column i.
 fn read_bytes(ty: DataType, i: usize, row: &[u8], start: usize, end: usize) -> ColumnRead
-    requires { (precisionOf ty ≤ 38)
-        × ((start ≤ end) × ((end ≤ length row.now) × (isVarlen ty ≡ false → end - start ≡ size_of ty))) }
-    ensures { (result ≡ readBytes ty i row.now start end) × InRow (length row.now) result }
+    requires { (precision_of ty ≤ 38)
+        × ((start ≤ end) × ((end ≤ length row.now) × (is_varlen ty ≡ false → end - start ≡ size_of ty))) }
+    ensures { (result ≡ read_bytes ty i row.now start end) × InRow (length row.now) result }
 {
     match value_decode::from_bytes(ty, &row[start..end], start) {
         SlotRead::Value(v) => ColumnRead::Value(v),
@@ -117,11 +117,11 @@ fn read_varlen(
     varlens: usize,
     rank: usize,
 ) -> ColumnRead
-    requires { (precisionOf ty ≤ 38)
-        × ((isVarlen ty ≡ true) × ((rank < varlens) × (table + varlens * offsetWidth is_long ≤ length row.now))) }
+    requires { (precision_of ty ≤ 38)
+        × ((is_varlen ty ≡ true) × ((rank < varlens) × (table + varlens * offset_width is_long ≤ length row.now))) }
     ensures { (result
-        ≡ varlenValue ty i row.now
-        (varlenRange (offsetWidth is_long) table varlens rank row.now))
+        ≡ varlen_value ty i row.now
+        (varlen_range (offset_width is_long) table varlens rank row.now))
         × InRow (length row.now) result }
 {
     match row_layout::varlen_range(row, is_long, table, varlens, rank) {
@@ -140,7 +140,7 @@ pub fn read_column(
     row: &[u8],
 ) -> ColumnRead
     requires { Reachable layout packed before ty row.now }
-    ensures { (result ≡ walkedColumn layout packed before ty row.now)
+    ensures { (result ≡ walked_column layout packed before ty row.now)
         × InRow (length row.now) result }
 {
     let i = before.num_columns;

@@ -4,13 +4,13 @@ use Rattle.std.proofs.lemmas.List.Edits.{sets}
 use Rattle.error.specs.declared.Refusal.TheVariants.{NoRoom}
 use Rattle.error.specs.declared.Answer.{Answer}
 use Rattle.error.specs.declared.Answer.TheVariants as Answer
-use Rattle.error.specs.Answer.{Counted, unchangedBoth}
+use Rattle.error.specs.Answer.{Counted, unchanged_both}
 use Rattle.error.specs.Result.{ok, refused}
 use Rattle.row_layout.specs.declared.RowLayout.{RowLayout}
 use Rattle.datatype.specs.declared.Record.TheVariants as Record
 use Rattle.value.specs.declared.DataValue.{DataValue}
 use Rattle.value_list.specs.Lists.{Values, list_of}
-use Rattle.stored_form.specs.Points.{pointsIn}
+use Rattle.stored_form.specs.Points.{points_in}
 use Rattle.row_column.specs.declared.ColumnRead.TheVariants.{Refused}
 use Rattle.row_column.specs.InnerWalk.{Framed}
 
@@ -18,8 +18,8 @@ abbrev pub marked : List ℕ → List ℕ → List ℕ
 marked m [] = m
 marked m (w ∷ ws) = marked (set m w 1) ws
 
-abbrev pub isMarked : List ℕ → ℕ → Bool
-isMarked m i = eqb (get_or m i 0) 1
+abbrev pub is_marked : List ℕ → ℕ → Bool
+is_marked m i = eqb (get_or m i 0) 1
 
 -- the records of all columns of a row r of a sort written at the front of a buffer, and their counts at the front of a
 -- list; after a refusal both may hold anything
@@ -28,7 +28,7 @@ pub record FilledWith (k : Bool) (r : List ℕ) (columns : ℕ) (vs : List DataV
   pub done : a ≡ Answer.Done (length (list_of k vs))
   pub written : buf' ≡ sets buf 0 (list_of k vs)
   pub room : length (list_of k vs) ≤ length buf
-  pub counted : points' ≡ sets points 0 (map (pointsIn r) vs)
+  pub counted : points' ≡ sets points 0 (map (points_in r) vs)
   pub many : length vs ≡ columns
   pub numbers : columns ≤ length points
 
@@ -41,11 +41,11 @@ abbrev pub Held : Answer → ℕ → List ℕ → List ℕ → Type 0
 Held (Answer.Done n) columns buf points = (n ≤ length buf) × (columns ≤ length points)
 Held (Answer.Refused e) columns buf points = Unit {0}
 
-abbrev pub copiedOut : Answer → ℕ → List ℕ → List ℕ → List ℕ → List ℕ → Counted
-copiedOut (Answer.Done n) columns buf points out counts =
-    cond (ltb (length out) n || ltb (length counts) columns) (unchangedBoth out counts NoRoom)
+abbrev pub copied_out : Answer → ℕ → List ℕ → List ℕ → List ℕ → List ℕ → Counted
+copied_out (Answer.Done n) columns buf points out counts =
+    cond (ltb (length out) n || ltb (length counts) columns) (unchanged_both out counts NoRoom)
     (Answer.Done n, (sets out 0 (take n buf), sets counts 0 (take columns points)))
-copiedOut (Answer.Refused e) columns buf points out counts = unchangedBoth out counts e
+copied_out (Answer.Refused e) columns buf points out counts = unchanged_both out counts e
 
 -- what the walk over the columns may rely on: a schema that was accepted, a row with a good header, marks for all
 -- columns, and room for 18 bytes and a number a column

@@ -3,13 +3,13 @@
 // finds the lent ones as they were.
 ghost use Rattle.std.specs.Prelude.{◌≡◌, ◌≤◌, length, set};
 ghost use Rattle.std.proofs.lemmas.List.Edits.{sets};
-ghost use Rattle.row_layout.specs.InnerLayout.{noColumns};
-ghost use Rattle.row_column.specs.InnerWalk.{walkedColumn, Framed};
-ghost use Rattle.stored_form.specs.Points.{pointsIn};
+ghost use Rattle.row_layout.specs.InnerLayout.{no_columns};
+ghost use Rattle.row_column.specs.InnerWalk.{walked_column, Framed};
+ghost use Rattle.stored_form.specs.Points.{points_in};
 ghost use Rattle.column_decode.specs.InnerColumn.{stepped, DecodeAt};
-ghost use Rattle.row_decode.specs.Read.{isWanted, wantedValue, handOut, readRow, readCall};
-ghost use Rattle.row_decode.specs.InnerWalk.{walkedRead};
-ghost use Rattle.row_decode.specs.InnerMarks.{marked, isMarked, Decodable, Filled, Held, copiedOut};
+ghost use Rattle.row_decode.specs.Read.{is_wanted, wanted_value, hand_out, read_row, read_call};
+ghost use Rattle.row_decode.specs.InnerWalk.{walked_read};
+ghost use Rattle.row_decode.specs.InnerMarks.{marked, is_marked, Decodable, Filled, Held, copied_out};
 ghost use Rattle.datatype.specs.Check.{type_at, types_in};
 ghost use Rattle.datatype.specs.InnerCheck.{Accepted};
 
@@ -61,7 +61,7 @@ fn hand_out(
 ) -> Answer
     requires { Held answer columns buf.now points.now }
     ensures { (result, (out.new, counts.new))
-        ≡ copiedOut answer columns buf.now points.now out.old counts.old }
+        ≡ copied_out answer columns buf.now points.now out.old counts.old }
 {
     match answer {
         Answer::Refused(e) => Answer::Refused(e),
@@ -93,9 +93,9 @@ fn decode_column(
 ) -> Recorded
     requires { DecodeAt schema.now at layout packed before row.now buf.old end × (length marks.now ≡ 256) }
     ensures { (result, buf.new)
-        ≡ stepped layout.is_long buf.old end (pointsIn row.now)
-        (wantedValue (isMarked marks.now before.num_columns)
-        (walkedColumn layout packed before (type_at (types_in schema.now) before.num_columns)
+        ≡ stepped layout.is_long buf.old end (points_in row.now)
+        (wanted_value (is_marked marks.now before.num_columns)
+        (walked_column layout packed before (type_at (types_in schema.now) before.num_columns)
         row.now)) }
 {
     let i = before.num_columns;
@@ -121,7 +121,7 @@ fn decode_columns(
 ) -> Answer
     requires { Decodable schema.now layout packed row.now marks.now buf.old points.old }
     ensures { Filled layout.is_long row.now layout.num_columns
-        (walkedRead layout packed (isMarked marks.now) row.now noColumns
+        (walked_read layout packed (is_marked marks.now) row.now no_columns
         (types_in schema.now)) buf.old points.old result buf.new
         points.new }
 {
@@ -159,8 +159,8 @@ fn decode_small(
     requires { Framed schema.now layout packed row.now
         × ((length marks.now ≡ 256) × (layout.num_columns ≤ 14)) }
     ensures { (result, (out.new, counts.new))
-        ≡ handOut layout.is_long out.old counts.old row.now
-        (walkedRead layout packed (isMarked marks.now) row.now noColumns
+        ≡ hand_out layout.is_long out.old counts.old row.now
+        (walked_read layout packed (is_marked marks.now) row.now no_columns
         (types_in schema.now)) }
 {
     let mut buf = [0; 252];
@@ -182,8 +182,8 @@ fn decode_short(
     requires { Framed schema.now layout packed row.now
         × ((length marks.now ≡ 256) × (layout.num_columns ≤ 32)) }
     ensures { (result, (out.new, counts.new))
-        ≡ handOut layout.is_long out.old counts.old row.now
-        (walkedRead layout packed (isMarked marks.now) row.now noColumns
+        ≡ hand_out layout.is_long out.old counts.old row.now
+        (walked_read layout packed (is_marked marks.now) row.now no_columns
         (types_in schema.now)) }
 {
     let mut buf = [0; 576];
@@ -205,8 +205,8 @@ fn decode_long(
     requires { Framed schema.now layout packed row.now
         × ((length marks.now ≡ 256) × (layout.num_columns ≤ 256)) }
     ensures { (result, (out.new, counts.new))
-        ≡ handOut layout.is_long out.old counts.old row.now
-        (walkedRead layout packed (isMarked marks.now) row.now noColumns
+        ≡ hand_out layout.is_long out.old counts.old row.now
+        (walked_read layout packed (is_marked marks.now) row.now no_columns
         (types_in schema.now)) }
 {
     let mut buf = [0; 4608];
@@ -228,8 +228,8 @@ fn decode_values(
 ) -> Answer
     requires { Framed schema.now layout packed row.now }
     ensures { (result, (out.new, counts.new))
-        ≡ handOut layout.is_long out.old counts.old row.now
-        (walkedRead layout packed (isWanted wanted.now) row.now noColumns
+        ≡ hand_out layout.is_long out.old counts.old row.now
+        (walked_read layout packed (is_wanted wanted.now) row.now no_columns
         (types_in schema.now)) }
 {
     let mut marks = [0; RowLayout::COLUMN_LIMIT];
@@ -253,7 +253,7 @@ fn decode_row(
 ) -> Answer
     requires { Accepted schema.now layout }
     ensures { (result, (out.new, counts.new))
-        ≡ readRow layout.is_long (types_in schema.now) row.now wanted.now
+        ≡ read_row layout.is_long (types_in schema.now) row.now wanted.now
         out.old counts.old }
 {
     match row_column::check_frame(layout, row) {
@@ -272,7 +272,7 @@ pub fn decode(
     counts: &mut [u32],
 ) -> Answer
     ensures { (result, (out.new, counts.new))
-        ≡ readCall schema.now row.now wanted.now
+        ≡ read_call schema.now row.now wanted.now
         out.old counts.old }
 {
     let is_long = row_layout::is_long(row);

@@ -8,21 +8,21 @@ use lib.ListN.{length}
 use Rattle.error.specs.declared.Refusal.TheVariants.{RowLimit, NoRoom}
 use Rattle.error.specs.declared.Answer.TheVariants.{Done, Refused}
 use Rattle.laws.proofs.Stores.{sets-start}
-use Rattle.row_format.specs.Places.{rowLimit}
-use Rattle.row_build.specs.Build.{rowPlaced}
+use Rattle.row_format.specs.Places.{row_limit}
+use Rattle.row_build.specs.Build.{row_placed}
 use Rattle.row_patch.specs.InnerHeld.{Holds}
-use Rattle.row_edit.specs.Edit.{rowStored}
+use Rattle.row_edit.specs.Edit.{row_stored}
 
 module _ (buf r : List ℕ) where
-  pub holding : (q : List ℕ) (m : ℕ) → Holds buf r q m → length r ≤ length buf → (Done m, q) ≡ rowStored buf r
+  pub holding : (q : List ℕ) (m : ℕ) → Holds buf r q m → length r ≤ length buf → (Done m, q) ≡ row_stored buf r
   holding q m h room = rw (h.0, h.1, sets-start buf r room)
 
   module _ (k : Bool) where
-    pub placing : (q : List ℕ) (m : ℕ) → Holds buf r q m → length r ≤ rowLimit k → length r ≤ length buf → (Done m, q) ≡ rowPlaced k buf r
-    placing q m h short room = holding q m h room ∙ sym (rw (le-ltb (rowLimit k) (length r) short, le-ltb (length buf) (length r) room))
+    pub placing : (q : List ℕ) (m : ℕ) → Holds buf r q m → length r ≤ row_limit k → length r ≤ length buf → (Done m, q) ≡ row_placed k buf r
+    placing q m h short room = holding q m h room ∙ sym (rw (le-ltb (row_limit k) (length r) short, le-ltb (length buf) (length r) room))
 
-    pub too_long : rowLimit k < length r → (Refused RowLimit, buf) ≡ rowPlaced k buf r
-    too_long h = sym (rw (lt-ltb (rowLimit k) (length r) h))
+    pub too_long : row_limit k < length r → (Refused RowLimit, buf) ≡ row_placed k buf r
+    too_long h = sym (rw (lt-ltb (row_limit k) (length r) h))
 
-    pub no_room : length r ≤ rowLimit k → length buf < length r → (Refused NoRoom, buf) ≡ rowPlaced k buf r
-    no_room short h = sym (rw (le-ltb (rowLimit k) (length r) short, lt-ltb (length buf) (length r) h))
+    pub no_room : length r ≤ row_limit k → length buf < length r → (Refused NoRoom, buf) ≡ row_placed k buf r
+    no_room short h = sym (rw (le-ltb (row_limit k) (length r) short, lt-ltb (length buf) (length r) h))

@@ -7,71 +7,71 @@ use Rattle.std.proofs.lemmas.List.Edits.{sets}
 use Rattle.error.specs.declared.Refusal.TheVariants.{NoSuchColumn, NoRoom, NotSound}
 use Rattle.error.specs.declared.Answer.TheVariants.{Done}
 use Rattle.error.specs.Answer.{Outcome, unchanged}
-use Rattle.error.specs.Result.{Result, refused, onResult}
-use Rattle.row_format.specs.Places.{offsetWidth}
+use Rattle.error.specs.Result.{Result, refused, on_result}
+use Rattle.row_format.specs.Places.{offset_width}
 use Rattle.row_format.specs.Table.{Cell}
-use Rattle.row_format.specs.Header.{sortIn}
-use Rattle.row_format.specs.Edit.{editedRow}
+use Rattle.row_format.specs.Header.{sort_in}
+use Rattle.row_format.specs.Edit.{edited_row}
 use Rattle.datatype.specs.declared.DataType.{DataType}
 use Rattle.datatype.specs.Types.{shape_of}
-use Rattle.datatype.specs.Schema.{schemaOf}
+use Rattle.datatype.specs.Schema.{schema_of}
 use Rattle.datatype.specs.Check.{type_at}
 use Rattle.value.specs.declared.DataValue.TheVariants.{Null}
 use Rattle.value_list.specs.Lists.{checked}
-use Rattle.record_slot.specs.Stored.{storedIn}
-use Rattle.row_build.specs.Build.{rowPlaced}
+use Rattle.record_slot.specs.Stored.{stored_in}
+use Rattle.row_build.specs.Build.{row_placed}
 use Rattle.row_column.specs.declared.Frame.{Frame}
 use Rattle.row_column.specs.declared.Frame.TheVariants.{Good, Refused}
-use Rattle.row_column.specs.Frame.{onFrame}
+use Rattle.row_column.specs.Frame.{on_frame}
 use Rattle.row_sound.specs.declared.Soundness.{Soundness}
 use Rattle.row_sound.specs.declared.Soundness.TheVariants as Row
 use Rattle.row_sound.specs.Sound.{soundness}
 
 -- 15: "row to be edited is not sound"
-abbrev pub onSound : {A : Type 0} → Soundness → A → (Bool → A) → A
-onSound (Row.Sound p) bad f = f p
-onSound Row.NotSound bad f = bad
+abbrev pub on_sound : {A : Type 0} → Soundness → A → (Bool → A) → A
+on_sound (Row.Sound p) bad f = f p
+on_sound Row.NotSound bad f = bad
 
 -- 14: "stated row length beyond the buffer"; 15; 9: whether the row in the first n bytes is packed, or why its column
 -- i is not edited
 abbrev pub opening : Bool → List DataType → List ℕ → ℕ → ℕ → Frame
 opening k ts buf n i =
     cond (ltb (length buf) n) (Refused NoRoom)
-    (onSound (soundness k ts (take n buf)) (Refused NotSound)
+    (on_sound (soundness k ts (take n buf)) (Refused NotSound)
     (λ p. cond (leb (length ts) i) (Refused NoSuchColumn) (Good p)))
 
 -- behind 1, 2 and these
 abbrev pub opened : Bool → List ℕ → List ℕ → ℕ → ℕ → (List DataType → Bool → Outcome) → Outcome
 opened k schema buf n i f =
-    onResult (schemaOf k schema) (unchanged buf)
-    (λ ts. onFrame (opening k ts buf n i) (unchanged buf) (f ts))
+    on_result (schema_of k schema) (unchanged buf)
+    (λ ts. on_frame (opening k ts buf n i) (unchanged buf) (f ts))
 
 -- the row with column i changed
 abbrev pub edited : ℕ → List DataType → Bool → List ℕ → ℕ → ℕ → Cell → List ℕ
-edited w ts p buf n i c = editedRow w p (map shape_of ts) i c (take n buf)
+edited w ts p buf n i c = edited_row w p (map shape_of ts) i c (take n buf)
 
 -- in the place of the old one: "After an edit, bytes past the new end are as before."
-abbrev pub rowStored : List ℕ → List ℕ → Outcome
-rowStored buf r = (Done (length r), sets buf 0 r)
+abbrev pub row_stored : List ℕ → List ℕ → Outcome
+row_stored buf r = (Done (length r), sets buf 0 r)
 
 -- 10, 11, 12: the stored form of the one value
 abbrev pub given : Bool → DataType → ℕ → List ℕ → List ℕ → Result (List ℕ)
 given k t i list area =
-    onResult (checked k 1 (length area) list) refused (λ vs. storedIn i t (get_or vs 0 Null) area)
+    on_result (checked k 1 (length area) list) refused (λ vs. stored_in i t (get_or vs 0 Null) area)
 
 -- 13 and 14 for the row that is longer
 abbrev pub written : Bool → List DataType → Bool → List ℕ → ℕ → ℕ → Result (List ℕ) → Outcome
 written k ts p buf n i form =
-    onResult form (unchanged buf) (λ b. rowPlaced k buf (edited (offsetWidth k) ts p buf n i (some b)))
+    on_result form (unchanged buf) (λ b. row_placed k buf (edited (offset_width k) ts p buf n i (some b)))
 
 -- the sort is looked at before the schema: 2, 10 and 13 go by it
-abbrev pub setCall : List ℕ → List ℕ → ℕ → ℕ → List ℕ → List ℕ → Outcome
-setCall schema buf n i list area =
-    opened (sortIn buf n) schema buf n i
-    (λ ts p. written (sortIn buf n) ts p buf n i (given (sortIn buf n) (type_at ts i) i list area))
+abbrev pub set_call : List ℕ → List ℕ → ℕ → ℕ → List ℕ → List ℕ → Outcome
+set_call schema buf n i list area =
+    opened (sort_in buf n) schema buf n i
+    (λ ts p. written (sort_in buf n) ts p buf n i (given (sort_in buf n) (type_at ts i) i list area))
 
 -- a null takes no room
-abbrev pub setNullCall : List ℕ → List ℕ → ℕ → ℕ → Outcome
-setNullCall schema buf n i =
-    opened (sortIn buf n) schema buf n i
-    (λ ts p. rowStored buf (edited (offsetWidth (sortIn buf n)) ts p buf n i none))
+abbrev pub set_null_call : List ℕ → List ℕ → ℕ → ℕ → Outcome
+set_null_call schema buf n i =
+    opened (sort_in buf n) schema buf n i
+    (λ ts p. row_stored buf (edited (offset_width (sort_in buf n)) ts p buf n i none))

@@ -1,8 +1,8 @@
 -- For the proofs: what the inner functions hand on.
 use Rattle.std.specs.Prelude.{ℕ, ◌≤◌, ◌<◌, Bool, List, ◌≡◌, length, take}
-use Rattle.row_format.specs.Places.{offsetWidth, tableStart}
-use Rattle.row_format.specs.Table.{rangeEnd}
-use Rattle.row_format.specs.Edit.{rangeStart}
+use Rattle.row_format.specs.Places.{offset_width, table_start}
+use Rattle.row_format.specs.Table.{range_end}
+use Rattle.row_format.specs.Edit.{range_start}
 use Rattle.row_layout.specs.declared.RowLayout.{RowLayout}
 use Rattle.datatype.specs.Check.{types_in}
 use Rattle.datatype.specs.InnerCheck.{Accepted}
@@ -19,8 +19,8 @@ pub record Opened (s : List ℕ) (l : RowLayout) (p : Bool) (buf : List ℕ) (n 
 abbrev pub RangeAt : RowLayout → RowLayout → List ℕ → ℕ → ℕ → Type 0
 RangeAt l b r a e =
     (a
-    ≡ rangeStart (offsetWidth l.is_long) (tableStart l.num_columns) l.num_varlen_cols
+    ≡ range_start (offset_width l.is_long) (table_start l.num_columns) l.num_varlen_cols
     b.num_varlen_cols r)
     × (e
-    ≡ rangeEnd (offsetWidth l.is_long) (tableStart l.num_columns) l.num_varlen_cols
+    ≡ range_end (offset_width l.is_long) (table_start l.num_columns) l.num_varlen_cols
     b.num_varlen_cols r)

@@ -3,15 +3,15 @@
 -- that was.
 use Rattle.std.specs.Prelude.{ℕ, List, ◌≡◌, take}
 use Rattle.error.specs.declared.Answer.TheVariants.{Done}
-use Rattle.row_format.specs.Header.{is_packed, sortIn}
-use Rattle.row_edit.specs.Edit.{setCall, setNullCall}
+use Rattle.row_format.specs.Header.{is_packed, sort_in}
+use Rattle.row_edit.specs.Edit.{set_call, set_null_call}
 
 -- the row in the first m bytes of `after`, and the row in the first n bytes of `buf`
 pub record SameMarks (buf : List ℕ) (n : ℕ) (after : List ℕ) (m : ℕ) : Type 0 where
-  pub sort : sortIn after m ≡ sortIn buf n
+  pub sort : sort_in after m ≡ sort_in buf n
   pub flag : is_packed (take m after) ≡ is_packed (take n buf)
 
 pub record MarksKept (schema buf : List ℕ) (n i : ℕ) : Type 0 where
-  pub set : (list area : List ℕ) {m : ℕ} {after : List ℕ} → setCall schema buf n i list area ≡ (Done m, after)
+  pub set : (list area : List ℕ) {m : ℕ} {after : List ℕ} → set_call schema buf n i list area ≡ (Done m, after)
       → SameMarks buf n after m
-  pub set-null : {m : ℕ} {after : List ℕ} → setNullCall schema buf n i ≡ (Done m, after) → SameMarks buf n after m
+  pub set-null : {m : ℕ} {after : List ℕ} → set_null_call schema buf n i ≡ (Done m, after) → SameMarks buf n after m

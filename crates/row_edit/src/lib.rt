@@ -3,20 +3,20 @@
 ghost use Rattle.std.specs.Prelude.{◌≡◌, true, false, ◌≤◌, ◌<◌, length};
 ghost use Rattle.std.proofs.Math.Option.{none, some};
 ghost use Rattle.row_layout.specs.InnerLayout.{Bounded};
-ghost use Rattle.row_format.specs.Places.{offsetWidth, fixedStart};
-ghost use Rattle.datatype.specs.Types.{isVarlen};
+ghost use Rattle.row_format.specs.Places.{offset_width, fixed_start};
+ghost use Rattle.datatype.specs.Types.{is_varlen};
 ghost use Rattle.datatype.specs.Check.{type_at, types_in};
 ghost use Rattle.datatype.specs.InnerCheck.{Accepted};
 ghost use Rattle.value_list.specs.Lists.{checked};
 ghost use Rattle.value_list.specs.declared.ListCheck.TheVariants.{Good};
 ghost use Rattle.value_list.specs.InnerLists.{answer};
-ghost use Rattle.record_slot.specs.Stored.{storedIn};
-ghost use Rattle.row_build.specs.Build.{rowPlaced};
+ghost use Rattle.record_slot.specs.Stored.{stored_in};
+ghost use Rattle.row_build.specs.Build.{row_placed};
 ghost use Rattle.error.specs.Answer.{unchanged};
-ghost use Rattle.row_column.specs.Frame.{onFrame};
+ghost use Rattle.row_column.specs.Frame.{on_frame};
 ghost use Rattle.row_column.specs.InnerWalk.{Found};
 ghost use Rattle.row_patch.specs.InnerStores.{form_of, Suited};
-ghost use Rattle.row_edit.specs.Edit.{opening, written, edited, rowStored, given, setCall, setNullCall};
+ghost use Rattle.row_edit.specs.Edit.{opening, written, edited, row_stored, given, set_call, set_null_call};
 ghost use Rattle.row_edit.specs.InnerOpened.{Opened, RangeAt};
 
 use datatype::SchemaCheck;
@@ -37,7 +37,7 @@ struct Range {
 fn range_at(layout: RowLayout, before: RowLayout, row: &[u8]) -> Range
     requires { Bounded layout
         × ((before.num_varlen_cols < layout.num_varlen_cols)
-        × (fixedStart (offsetWidth layout.is_long) layout.num_columns layout.num_varlen_cols
+        × (fixed_start (offset_width layout.is_long) layout.num_columns layout.num_varlen_cols
         ≤ length row.now)) }
     ensures { RangeAt layout before row.now result.start result.end }
 {
@@ -65,10 +65,10 @@ fn set_fixed(
 ) -> Answer
     requires { Opened schema.now layout packed buf.old n column
         × (Found schema.now column found
-        × ((isVarlen found.ty ≡ false) × Suited found.ty value area.now)) }
+        × ((is_varlen found.ty ≡ false) × Suited found.ty value area.now)) }
     ensures { (result, buf.new)
-        ≡ rowPlaced layout.is_long buf.old
-        (edited (offsetWidth layout.is_long) (types_in schema.now) packed buf.old n column
+        ≡ row_placed layout.is_long buf.old
+        (edited (offset_width layout.is_long) (types_in schema.now) packed buf.old n column
         (some (form_of found.ty value area.now))) }
 {
     let ty = found.ty;
@@ -90,10 +90,10 @@ fn set_varlen(
 ) -> Answer
     requires { Opened schema.now layout packed buf.old n column
         × (Found schema.now column found
-        × ((isVarlen found.ty ≡ true) × Suited found.ty value area.now)) }
+        × ((is_varlen found.ty ≡ true) × Suited found.ty value area.now)) }
     ensures { (result, buf.new)
-        ≡ rowPlaced layout.is_long buf.old
-        (edited (offsetWidth layout.is_long) (types_in schema.now) packed buf.old n column
+        ≡ row_placed layout.is_long buf.old
+        (edited (offset_width layout.is_long) (types_in schema.now) packed buf.old n column
         (some (form_of found.ty value area.now))) }
 {
     let ty = found.ty;
@@ -129,8 +129,8 @@ fn set_suited(
     requires { Opened schema.now layout packed buf.old n column
         × (Found schema.now column found × Suited found.ty value area.now) }
     ensures { (result, buf.new)
-        ≡ rowPlaced layout.is_long buf.old
-        (edited (offsetWidth layout.is_long) (types_in schema.now) packed buf.old n column
+        ≡ row_placed layout.is_long buf.old
+        (edited (offset_width layout.is_long) (types_in schema.now) packed buf.old n column
         (some (form_of found.ty value area.now))) }
 {
     let ty = found.ty;
@@ -154,7 +154,7 @@ fn set_column(
     requires { Opened schema.now layout packed buf.old n column }
     ensures { (result, buf.new)
         ≡ written layout.is_long (types_in schema.now) packed buf.old n column
-        (storedIn column (type_at (types_in schema.now) column) value area.now) }
+        (stored_in column (type_at (types_in schema.now) column) value area.now) }
 {
     let found = row_column::column_at(schema, column);
     let ty = found.ty;
@@ -223,8 +223,8 @@ fn null_column(
 ) -> Answer
     requires { Opened schema.now layout packed buf.old n column }
     ensures { (result, buf.new)
-        ≡ rowStored buf.old
-        (edited (offsetWidth layout.is_long) (types_in schema.now) packed buf.old n column
+        ≡ row_stored buf.old
+        (edited (offset_width layout.is_long) (types_in schema.now) packed buf.old n column
         none) }
 {
     let found = row_column::column_at(schema, column);
@@ -277,7 +277,7 @@ pub fn set_checked(
 ) -> Answer
     requires { Accepted schema.now layout }
     ensures { (result, buf.new)
-        ≡ onFrame (opening layout.is_long (types_in schema.now) buf.old n column)
+        ≡ on_frame (opening layout.is_long (types_in schema.now) buf.old n column)
         (unchanged buf.old)
         (λ p. written layout.is_long (types_in schema.now) p buf.old n column
         (given layout.is_long (type_at (types_in schema.now) column) column values.now
@@ -298,10 +298,10 @@ pub fn null_checked(
 ) -> Answer
     requires { Accepted schema.now layout }
     ensures { (result, buf.new)
-        ≡ onFrame (opening layout.is_long (types_in schema.now) buf.old n column)
+        ≡ on_frame (opening layout.is_long (types_in schema.now) buf.old n column)
         (unchanged buf.old)
-        (λ p. rowStored buf.old
-        (edited (offsetWidth layout.is_long) (types_in schema.now) p buf.old n column
+        (λ p. row_stored buf.old
+        (edited (offset_width layout.is_long) (types_in schema.now) p buf.old n column
         none)) }
 {
     match open_row(schema, layout.of_sort(layout.is_long), buf, n, column) {
@@ -321,7 +321,7 @@ pub fn set_value(
     text: &[u8],
 ) -> Answer
     ensures { (result, buf.new)
-        ≡ setCall schema.now buf.old row_length column
+        ≡ set_call schema.now buf.old row_length column
         values.now text.now }
 {
     let is_long = row_layout::sort_in(buf, row_length);
@@ -336,7 +336,7 @@ pub fn set_value(
 // The column set to null. The slot of a fixed column stays as it is.
 pub fn set_null(schema: &[u8], buf: &mut [u8], row_length: usize, column: usize) -> Answer
     ensures { (result, buf.new)
-        ≡ setNullCall schema.now buf.old row_length column }
+        ≡ set_null_call schema.now buf.old row_length column }
 {
     let is_long = row_layout::sort_in(buf, row_length);
     match datatype::check_schema(schema, is_long) {

@@ -9,33 +9,33 @@ use lib.ListN.{length, get_or, take, drop}
 use lib.Seq.{ext_get_or}
 use Rattle.laws.specs.Bits.{bit_at}
 use Rattle.laws.specs.InnerForall.{Forall₂, nil, cons}
-use Rattle.laws.proofs.Forall.{forall-length}
+use Rattle.laws.proofs.Forall.{forall_length}
 use Rattle.row_format.specs.declared.Shape.{Shape}
 use Rattle.row_format.specs.declared.Shape.TheVariants.{Fixed, Varlen}
-use Rattle.row_format.specs.Places.{varlens, rank_of, slotStart, bitmapStart, tableStart, fixedStart}
+use Rattle.row_format.specs.Places.{varlens, rank_of, slot_start, bitmap_start, table_start, fixed_start}
 use Rattle.row_format.specs.Table.{Cell}
-use Rattle.row_format.specs.Row.{header, nullBit, rowWith, slot_of, slots_of, builtRow, slotSize}
-use Rattle.row_format.specs.Zeroed.{zeroedSlot}
-use Rattle.row_format.proofs.Row.{length-header, slots-fit, bit-row, slot_row, range-row}
-use Rattle.row_format.proofs.Zeroed.{slotsZeroed, Agree, agree-written}
-use Rattle.row_format.specs.InnerTable.{rangeBytes}
+use Rattle.row_format.specs.Row.{header, null_bit, row_with, slot_of, slots_of, built_row, slot_size}
+use Rattle.row_format.specs.Zeroed.{zeroed_slot}
+use Rattle.row_format.proofs.Row.{length-header, slots_fit, bit-row, slot_row, range-row}
+use Rattle.row_format.proofs.Zeroed.{slots_zeroed, Agree, agree_written}
+use Rattle.row_format.specs.InnerTable.{range_bytes}
 use Rattle.row_format.specs.InnerRow.{FitsCell, FitsSlot}
 
 -- the cell of column i, by the row's bit, slot and range
-abbrev pub unlessNull : ℕ → List ℕ → Cell
-unlessNull zero b = some b
-unlessNull (suc bit) b = none
+abbrev pub unless_null : ℕ → List ℕ → Cell
+unless_null zero b = some b
+unless_null (suc bit) b = none
 
-abbrev pub columnBytes : ℕ → List Shape → ℕ → Shape → List ℕ → List ℕ
-columnBytes w ss i (Fixed z a) r = take z (drop (fixedStart w (length ss) (varlens ss) + slotStart true ss i) r)
-columnBytes w ss i Varlen r = rangeBytes w (tableStart (length ss)) (varlens ss) (rank_of ss i) r
+abbrev pub column_bytes : ℕ → List Shape → ℕ → Shape → List ℕ → List ℕ
+column_bytes w ss i (Fixed z a) r = take z (drop (fixed_start w (length ss) (varlens ss) + slot_start true ss i) r)
+column_bytes w ss i Varlen r = range_bytes w (table_start (length ss)) (varlens ss) (rank_of ss i) r
 
 abbrev pub cell_at : ℕ → List Shape → ℕ → List ℕ → Cell
-cell_at w ss i r = unlessNull (bit_at i (drop bitmapStart r)) (columnBytes w ss i (get_or ss i Varlen) r)
+cell_at w ss i r = unless_null (bit_at i (drop bitmap_start r)) (column_bytes w ss i (get_or ss i Varlen) r)
 
 -- slots that agree with the cells, at a column
 zeroed-at : {ss : List Shape} {cs : List Cell} {bs : List (List ℕ)} (i : ℕ) → Forall₂ FitsCell ss cs → Forall₂ FitsSlot ss bs → i < length ss
-    → get_or (slotsZeroed ss cs bs) i [] ≡ zeroedSlot (nullBit (get_or cs i none)) (slotSize (get_or ss i Varlen)) (get_or bs i [])
+    → get_or (slots_zeroed ss cs bs) i [] ≡ zeroed_slot (null_bit (get_or cs i none)) (slot_size (get_or ss i Varlen)) (get_or bs i [])
 zeroed-at i nil nil h = absurd (omega arith)
 zeroed-at zero (cons q f) (cons r e) h = refl
 zeroed-at (suc i) (cons q f) (cons r e) h = zeroed-at i f e (omega arith)
@@ -50,27 +50,27 @@ get_d_any [] i c d h = absurd (omega arith)
 get_d_any (x ∷ l) zero c d h = refl
 get_d_any (x ∷ l) (suc i) c d h = get_d_any l i c d (omega arith)
 
-module _ (w : ℕ) (head : List ℕ) (four : length head ≡ 4) {ss : List Shape} {cs : List Cell} {bs : List (List ℕ)} (cells : Forall₂ FitsCell ss cs) (slots : Forall₂ FitsSlot ss bs) (agree : Agree ss cs bs) (i : ℕ) (h : i < length ss) (fits : length (rowWith w head ss cs bs) < 256 ^ w) where
+module _ (w : ℕ) (head : List ℕ) (four : length head ≡ 4) {ss : List Shape} {cs : List Cell} {bs : List (List ℕ)} (cells : Forall₂ FitsCell ss cs) (slots : Forall₂ FitsSlot ss bs) (agree : Agree ss cs bs) (i : ℕ) (h : i < length ss) (fits : length (row_with w head ss cs bs) < 256 ^ w) where
   slot-some : (z a : ℕ) (b : List ℕ) → get_or ss i Varlen ≡ Fixed z a → get_or cs i none ≡ some b → get_or bs i [] ≡ b
   slot-some z a b s e = rw (e, s) at (sym (zeroed-at i cells slots h) ∙ ap (λ (l : List (List ℕ)). get_or l i []) agree ∙ slots_at i cells h)
 
-  bytes-at : (s : Shape) → get_or ss i Varlen ≡ s → (b : List ℕ) → get_or cs i none ≡ some b → columnBytes w ss i s (rowWith w head ss cs bs) ≡ b
-  bytes-at (Fixed z a) s b e = rw (ap slotSize s) at (slot_row w head four cells slots i h) ∙ slot-some z a b s e
+  bytes-at : (s : Shape) → get_or ss i Varlen ≡ s → (b : List ℕ) → get_or cs i none ≡ some b → column_bytes w ss i s (row_with w head ss cs bs) ≡ b
+  bytes-at (Fixed z a) s b e = rw (ap slot_size s) at (slot_row w head four cells slots i h) ∙ slot-some z a b s e
   bytes-at Varlen s b e = range-row w head four cells slots i h s fits b e
 
-  cell-at : (c : Cell) → get_or cs i none ≡ c → unlessNull (nullBit c) (columnBytes w ss i (get_or ss i Varlen) (rowWith w head ss cs bs)) ≡ c
-  cell-at none e = refl
-  cell-at (some b) e = ap some (bytes-at (get_or ss i Varlen) refl b e)
+  cell_at_lem : (c : Cell) → get_or cs i none ≡ c → unless_null (null_bit c) (column_bytes w ss i (get_or ss i Varlen) (row_with w head ss cs bs)) ≡ c
+  cell_at_lem none e = refl
+  cell_at_lem (some b) e = ap some (bytes-at (get_or ss i Varlen) refl b e)
 
-  pub cell_row : cell_at w ss i (rowWith w head ss cs bs) ≡ get_or cs i none
-  cell_row = rw (bit-row w head four cells slots i h, get_d_any cs i (some []) none (rw (forall-length cells) h)) (cell-at (get_or cs i none) refl)
+  pub cell_row : cell_at w ss i (row_with w head ss cs bs) ≡ get_or cs i none
+  cell_row = rw (bit-row w head four cells slots i h, get_d_any cs i (some []) none (rw (forall_length cells) h)) (cell_at_lem (get_or cs i none) refl)
 
 module _ (w marks : ℕ) {ss : List Shape} where
-  pub cell-built : {cs : List Cell} → Forall₂ FitsCell ss cs → (i : ℕ) → i < length ss → length (builtRow w marks ss cs) < 256 ^ w → cell_at w ss i (builtRow w marks ss cs) ≡ get_or cs i none
-  cell-built cells i h fits = cell_row w (header marks ss) (length-header marks ss) cells (slots-fit cells) (agree-written cells) i h fits
+  pub cell_built : {cs : List Cell} → Forall₂ FitsCell ss cs → (i : ℕ) → i < length ss → length (built_row w marks ss cs) < 256 ^ w → cell_at w ss i (built_row w marks ss cs) ≡ get_or cs i none
+  cell_built cells i h fits = cell_row w (header marks ss) (length-header marks ss) cells (slots_fit cells) (agree_written cells) i h fits
 
-  pub built-inj : {cs ds : List Cell} → Forall₂ FitsCell ss cs → Forall₂ FitsCell ss ds → length (builtRow w marks ss cs) < 256 ^ w → builtRow w marks ss cs ≡ builtRow w marks ss ds → cs ≡ ds
-  built-inj {cs} {ds} e f fits q =
-      let l : length cs ≡ length ss = forall-length e in
-      let m : length ds ≡ length ss = forall-length f in
-      ext_get_or none cs ds (l ∙ sym m) (λ i h. let k : i < length ss = omega arith in sym (cell-built e i k fits) ∙ ap (cell_at w ss i) q ∙ cell-built f i k (rw q at fits))
+  pub built_inj : {cs ds : List Cell} → Forall₂ FitsCell ss cs → Forall₂ FitsCell ss ds → length (built_row w marks ss cs) < 256 ^ w → built_row w marks ss cs ≡ built_row w marks ss ds → cs ≡ ds
+  built_inj {cs} {ds} e f fits q =
+      let l : length cs ≡ length ss = forall_length e in
+      let m : length ds ≡ length ss = forall_length f in
+      ext_get_or none cs ds (l ∙ sym m) (λ i h. let k : i < length ss = omega arith in sym (cell_built e i k fits) ∙ ap (cell_at w ss i) q ∙ cell_built f i k (rw q at fits))

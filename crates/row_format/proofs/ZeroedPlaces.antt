@@ -12,9 +12,9 @@ use Rattle.laws.specs.Bits.{bit_at}
 use Rattle.laws.proofs.Truths.{cases}
 use Rattle.row_format.specs.declared.Shape.{Shape}
 use Rattle.row_format.specs.declared.Shape.TheVariants.{Fixed, Varlen}
-use Rattle.row_format.specs.Places.{varlens, bitmapStart, fixedStart, fixedSize, slotAfter, slotStart, minimum}
-use Rattle.row_format.specs.Row.{slotSize}
-use Rattle.row_format.specs.Zeroed.{zeroedSlot, zeroedFrom, zeroedRow, InNullSlot, ZeroedSlots}
+use Rattle.row_format.specs.Places.{varlens, bitmap_start, fixed_start, fixed_size, slot_after, slot_start, minimum}
+use Rattle.row_format.specs.Row.{slot_size}
+use Rattle.row_format.specs.Zeroed.{zeroed_slot, zeroed_from, zeroed_row, InNullSlot, ZeroedSlots}
 use Rattle.row_format.proofs.Places.{packed-cons}
 
 -- an element behind a front of n
@@ -25,23 +25,23 @@ behind x y n j e h =
 
 -- ---- where packed slots start
 
-slot-here : (s : Shape) (at : ℕ) → slotAfter true s at ≡ at
+slot-here : (s : Shape) (at : ℕ) → slot_after true s at ≡ at
 slot-here (Fixed z a) at = refl
 slot-here Varlen at = refl
 
-start-cons : (s : Shape) (ss : List Shape) (k : ℕ) → slotStart true (s ∷ ss) (suc k) ≡ slotSize s + slotStart true ss k
+start-cons : (s : Shape) (ss : List Shape) (k : ℕ) → slot_start true (s ∷ ss) (suc k) ≡ slot_size s + slot_start true ss k
 start-cons s ss k =
     let t = get_or ss k Varlen in
-    slot-here t (fixedSize true (s ∷ take k ss)) ∙ packed-cons s (take k ss)
-    ∙ ap (λ (n : ℕ). slotSize s + n) (sym (slot-here t (fixedSize true (take k ss))))
+    slot-here t (fixed_size true (s ∷ take k ss)) ∙ packed-cons s (take k ss)
+    ∙ ap (λ (n : ℕ). slot_size s + n) (sym (slot-here t (fixed_size true (take k ss))))
 
 -- ---- one slot
 
-slot-long : (b z : ℕ) (x : List ℕ) → length x ≡ z → length (zeroedSlot b z x) ≡ z
+slot-long : (b z : ℕ) (x : List ℕ) → length x ≡ z → length (zeroed_slot b z x) ≡ z
 slot-long zero z x e = e
 slot-long (suc b) z x e = length-replicate {A = ℕ} z 0
 
-slot_same : (b z : ℕ) (x : List ℕ) → b < 2 → (b ≡ 1 → ⊥) → zeroedSlot b z x ≡ x
+slot_same : (b z : ℕ) (x : List ℕ) → b < 2 → (b ≡ 1 → ⊥) → zeroed_slot b z x ≡ x
 slot_same zero z x h n = refl
 slot_same (suc zero) z x h n = absurd (n refl)
 slot_same (suc (suc b)) z x h n = absurd (omega arith)
@@ -53,13 +53,13 @@ module _ (bits : List ℕ) where
   pub record InSlot (i : ℕ) (ss : List Shape) (k j : ℕ) : Type 0 where
     pub inside : k < length ss
     pub null : bit_at (i + k) bits ≡ 1
-    pub from : slotStart true ss k ≤ j
-    pub before : j < slotStart true ss k + slotSize (get_or ss k Varlen)
+    pub from : slot_start true ss k ≤ j
+    pub before : j < slot_start true ss k + slot_size (get_or ss k Varlen)
 
   -- counted from the next column's slot
-  slot-rest : (i : ℕ) (s : Shape) (ss : List Shape) (k j : ℕ) → InSlot i (s ∷ ss) (suc k) j
-      → InSlot (suc i) ss k (j - slotSize s)
-  slot-rest i s ss k j h =
+  slot_rest : (i : ℕ) (s : Shape) (ss : List Shape) (k j : ℕ) → InSlot i (s ∷ ss) (suc k) j
+      → InSlot (suc i) ss k (j - slot_size s)
+  slot_rest i s ss k j h =
       let e = start-cons s ss k in
       let n : suc i + k ≡ i + suc k = omega arith in
       record {
@@ -69,7 +69,7 @@ module _ (bits : List ℕ) where
         before = omega arith;
       }
 
-  slot_next : (i : ℕ) (s : Shape) (ss : List Shape) (k j : ℕ) → slotSize s ≤ j → InSlot (suc i) ss k (j - slotSize s)
+  slot_next : (i : ℕ) (s : Shape) (ss : List Shape) (k j : ℕ) → slot_size s ≤ j → InSlot (suc i) ss k (j - slot_size s)
       → InSlot i (s ∷ ss) (suc k) j
   slot_next i s ss k j g h =
       let e = start-cons s ss k in
@@ -81,76 +81,76 @@ module _ (bits : List ℕ) where
         before = omega arith;
       }
 
-  slot-first : (i : ℕ) (s : Shape) (ss : List Shape) (j : ℕ) → bit_at i bits ≡ 1 → j < slotSize s
+  slot-first : (i : ℕ) (s : Shape) (ss : List Shape) (j : ℕ) → bit_at i bits ≡ 1 → j < slot_size s
       → InSlot i (s ∷ ss) 0 j
   slot-first i s ss j b l =
       let e = slot-here s 0 in
       record { inside = omega arith; null = rw add-zero b; from = omega arith; before = omega arith }
 
   -- the first of them, and room for the rest
-  module _ (i : ℕ) (s : Shape) (ss : List Shape) (r : List ℕ) (room : fixedSize true (s ∷ ss) ≤ length r) where
+  module _ (i : ℕ) (s : Shape) (ss : List Shape) (r : List ℕ) (room : fixed_size true (s ∷ ss) ≤ length r) where
     abbrev first : List ℕ
-    first = zeroedSlot (bit_at i bits) (slotSize s) (take (slotSize s) r)
+    first = zeroed_slot (bit_at i bits) (slot_size s) (take (slot_size s) r)
 
-    first-long : length first ≡ slotSize s
+    first-long : length first ≡ slot_size s
     first-long =
-        slot-long (bit_at i bits) (slotSize s) (take (slotSize s) r)
-        (length-take-le (slotSize s) r (omega (arith, packed-cons s ss)))
+        slot-long (bit_at i bits) (slot_size s) (take (slot_size s) r)
+        (length-take-le (slot_size s) r (omega (arith, packed-cons s ss)))
 
-    rest-room : fixedSize true ss ≤ length (drop (slotSize s) r)
-    rest-room = rw length-drop (omega (arith, packed-cons s ss))
+    rest_room : fixed_size true ss ≤ length (drop (slot_size s) r)
+    rest_room = rw length-drop (omega (arith, packed-cons s ss))
 
-  from-long : (i : ℕ) (ss : List Shape) (r : List ℕ) → fixedSize true ss ≤ length r
-      → length (zeroedFrom bits i ss r) ≡ length r
+  from-long : (i : ℕ) (ss : List Shape) (r : List ℕ) → fixed_size true ss ≤ length r
+      → length (zeroed_from bits i ss r) ≡ length r
   from-long i [] r room = refl
   from-long i (s ∷ ss) r room =
-      let e = from-long (suc i) ss (drop (slotSize s) r) (rest-room i s ss r room) in
+      let e = from-long (suc i) ss (drop (slot_size s) r) (rest_room i s ss r room) in
       rw (length-append, first-long i s ss r room, e, length-drop)
       (omega (arith, packed-cons s ss))
 
-  from-zeros : (i : ℕ) (ss : List Shape) (r : List ℕ) → fixedSize true ss ≤ length r → (k j : ℕ) → InSlot i ss k j
-      → get_or (zeroedFrom bits i ss r) j 0 ≡ 0
+  from-zeros : (i : ℕ) (ss : List Shape) (r : List ℕ) → fixed_size true ss ≤ length r → (k j : ℕ) → InSlot i ss k j
+      → get_or (zeroed_from bits i ss r) j 0 ≡ 0
   from-zeros i [] r room k j h = absurd (omega arith)
   from-zeros i (s ∷ ss) r room zero j h =
       let bit : bit_at i bits ≡ 1 = rw add-zero at h.null in
-      let l : j < slotSize s = omega (arith, slot-here s 0) in
+      let l : j < slot_size s = omega (arith, slot-here s 0) in
       rw bit
-      (get_or-append (replicate (slotSize s) 0) _ 0 j (rw length-replicate l) ∙ get_or-replicate (slotSize s) j 0 0 l)
+      (get_or-append (replicate (slot_size s) 0) _ 0 j (rw length-replicate l) ∙ get_or-replicate (slot_size s) j 0 0 l)
   from-zeros i (s ∷ ss) r room (suc k) j h =
-      behind (first i s ss r room) _ (slotSize s) j (first-long i s ss r room) (omega (arith, start-cons s ss k))
-      ∙ from-zeros (suc i) ss (drop (slotSize s) r) (rest-room i s ss r room) k (j - slotSize s)
-      (slot-rest i s ss k j h)
+      behind (first i s ss r room) _ (slot_size s) j (first-long i s ss r room) (omega (arith, start-cons s ss k))
+      ∙ from-zeros (suc i) ss (drop (slot_size s) r) (rest_room i s ss r room) k (j - slot_size s)
+      (slot_rest i s ss k j h)
 
-  from-others : (i : ℕ) (ss : List Shape) (r : List ℕ) → fixedSize true ss ≤ length r → (j : ℕ)
-      → ((k : ℕ) → InSlot i ss k j → ⊥) → get_or (zeroedFrom bits i ss r) j 0 ≡ get_or r j 0
+  from-others : (i : ℕ) (ss : List Shape) (r : List ℕ) → fixed_size true ss ≤ length r → (j : ℕ)
+      → ((k : ℕ) → InSlot i ss k j → ⊥) → get_or (zeroed_from bits i ss r) j 0 ≡ get_or r j 0
   from-others i [] r room j out = refl
   from-others i (s ∷ ss) r room j out =
-      cases j (slotSize s)
+      cases j (slot_size s)
       (λ l.
       let clear : bit_at i bits ≡ 1 → ⊥ = λ b. out 0 (slot-first i s ss j b l) in
-      let same = slot_same (bit_at i bits) (slotSize s) (take (slotSize s) r) (mod-lt _ (omega arith)) clear in
+      let same = slot_same (bit_at i bits) (slot_size s) (take (slot_size s) r) (mod-lt _ (omega arith)) clear in
       get_or-append (first i s ss r room) _ 0 j (rw (first-long i s ss r room) l)
-      ∙ ap (λ (x : List ℕ). get_or x j 0) same ∙ get_or-take (slotSize s) r j 0 l)
+      ∙ ap (λ (x : List ℕ). get_or x j 0) same ∙ get_or-take (slot_size s) r j 0 l)
       (λ g.
-      let there : slotSize s + (j - slotSize s) ≡ j = omega arith in
-      behind (first i s ss r room) _ (slotSize s) j (first-long i s ss r room) g
-      ∙ from-others (suc i) ss (drop (slotSize s) r) (rest-room i s ss r room) (j - slotSize s)
+      let there : slot_size s + (j - slot_size s) ≡ j = omega arith in
+      behind (first i s ss r room) _ (slot_size s) j (first-long i s ss r room) g
+      ∙ from-others (suc i) ss (drop (slot_size s) r) (rest_room i s ss r room) (j - slot_size s)
       (λ k h. out (suc k) (slot_next i s ss k j g h))
-      ∙ get_or-drop (slotSize s) r (j - slotSize s) 0 ∙ rw there)
+      ∙ get_or-drop (slot_size s) r (j - slot_size s) 0 ∙ rw there)
 
 -- ---- the row
 
 module _ (w : ℕ) (ss : List Shape) (r : List ℕ) (room : minimum w true ss ≤ length r) where
   abbrev start : ℕ
-  start = fixedStart w (length ss) (varlens ss)
+  start = fixed_start w (length ss) (varlens ss)
 
   abbrev bits : List ℕ
-  bits = drop bitmapStart r
+  bits = drop bitmap_start r
 
   front_long : length (take start r) ≡ start
   front_long = length-take-le start r (omega arith)
 
-  slots-room : fixedSize true ss ≤ length (drop start r)
+  slots-room : fixed_size true ss ≤ length (drop start r)
   slots-room = rw length-drop (omega arith)
 
   row-slot : (k j : ℕ) → start ≤ j → InSlot bits 0 ss k (j - start) → InNullSlot w ss r j
@@ -158,8 +158,8 @@ module _ (w : ℕ) (ss : List Shape) (r : List ℕ) (room : minimum w true ss �
       let bit = rw zero-add at h.null in
       record { column = k; inside = h.inside; null = bit; from = omega arith; before = omega arith }
 
-  pub zeroed-places : ZeroedSlots w ss r (zeroedRow w ss r)
-  unfolding zeroedRow
+  pub zeroed-places : ZeroedSlots w ss r (zeroed_row w ss r)
+  unfolding zeroed_row
   zeroed-places =
       record {
         long =

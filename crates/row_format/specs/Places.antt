@@ -9,9 +9,9 @@ through f x [] = x
 through f x (s ∷ ss) = through f (f s x) ss
 
 -- the Varchars up to a column and past it
-abbrev pub rankAfter : Shape → ℕ → ℕ
-rankAfter (Fixed z a) k = k
-rankAfter Varlen k = k + 1
+abbrev pub rank_after : Shape → ℕ → ℕ
+rank_after (Fixed z a) k = k
+rank_after Varlen k = k + 1
 
 -- at, rounded up to a multiple of a
 abbrev pub round_up : ℕ → ℕ → ℕ
@@ -24,57 +24,57 @@ start_at true a at = at
 start_at false a at = round_up a at
 
 -- the end of the fixed columns up to a column and past it
-abbrev pub endAfter : Bool → Shape → ℕ → ℕ
-endAfter p (Fixed z a) at = start_at p a at + z
-endAfter p Varlen at = at
+abbrev pub end_after : Bool → Shape → ℕ → ℕ
+end_after p (Fixed z a) at = start_at p a at + z
+end_after p Varlen at = at
 
 -- how many Varchars a schema has, and how many bytes its fixed columns take, "with no padding at the end"
 abbrev pub varlens : List Shape → ℕ
-varlens ss = through rankAfter 0 ss
+varlens ss = through rank_after 0 ss
 
-abbrev pub fixedSize : Bool → List Shape → ℕ
-fixedSize p ss = through (endAfter p) 0 ss
+abbrev pub fixed_size : Bool → List Shape → ℕ
+fixed_size p ss = through (end_after p) 0 ss
 
 -- a Varchar's place among the Varchars, and where the slot of a fixed column starts, counted from the first fixed byte
 abbrev pub rank_of : List Shape → ℕ → ℕ
 rank_of ss i = varlens (take i ss)
 
-abbrev pub slotAfter : Bool → Shape → ℕ → ℕ
-slotAfter p (Fixed z a) at = start_at p a at
-slotAfter p Varlen at = at
+abbrev pub slot_after : Bool → Shape → ℕ → ℕ
+slot_after p (Fixed z a) at = start_at p a at
+slot_after p Varlen at = at
 
-abbrev pub slotStart : Bool → List Shape → ℕ → ℕ
-slotStart p ss i = slotAfter p (get_or ss i Varlen) (fixedSize p (take i ss))
+abbrev pub slot_start : Bool → List Shape → ℕ → ℕ
+slot_start p ss i = slot_after p (get_or ss i Varlen) (fixed_size p (take i ss))
 
 -- 02, request 5: "A long row [..] has four bytes for each offset", "rows of up to 1,048,576 bytes": the bytes of an
 -- offset, and the most bytes that a row has. The sort of a row decides both, false for short and true for long.
-abbrev pub offsetWidth : Bool → ℕ
-offsetWidth false = 2
-offsetWidth true = 4
+abbrev pub offset_width : Bool → ℕ
+offset_width false = 2
+offset_width true = 4
 
-abbrev pub rowLimit : Bool → ℕ
-rowLimit false = 65535
-rowLimit true = 1048576
+abbrev pub row_limit : Bool → ℕ
+row_limit false = 65535
+row_limit true = 1048576
 
 -- "Column count (2 bytes); Varchar count [..] (2); null bitmap, one bit a column [..]; offset table [..]; fixed
 -- columns; payloads": where the bitmap, the table and the fixed columns start, for n columns of which v are Varchars,
 -- with offsets of w bytes
-abbrev pub bitmapStart : ℕ
-bitmapStart = 4
+abbrev pub bitmap_start : ℕ
+bitmap_start = 4
 
-abbrev pub bitmapSize : ℕ → ℕ
-bitmapSize n = (n + 7) / 8
+abbrev pub bitmap_size : ℕ → ℕ
+bitmap_size n = (n + 7) / 8
 
-abbrev pub tableStart : ℕ → ℕ
-tableStart n = bitmapStart + bitmapSize n
+abbrev pub table_start : ℕ → ℕ
+table_start n = bitmap_start + bitmap_size n
 
-abbrev pub fixedStart : ℕ → ℕ → ℕ → ℕ
-fixedStart w n v = tableStart n + v * w
+abbrev pub fixed_start : ℕ → ℕ → ℕ → ℕ
+fixed_start w n v = table_start n + v * w
 
 -- the byte of a row at which the slot of a fixed column starts
-abbrev pub slotPlace : ℕ → Bool → List Shape → ℕ → ℕ
-slotPlace w p ss i = fixedStart w (length ss) (varlens ss) + slotStart p ss i
+abbrev pub slot_place : ℕ → Bool → List Shape → ℕ → ℕ
+slot_place w p ss i = fixed_start w (length ss) (varlens ss) + slot_start p ss i
 
 -- 01's minimum: "the number of bytes before the payloads"
 abbrev pub minimum : ℕ → Bool → List Shape → ℕ
-minimum w p ss = fixedStart w (length ss) (varlens ss) + fixedSize p ss
+minimum w p ss = fixed_start w (length ss) (varlens ss) + fixed_size p ss

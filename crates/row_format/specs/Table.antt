@@ -2,7 +2,7 @@
 -- Varchar.
 use Rattle.std.specs.Prelude.{ℕ, zero, suc, ◌+◌, ◌*◌, List, [], ◌∷◌, ◌++◌, length, drop}
 use Rattle.std.proofs.Math.Option.{Option, none, some}
-use Rattle.laws.specs.Bytes.{to_table, fromTable}
+use Rattle.laws.specs.Bytes.{to_table, from_table}
 
 -- what a row holds of a column: null, or the stored form
 abbrev pub Cell : Type 0
@@ -42,10 +42,10 @@ abbrev pub or_else : ℕ → ℕ → ℕ
 or_else zero e = e
 or_else (suc x) e = suc x
 
-abbrev pub firstOffset : List ℕ → ℕ → ℕ
-firstOffset [] e = e
-firstOffset (x ∷ xs) e = or_else x (firstOffset xs e)
+abbrev pub first_offset : List ℕ → ℕ → ℕ
+first_offset [] e = e
+first_offset (x ∷ xs) e = or_else x (first_offset xs e)
 
 -- the end of the range of rank k, in a row r with a table of v offsets at byte t
-unfoldable pub rangeEnd : ℕ → ℕ → ℕ → ℕ → List ℕ → ℕ
-rangeEnd w t v k r = firstOffset (drop (suc k) (fromTable w v (drop t r))) (length r)
+unfoldable pub range_end : ℕ → ℕ → ℕ → ℕ → List ℕ → ℕ
+range_end w t v k r = first_offset (drop (suc k) (from_table w v (drop t r))) (length r)

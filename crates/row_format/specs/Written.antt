@@ -7,10 +7,10 @@ use Rattle.laws.specs.Bytes.{entry_at}
 use Rattle.laws.specs.Bits.{bit_at}
 use Rattle.row_format.specs.declared.Shape.{Shape}
 use Rattle.row_format.specs.declared.Shape.TheVariants.{Fixed, Varlen}
-use Rattle.row_format.specs.Places.{varlens, rank_of, bitmapStart, bitmapSize, tableStart, slotPlace, minimum}
-use Rattle.row_format.specs.Table.{Cell, bytes, payloads, offset, rangeEnd}
-use Rattle.row_format.specs.Row.{nullBit, varlenCells, slot_of, slotSize, builtRow}
-use Rattle.row_format.specs.Header.{columnCount, varlenField}
+use Rattle.row_format.specs.Places.{varlens, rank_of, bitmap_start, bitmap_size, table_start, slot_place, minimum}
+use Rattle.row_format.specs.Table.{Cell, bytes, payloads, offset, range_end}
+use Rattle.row_format.specs.Row.{null_bit, varlen_cells, slot_of, slot_size, built_row}
+use Rattle.row_format.specs.Header.{column_count, varlen_field}
 
 -- a cell for each column, of its slot's size if it is a fixed one that is not null
 pub record CellsFit (ss : List Shape) (cs : List Cell) : Type 0 where
@@ -19,34 +19,34 @@ pub record CellsFit (ss : List Shape) (cs : List Cell) : Type 0 where
       → length b ≡ z
 
 -- where the payload of column i stands: after those of lower rank
-abbrev pub payloadPlace : ℕ → List Shape → List Cell → ℕ → ℕ
-payloadPlace w ss cs i = minimum w true ss + length (payloads (take (rank_of ss i) (varlenCells ss cs)))
+abbrev pub payload_place : ℕ → List Shape → List Cell → ℕ → ℕ
+payload_place w ss cs i = minimum w true ss + length (payloads (take (rank_of ss i) (varlen_cells ss cs)))
 
 -- r is the row of the cells cs, of columns ss, with offsets of w bytes; marks is added to its Varchar count
 pub record WrittenRow (w marks : ℕ) (ss : List Shape) (cs : List Cell) (r : List ℕ) : Type 0 where
   -- "Column count (2 bytes); Varchar count with 0x8000 for packed (2)"
-  pub column-count : columnCount r ≡ length ss
-  pub varlen-count : varlenField r ≡ varlens ss + marks
+  pub column-count : column_count r ≡ length ss
+  pub varlen_count : varlen_field r ≡ varlens ss + marks
   -- "null bitmap, one bit a column, low bit first, set for null"; those past the last column are 0
-  pub bit : (i : ℕ) → i < bitmapSize (length ss) * 8
-      → bit_at i (drop bitmapStart r) ≡ nullBit (get_or cs i (some []))
+  pub bit : (i : ℕ) → i < bitmap_size (length ss) * 8
+      → bit_at i (drop bitmap_start r) ≡ null_bit (get_or cs i (some []))
   -- "fixed columns": the stored form in its slot, zeros for a null
   pub slot : (i : ℕ) → i < length ss
-      → take (slotSize (get_or ss i Varlen)) (drop (slotPlace w true ss i) r) ≡ slot_of (get_or ss i Varlen) (get_or cs i none)
+      → take (slot_size (get_or ss i Varlen)) (drop (slot_place w true ss i) r) ≡ slot_of (get_or ss i Varlen) (get_or cs i none)
   -- "Null Varchars have offset 0; an empty one has its own offset"
   pub entry : (i : ℕ) → i < length ss → get_or ss i Varlen ≡ Varlen
-      → entry_at w (tableStart (length ss)) (rank_of ss i) r ≡ offset (get_or cs i none) (payloadPlace w ss cs i)
+      → entry_at w (table_start (length ss)) (rank_of ss i) r ≡ offset (get_or cs i none) (payload_place w ss cs i)
   -- "payloads": the stored form, where its range is
   pub end : (i : ℕ) → i < length ss → get_or ss i Varlen ≡ Varlen
-      → rangeEnd w (tableStart (length ss)) (varlens ss) (rank_of ss i) r
-      ≡ payloadPlace w ss cs i + length (bytes (get_or cs i none))
+      → range_end w (table_start (length ss)) (varlens ss) (rank_of ss i) r
+      ≡ payload_place w ss cs i + length (bytes (get_or cs i none))
   pub payload : (i : ℕ) → i < length ss → get_or ss i Varlen ≡ Varlen
-      → take (length (bytes (get_or cs i none))) (drop (payloadPlace w ss cs i) r) ≡ bytes (get_or cs i none)
+      → take (length (bytes (get_or cs i none))) (drop (payload_place w ss cs i) r) ≡ bytes (get_or cs i none)
   -- and nothing past them
-  pub long : length r ≡ minimum w true ss + length (payloads (varlenCells ss cs))
+  pub long : length r ≡ minimum w true ss + length (payloads (varlen_cells ss cs))
 
 -- the row that is built of cells, where the header's numbers fit their bytes and the row's length an offset
 abbrev pub LayoutWritten : (w marks : ℕ) (ss : List Shape) (cs : List Cell) → Type 0
 LayoutWritten w marks ss cs =
-    CellsFit ss cs → length ss < 65536 → varlens ss + marks < 65536 → length (builtRow w marks ss cs) < 256 ^ w
-    → WrittenRow w marks ss cs (builtRow w marks ss cs)
+    CellsFit ss cs → length ss < 65536 → varlens ss + marks < 65536 → length (built_row w marks ss cs) < 256 ^ w
+    → WrittenRow w marks ss cs (built_row w marks ss cs)

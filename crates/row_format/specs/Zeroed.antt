@@ -4,26 +4,26 @@ use Rattle.std.specs.Prelude.{ℕ, zero, suc, ◌+◌, ◌≤◌, ◌<◌, true,
 use Rattle.laws.specs.Bits.{bit_at}
 use Rattle.row_format.specs.declared.Shape.{Shape}
 use Rattle.row_format.specs.declared.Shape.TheVariants.{Varlen}
-use Rattle.row_format.specs.Places.{varlens, bitmapStart, fixedStart, slotStart}
-use Rattle.row_format.specs.Row.{slotSize}
+use Rattle.row_format.specs.Places.{varlens, bitmap_start, fixed_start, slot_start}
+use Rattle.row_format.specs.Row.{slot_size}
 
 -- a slot of z bytes, by its column's bit
-abbrev pub zeroedSlot : ℕ → ℕ → List ℕ → List ℕ
-zeroedSlot zero z slot = slot
-zeroedSlot (suc bit) z slot = replicate z 0
+abbrev pub zeroed_slot : ℕ → ℕ → List ℕ → List ℕ
+zeroed_slot zero z slot = slot
+zeroed_slot (suc bit) z slot = replicate z 0
 
 -- the bytes r of a row from the slot of column i on, where ss are column i and those after it; a Varchar's slot has no
 -- bytes
-abbrev pub zeroedFrom : List ℕ → ℕ → List Shape → List ℕ → List ℕ
-zeroedFrom bits i [] r = r
-zeroedFrom bits i (s ∷ ss) r =
-    zeroedSlot (bit_at i bits) (slotSize s) (take (slotSize s) r)
-    ++ zeroedFrom bits (suc i) ss (drop (slotSize s) r)
+abbrev pub zeroed_from : List ℕ → ℕ → List Shape → List ℕ → List ℕ
+zeroed_from bits i [] r = r
+zeroed_from bits i (s ∷ ss) r =
+    zeroed_slot (bit_at i bits) (slot_size s) (take (slot_size s) r)
+    ++ zeroed_from bits (suc i) ss (drop (slot_size s) r)
 
-unfoldable pub zeroedRow : ℕ → List Shape → List ℕ → List ℕ
-zeroedRow w ss r =
-    take (fixedStart w (length ss) (varlens ss)) r
-    ++ zeroedFrom (drop bitmapStart r) 0 ss (drop (fixedStart w (length ss) (varlens ss)) r)
+unfoldable pub zeroed_row : ℕ → List Shape → List ℕ → List ℕ
+zeroed_row w ss r =
+    take (fixed_start w (length ss) (varlens ss)) r
+    ++ zeroed_from (drop bitmap_start r) 0 ss (drop (fixed_start w (length ss) (varlens ss)) r)
 
 -- ---- the same by places
 
@@ -31,9 +31,9 @@ zeroedRow w ss r =
 pub record InNullSlot (w : ℕ) (ss : List Shape) (r : List ℕ) (j : ℕ) : Type 0 where
   pub column : ℕ
   pub inside : column < length ss
-  pub null : bit_at column (drop bitmapStart r) ≡ 1
-  pub from : fixedStart w (length ss) (varlens ss) + slotStart true ss column ≤ j
-  pub before : j < fixedStart w (length ss) (varlens ss) + slotStart true ss column + slotSize (get_or ss column Varlen)
+  pub null : bit_at column (drop bitmap_start r) ≡ 1
+  pub from : fixed_start w (length ss) (varlens ss) + slot_start true ss column ≤ j
+  pub before : j < fixed_start w (length ss) (varlens ss) + slot_start true ss column + slot_size (get_or ss column Varlen)
 
 -- z is r with the bytes of those slots zero, and every other byte as it was
 pub record ZeroedSlots (w : ℕ) (ss : List Shape) (r z : List ℕ) : Type 0 where

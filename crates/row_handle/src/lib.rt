@@ -2,9 +2,9 @@
 // all the branches; the two functions over a lent handle (rook_row) call these. The row is the buffer's first
 // `length` bytes, and its own mark tells its sort. The layout that comes in is never read.
 ghost use Rattle.std.specs.Prelude.{◌≡◌};
-ghost use Rattle.row_layout.specs.Layout.{sizeIn};
+ghost use Rattle.row_layout.specs.Layout.{size_in};
 ghost use Rattle.row_format.specs.Header.{is_packed};
-ghost use Rattle.row_handle.specs.Handle.{geometry, handleAfter, handleSet, handleSetNull};
+ghost use Rattle.row_handle.specs.Handle.{geometry, handle_after, handle_set, handle_set_null};
 
 use datatype::SchemaCheck;
 use error::Answer;
@@ -48,7 +48,7 @@ fn is_packed(row: &[u8]) -> bool
 }
 
 fn fixed_size(layout: RowLayout, packed: bool) -> usize
-    ensures { result ≡ sizeIn layout packed }
+    ensures { result ≡ size_in layout packed }
 {
     if packed {
         layout.packed_size
@@ -71,7 +71,7 @@ fn geometry_of(layout: RowLayout, packed: bool) -> HandleLayout
 
 // The handle after a call on a schema of this layout.
 fn handle_after(answer: Answer, layout: RowLayout, buf: &[u8], handle: RowHandle) -> RowHandle
-    ensures { result ≡ handleAfter (geometry layout (is_packed buf.now)) handle answer }
+    ensures { result ≡ handle_after (geometry layout (is_packed buf.now)) handle answer }
 {
     match answer {
         Answer::Done(length) => RowHandle {
@@ -92,7 +92,7 @@ pub fn with_value(
     text: &[u8],
 ) -> Edited
     ensures { (result.answer, (buf.new, result.handle))
-        ≡ handleSet schema.now buf.old handle column
+        ≡ handle_set schema.now buf.old handle column
         values.now text.now }
 {
     let is_long = row_layout::sort_in(buf, handle.length);
@@ -113,7 +113,7 @@ pub fn with_value(
 // The column set to null.
 pub fn with_null(schema: &[u8], buf: &mut [u8], handle: RowHandle, column: usize) -> Edited
     ensures { (result.answer, (buf.new, result.handle))
-        ≡ handleSetNull schema.now buf.old handle column }
+        ≡ handle_set_null schema.now buf.old handle column }
 {
     let is_long = row_layout::sort_in(buf, handle.length);
     match datatype::check_schema(schema, is_long) {

@@ -3,16 +3,16 @@
 use Rattle.std.specs.Prelude.{ℕ, ◌+◌, ◌*◌, ◌≤◌, ◌<◌, Bool, true, false, []}
 use Rattle.row_format.specs.declared.Shape.{Shape}
 use Rattle.row_format.specs.declared.Shape.TheVariants.{Fixed, Varlen}
-use Rattle.row_format.specs.Places.{rankAfter, endAfter, fixedStart, offsetWidth}
+use Rattle.row_format.specs.Places.{rank_after, end_after, fixed_start, offset_width}
 use Rattle.row_layout.specs.declared.RowLayout.{RowLayout}
-use Rattle.row_layout.specs.Layout.{layout_of, sizeIn}
+use Rattle.row_layout.specs.Layout.{layout_of, size_in}
 
-abbrev pub noColumns : RowLayout
-noColumns = layout_of false []
+abbrev pub no_columns : RowLayout
+no_columns = layout_of false []
 
 -- the same geometry for a sort
-abbrev pub ofSort : Bool → RowLayout → RowLayout
-ofSort k l =
+abbrev pub of_sort : Bool → RowLayout → RowLayout
+of_sort k l =
     record {
       num_columns = l.num_columns;
       num_varlen_cols = l.num_varlen_cols;
@@ -21,19 +21,19 @@ ofSort k l =
       is_long = k;
     }
 
-abbrev pub withColumn : RowLayout → Shape → RowLayout
-withColumn l s =
+abbrev pub with_column : RowLayout → Shape → RowLayout
+with_column l s =
     record {
       num_columns = l.num_columns + 1;
-      num_varlen_cols = rankAfter s l.num_varlen_cols;
-      packed_size = endAfter true s l.packed_size;
-      padded_size = endAfter false s l.padded_size;
+      num_varlen_cols = rank_after s l.num_varlen_cols;
+      packed_size = end_after true s l.packed_size;
+      padded_size = end_after false s l.padded_size;
       is_long = l.is_long;
     }
 
 -- `min_row_size`
-abbrev pub minimumOf : RowLayout → Bool → ℕ
-minimumOf l p = fixedStart (offsetWidth l.is_long) l.num_columns l.num_varlen_cols + sizeIn l p
+abbrev pub minimum_of : RowLayout → Bool → ℕ
+minimum_of l p = fixed_start (offset_width l.is_long) l.num_columns l.num_varlen_cols + size_in l p
 
 -- ---- what keeps the sums from wrapping
 

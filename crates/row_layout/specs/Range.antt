@@ -2,7 +2,7 @@
 -- length").
 use Rattle.std.specs.Prelude.{ℕ, cond, List, eqb, ltb, length}
 use Rattle.laws.specs.Bytes.{entry_at}
-use Rattle.row_format.specs.Table.{rangeEnd}
+use Rattle.row_format.specs.Table.{range_end}
 use Rattle.row_layout.specs.declared.VarlenRange.{VarlenRange}
 use Rattle.row_layout.specs.declared.VarlenRange.TheVariants.{Null, Bytes, Outside}
 
@@ -11,6 +11,6 @@ abbrev pub part_of : ℕ → ℕ → ℕ → VarlenRange
 part_of n a e = cond (ltb e a) Outside (cond (ltb n e) Outside (Bytes a e))
 
 -- rank k, in a row r with a table of v offsets of w bytes at byte `table`
-abbrev pub varlenRange : ℕ → ℕ → ℕ → ℕ → List ℕ → VarlenRange
-varlenRange w table v k r =
-    cond (eqb (entry_at w table k r) 0) Null (part_of (length r) (entry_at w table k r) (rangeEnd w table v k r))
+abbrev pub varlen_range : ℕ → ℕ → ℕ → ℕ → List ℕ → VarlenRange
+varlen_range w table v k r =
+    cond (eqb (entry_at w table k r) 0) Null (part_of (length r) (entry_at w table k r) (range_end w table v k r))

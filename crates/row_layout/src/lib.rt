@@ -1,14 +1,14 @@
 // row_layout.rs: where the parts of a row stand, the entries of its offset table, and the range of a Varchar.
 ghost use Rattle.std.specs.Prelude.{◌≡◌, ◌+◌, ◌*◌, ◌%◌, ◌^◌, ◌≤◌, ◌<◌, length};
 ghost use Rattle.std.proofs.lemmas.List.Edits.{sets};
-ghost use Rattle.row_format.specs.Places.{round_up, start_at, bitmapStart, tableStart, fixedStart, offsetWidth, rowLimit};
-ghost use Rattle.row_format.specs.Row.{packedMarks, leastMark};
-ghost use Rattle.row_format.specs.Header.{isLong, sortIn};
-ghost use Rattle.row_format.specs.Table.{rangeEnd};
-ghost use Rattle.laws.specs.Bytes.{toLe, entry_at};
-ghost use Rattle.row_layout.specs.Layout.{sizeIn};
-ghost use Rattle.row_layout.specs.Range.{varlenRange};
-ghost use Rattle.row_layout.specs.InnerLayout.{Bounded, Small, minimumOf, noColumns, ofSort, withColumn};
+ghost use Rattle.row_format.specs.Places.{round_up, start_at, bitmap_start, table_start, fixed_start, offset_width, row_limit};
+ghost use Rattle.row_format.specs.Row.{packed_marks, least_mark};
+ghost use Rattle.row_format.specs.Header.{is_long, sort_in};
+ghost use Rattle.row_format.specs.Table.{range_end};
+ghost use Rattle.laws.specs.Bytes.{to_le, entry_at};
+ghost use Rattle.row_layout.specs.Layout.{size_in};
+ghost use Rattle.row_layout.specs.Range.{varlen_range};
+ghost use Rattle.row_layout.specs.InnerLayout.{Bounded, Small, minimum_of, no_columns, of_sort, with_column};
 ghost use Rattle.row_layout.specs.InnerRange.{Inside};
 
 use row_format::Shape;
@@ -40,21 +40,21 @@ pub struct RowLayout {
 
 // The bytes of an offset.
 pub fn offset_width(is_long: bool) -> usize
-    ensures { (result ≡ offsetWidth is_long) × (result ≤ 4) }
+    ensures { (result ≡ offset_width is_long) × (result ≤ 4) }
 {
     if is_long { 4 } else { 2 }
 }
 
 // The most bytes of a row, and of the text area beside a value list.
 pub fn row_limit(is_long: bool) -> usize
-    ensures { (result ≡ rowLimit is_long) × (result ≤ 1048576) }
+    ensures { (result ≡ row_limit is_long) × (result ≤ 1048576) }
 {
     if is_long { 1048576 } else { 65535 }
 }
 
 // The Varchars that the header's second word counts, its marks masked off.
 pub fn varlen_count(field: u16, is_long: bool) -> usize
-    ensures { result ≡ field % leastMark is_long }
+    ensures { result ≡ field % least_mark is_long }
 {
     if is_long {
         return (field % RowLayout::LONG_LAYOUT_FLAG) as usize;
@@ -64,14 +64,14 @@ pub fn varlen_count(field: u16, is_long: bool) -> usize
 
 // The marks of a packed row, which the header adds to that count.
 pub fn packed_marks(is_long: bool) -> u16
-    ensures { (result ≡ packedMarks is_long) × (result ≤ 0xC000) }
+    ensures { (result ≡ packed_marks is_long) × (result ≤ 0xC000) }
 {
     if is_long { 0xC000 } else { 0x8000 }
 }
 
 // The sort that a row's own mark tells.
 pub fn is_long(row: &[u8]) -> bool
-    ensures { result ≡ isLong row.now }
+    ensures { result ≡ is_long row.now }
 {
     if row.len() < 4 {
         return false;
@@ -82,7 +82,7 @@ pub fn is_long(row: &[u8]) -> bool
 
 // The same of the row in the first n bytes of a buffer; one past its end counts as short.
 pub fn sort_in(buf: &[u8], n: usize) -> bool
-    ensures { result ≡ sortIn buf.now n }
+    ensures { result ≡ sort_in buf.now n }
 {
     if buf.len() < n {
         return false;
@@ -100,14 +100,14 @@ impl RowLayout {
     pub const COLUMN_LIMIT: usize = 256;
 
     pub fn bitmap_offset() -> usize
-        ensures { result ≡ bitmapStart }
+        ensures { result ≡ bitmap_start }
     {
         4
     }
 
     // The layout of no columns, which a walk over the columns starts with.
     pub fn new() -> Self
-        ensures { result ≡ noColumns }
+        ensures { result ≡ no_columns }
     {
         RowLayout {
             num_columns: 0,
@@ -121,7 +121,7 @@ impl RowLayout {
     // The same geometry for the rows of a sort. A layout that is built anew at a call is stored by its fields; one that
     // is handed on as it came is stored with the bytes behind its last field, for which the called function waits.
     pub fn of_sort(self, is_long: bool) -> Self
-        ensures { result ≡ ofSort is_long self }
+        ensures { result ≡ of_sort is_long self }
     {
         RowLayout {
             num_columns: self.num_columns,
@@ -135,7 +135,7 @@ impl RowLayout {
     // The layout with one column more.
     pub fn with_column(self, s: Shape) -> Self
         requires { (self.num_columns < 256) × (Bounded self × Small s) }
-        ensures { (result ≡ withColumn self s) × Bounded result }
+        ensures { (result ≡ with_column self s) × Bounded result }
     {
         match s {
             Shape::Varlen => RowLayout {
@@ -158,7 +158,7 @@ impl RowLayout {
     // Where a fixed column of alignment a starts that comes after these, counted from the first fixed byte.
     pub fn slot_start(self, packed: bool, a: usize) -> usize
         requires { Bounded self × ((0 < a) × (a ≤ 8)) }
-        ensures { result ≡ start_at packed a (sizeIn self packed) }
+        ensures { result ≡ start_at packed a (size_in self packed) }
     {
         if packed {
             self.packed_size
@@ -169,7 +169,7 @@ impl RowLayout {
 
     pub fn varlen_table_offset(self) -> usize
         requires { Bounded self }
-        ensures { result ≡ tableStart self.num_columns }
+        ensures { result ≡ table_start self.num_columns }
     {
         RowLayout::bitmap_offset() + (self.num_columns + 7) / 8
     }
@@ -177,7 +177,7 @@ impl RowLayout {
     pub fn fixed_data_start(self) -> usize
         requires { Bounded self }
         ensures { (result
-            ≡ fixedStart (offsetWidth self.is_long) self.num_columns self.num_varlen_cols)
+            ≡ fixed_start (offset_width self.is_long) self.num_columns self.num_varlen_cols)
             × (result ≤ 1060) }
     {
         self.varlen_table_offset() + self.num_varlen_cols * offset_width(self.is_long)
@@ -186,7 +186,7 @@ impl RowLayout {
     // The bytes before the payloads.
     pub fn min_row_size(self, packed: bool) -> usize
         requires { Bounded self }
-        ensures { result ≡ minimumOf self packed }
+        ensures { result ≡ minimum_of self packed }
     {
         if packed {
             self.fixed_data_start() + self.packed_size
@@ -198,9 +198,9 @@ impl RowLayout {
 
 // The offset of a rank, in the table that starts at `table`.
 pub fn offset_at(row: &[u8], is_long: bool, table: usize, rank: usize) -> usize
-    requires { table + (rank + 1) * offsetWidth is_long ≤ length row.now }
-    ensures { (result ≡ entry_at (offsetWidth is_long) table rank row.now)
-        × (result < 256 ^ offsetWidth is_long) }
+    requires { table + (rank + 1) * offset_width is_long ≤ length row.now }
+    ensures { (result ≡ entry_at (offset_width is_long) table rank row.now)
+        × (result < 256 ^ offset_width is_long) }
 {
     if is_long {
         return endian::read_u32(row, table + rank * 4) as usize;
@@ -210,8 +210,8 @@ pub fn offset_at(row: &[u8], is_long: bool, table: usize, rank: usize) -> usize
 
 // An offset stored where its entry stands.
 pub fn write_offset(row: &mut [u8], is_long: bool, at: usize, offset: usize)
-    requires { (at + offsetWidth is_long ≤ length row.old) × (offset < 256 ^ offsetWidth is_long) }
-    ensures { row.new ≡ sets row.old at (toLe (offsetWidth is_long) offset) }
+    requires { (at + offset_width is_long ≤ length row.old) × (offset < 256 ^ offset_width is_long) }
+    ensures { row.new ≡ sets row.old at (to_le (offset_width is_long) offset) }
 {
     if is_long {
         endian::write_u32(row, at, offset as u32);
@@ -222,8 +222,8 @@ pub fn write_offset(row: &mut [u8], is_long: bool, at: usize, offset: usize)
 
 // Where the range of a rank ends: at the first offset of a higher rank that is not 0, else at the row's end.
 pub fn range_end(row: &[u8], is_long: bool, table: usize, varlens: usize, rank: usize) -> usize
-    requires { (rank < varlens) × (table + varlens * offsetWidth is_long ≤ length row.now) }
-    ensures { result ≡ rangeEnd (offsetWidth is_long) table varlens rank row.now }
+    requires { (rank < varlens) × (table + varlens * offset_width is_long ≤ length row.now) }
+    ensures { result ≡ range_end (offset_width is_long) table varlens rank row.now }
 {
     let mut k = rank + 1;
     let end = loop {
@@ -255,8 +255,8 @@ pub fn varlen_range(
     varlens: usize,
     rank: usize,
 ) -> VarlenRange
-    requires { (rank < varlens) × (table + varlens * offsetWidth is_long ≤ length row.now) }
-    ensures { (result ≡ varlenRange (offsetWidth is_long) table varlens rank row.now)
+    requires { (rank < varlens) × (table + varlens * offset_width is_long ≤ length row.now) }
+    ensures { (result ≡ varlen_range (offset_width is_long) table varlens rank row.now)
         × Inside row.now result }
 {
     let start = offset_at(row, is_long, table, rank);

@@ -4,6 +4,6 @@ use Rattle.error.specs.Result.{Result, ok, refused}
 use Rattle.row_list.specs.declared.ListCheck.{ListCheck}
 use Rattle.row_list.specs.declared.ListCheck.TheVariants.{Rows, Refused}
 
-abbrev pub listChecked : Result (List (List ℕ)) → ListCheck
-listChecked (ok rs) = Rows (length rs)
-listChecked (refused e) = Refused e
+abbrev pub list_checked : Result (List (List ℕ)) → ListCheck
+list_checked (ok rs) = Rows (length rs)
+list_checked (refused e) = Refused e

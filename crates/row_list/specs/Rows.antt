@@ -3,28 +3,28 @@
 use Rattle.std.specs.Prelude.{ℕ, zero, suc, ◌+◌, cond, List, [], eqb, ltb, length, take, drop}
 use Rattle.error.specs.declared.Refusal.TheVariants.{BadList}
 use Rattle.error.specs.Result.{Result, ok, refused, before}
-use Rattle.laws.specs.Bytes.{fromLe}
+use Rattle.laws.specs.Bytes.{from_le}
 
 -- the length that stands before the first row, and that row
-abbrev pub firstSize : List ℕ → ℕ
-firstSize s = fromLe (take 2 s)
+abbrev pub first_size : List ℕ → ℕ
+first_size s = from_le (take 2 s)
 
-abbrev pub firstRow : List ℕ → List ℕ
-firstRow s = take (firstSize s) (drop 2 s)
+abbrev pub first_row : List ℕ → List ℕ
+first_row s = take (first_size s) (drop 2 s)
 
 -- the bytes from the second row on
-abbrev pub laterRows : List ℕ → List ℕ
-laterRows s = drop (2 + firstSize s) s
+abbrev pub later_rows : List ℕ → List ℕ
+later_rows s = drop (2 + first_size s) s
 
 -- 16: "a list that is cut or over its limits": the rows, at most n
 abbrev pub rows_from : ℕ → List ℕ → Result (List (List ℕ))
 rows_from zero s = cond (eqb (length s) 0) (ok []) (refused BadList)
 rows_from (suc n) s =
     cond (eqb (length s) 0) (ok [])
-    (cond (ltb (length s) (2 + firstSize s)) (refused BadList) (before (firstRow s) (rows_from n (laterRows s))))
+    (cond (ltb (length s) (2 + first_size s)) (refused BadList) (before (first_row s) (rows_from n (later_rows s))))
 
-abbrev pub listLimit : ℕ
-listLimit = 32768
+abbrev pub list_limit : ℕ
+list_limit = 32768
 
 abbrev pub rows_of : ℕ → List ℕ → Result (List (List ℕ))
-rows_of most s = cond (ltb listLimit (length s)) (refused BadList) (rows_from most s)
+rows_of most s = cond (ltb list_limit (length s)) (refused BadList) (rows_from most s)

@@ -1,7 +1,7 @@
 // A list of rows, each after its length in two bytes: whether it is whole, and its rows one after the other.
 ghost use Rattle.std.specs.Prelude.{◌≡◌, ◌+◌, ◌≤◌, length, drop};
-ghost use Rattle.row_list.specs.Rows.{firstSize, firstRow, rows_of};
-ghost use Rattle.row_list.specs.InnerRows.{listChecked};
+ghost use Rattle.row_list.specs.Rows.{first_size, first_row, rows_of};
+ghost use Rattle.row_list.specs.InnerRows.{list_checked};
 
 use error::Refusal;
 
@@ -17,7 +17,7 @@ pub const LIST_LIMIT: usize = 32768;
 
 // The list is looked at whole before any of its rows.
 pub fn check(list: &[u8], most: usize) -> ListCheck
-    ensures { result ≡ listChecked (rows_of most list.now) }
+    ensures { result ≡ list_checked (rows_of most list.now) }
 {
     let n = list.len();
     if LIST_LIMIT < n {
@@ -45,7 +45,7 @@ pub fn check(list: &[u8], most: usize) -> ListCheck
 // Where the row ends whose length stands at a place.
 pub fn row_end(list: &[u8], at: usize) -> usize
     requires { at + 2 ≤ length list.now }
-    ensures { result ≡ at + (2 + firstSize (drop at list.now)) }
+    ensures { result ≡ at + (2 + first_size (drop at list.now)) }
 {
     let size = endian::read_u16(list, at) as usize;
     at + (2 + size)
@@ -53,8 +53,8 @@ pub fn row_end(list: &[u8], at: usize) -> usize
 
 // The row whose length stands at a place.
 pub fn row_at<'l>(list: &'l [u8], at: usize) -> &'l [u8]
-    requires { at + (2 + firstSize (drop at list.now)) ≤ length list.now }
-    ensures { result.now ≡ firstRow (drop at list.now) }
+    requires { at + (2 + first_size (drop at list.now)) ≤ length list.now }
+    ensures { result.now ≡ first_row (drop at list.now) }
 {
     let start = at + 2;
     let end = row_end(list, at);

@@ -8,40 +8,40 @@ use native.Mathlib.Omega.{arith}
 use lib.ListN.{length, take, drop, length-drop, take-append-drop}
 use lib.Seq.{sets, length-sets, length-take-le}
 use borrow.Author.Tests.{lt-leb}
-use Rattle.laws.specs.Bits.{putBitAt}
+use Rattle.laws.specs.Bits.{put_bit_at}
 use Rattle.laws.specs.Bytes.{splice}
 use Rattle.laws.proofs.Bytes.{same-length-splice}
 use Rattle.laws.proofs.Parts.{part-all, part_none}
 use Rattle.laws.proofs.Stores.{sets-left, sets-splice}
 use Rattle.laws.proofs.Truths.{by_cond}
 use Rattle.null_bitmap.specs.declared.BitAnswer.{BitAnswer}
-use Rattle.null_bitmap.specs.InnerBitmap.{flagPut}
-use Rattle.row_format.specs.Places.{bitmapStart, tableStart, offsetWidth}
+use Rattle.null_bitmap.specs.InnerBitmap.{flag_put}
+use Rattle.row_format.specs.Places.{bitmap_start, table_start, offset_width}
 use Rattle.row_format.specs.Table.{Cell, bytes}
-use Rattle.row_format.specs.Edit.{offsetTable, span, slotEdit, rangeEdit}
+use Rattle.row_format.specs.Edit.{offset_table, span, slot_edit, range_edit}
 use Rattle.row_format.specs.declared.Shape.TheVariants.{Fixed}
-use Rattle.row_format.specs.Row.{nullBit}
-use Rattle.row_format.proofs.Edit.{length-bit-edit, length-range-edit}
+use Rattle.row_format.specs.Row.{null_bit}
+use Rattle.row_format.proofs.Edit.{length-bit_edit, length-range_edit}
 use Rattle.row_format.specs.InnerRow.{FitsCell}
 use Rattle.row_layout.specs.declared.RowLayout.{RowLayout}
 use Rattle.datatype.specs.declared.DataType.{DataType}
-use Rattle.datatype.specs.Types.{size_of, isVarlen}
+use Rattle.datatype.specs.Types.{size_of, is_varlen}
 use Rattle.value.specs.declared.DataValue.{DataValue}
 use Rattle.value.specs.Ranges.{range_of, text_of}
 use Rattle.stored_form.proofs.Lengths.{length-stored, accepted-suits}
-use Rattle.row_column.specs.InnerWalk.{walkedPlace}
+use Rattle.row_column.specs.InnerWalk.{walked_place}
 use Rattle.row_patch.specs.InnerHeld.{Holds}
-use Rattle.row_patch.specs.InnerStores.{form_of, bitPut, columnSet, row_set, Suited, change, Editable}
-use Rattle.row_patch.proofs.Held.{row_of, held-again}
+use Rattle.row_patch.specs.InnerStores.{form_of, bit_put, column_set, row_set, Suited, change, Editable}
+use Rattle.row_patch.proofs.Held.{row_of, held_again}
 use Rattle.row_patch.proofs.Ranges.{length-text}
 
 -- ---- a slot
 
-pub length-slot : {t : DataType} {v : DataValue} {area : List ℕ} → Suited t v area → isVarlen t ≡ false → length (form_of t v area) ≡ size_of t
+pub length-slot : {t : DataType} {v : DataValue} {area : List ℕ} → Suited t v area → is_varlen t ≡ false → length (form_of t v area) ≡ size_of t
 length-slot {t} {v} {area} s e = length-stored t v (text_of area v) s.kind (accepted-suits t v area s.holds) ∙ rw e
 
 -- q is the buffer after the store
-pub slot-stored : (b bs q : List ℕ) (n at z : ℕ) → length bs ≡ z → at + z ≤ n → n ≤ length b → q ≡ sets b at bs → Holds b (slotEdit at z (some bs) (take n b)) q n
+pub slot-stored : (b bs q : List ℕ) (n at z : ℕ) → length bs ≡ z → at + z ≤ n → n ≤ length b → q ≡ sets b at bs → Holds b (slot_edit at z (some bs) (take n b)) q n
 slot-stored b bs q n at z l h k d =
     let m : length (take n b) ≡ n = length-take-le n b k in
     let low : at + length bs ≤ length (take n b) = rw (l, m) h in
@@ -54,13 +54,13 @@ slot-stored b bs q n at z l h k d =
 -- ---- a bit
 
 -- y is the answer, and x what the callee leaves of the part that starts at the bitmap, at b
-pub bit-stored : (v n i : ℕ) (r : List ℕ) (y : BitAnswer) (x : List ℕ) {b : ℕ} → b ≡ bitmapStart → i < n
-    → tableStart n ≤ length r → (y, x) ≡ flagPut v n i (take (length r - b) (drop b r))
-    → take b r ++ (x ++ drop (length r - b) (drop b r)) ≡ bitPut v i r
+pub bit-stored : (v n i : ℕ) (r : List ℕ) (y : BitAnswer) (x : List ℕ) {b : ℕ} → b ≡ bitmap_start → i < n
+    → table_start n ≤ length r → (y, x) ≡ flag_put v n i (take (length r - b) (drop b r))
+    → take b r ++ (x ++ drop (length r - b) (drop b r)) ≡ bit_put v i r
 bit-stored v n i r y x e h k f =
     let d = rw e at f in
     let inside : i / 8 < length (drop 4 r) = rw length-drop (omega arith) in
-    let put : x ≡ putBitAt v i (drop 4 r) = ap (λ (p : BitAnswer × List ℕ). p.1) (rw (part-all r 4, lt-leb n i h, lt-leb (length (drop 4 r)) (i / 8) inside) at d) in
+    let put : x ≡ put_bit_at v i (drop 4 r) = ap (λ (p : BitAnswer × List ℕ). p.1) (rw (part-all r 4, lt-leb n i h, lt-leb (length (drop 4 r)) (i / 8) inside) at d) in
     rw (e, put, part_none r 4, append-nil)
 
 -- ---- a column
@@ -71,8 +71,8 @@ held_same b n h = let m : length (take n b) ≡ n = length-take-le n b h in (sym
 
 -- a cell that the column's type has room for, z bytes of it in a Varchar's range
 pub record Sized (t : DataType) (z : ℕ) (c : Cell) : Type 0 where
-  pub text : isVarlen t ≡ true → length (bytes c) ≡ z
-  pub slot : isVarlen t ≡ false → FitsCell (Fixed (size_of t) 1) c
+  pub text : is_varlen t ≡ true → length (bytes c) ≡ z
+  pub slot : is_varlen t ≡ false → FitsCell (Fixed (size_of t) 1) c
 
 pub sized-null : (t : DataType) → Sized t 0 none
 sized-null t = record { text = λ v. refl; slot = λ f. tt }
@@ -80,32 +80,32 @@ sized-null t = record { text = λ v. refl; slot = λ f. tt }
 pub sized-value : {t : DataType} {v : DataValue} {area : List ℕ} → Suited t v area → Sized t (range_of v).length (some (form_of t v area))
 sized-value s = record { text = length-text s; slot = length-slot s }
 
-slot-edited : (at z : ℕ) (c : Cell) (r : List ℕ) → FitsCell (Fixed z 1) c → at + z ≤ length r → length (slotEdit at z c r) ≡ length r
+slot-edited : (at z : ℕ) (c : Cell) (r : List ℕ) → FitsCell (Fixed z 1) c → at + z ≤ length r → length (slot_edit at z c r) ≡ length r
 slot-edited at z none r f h = refl
 slot-edited at z (some b) r f h = same-length-splice at (at + z) b r (rw f) h
 
 -- q is the buffer after the column was set, and m the length of its row
-module _ {l : RowLayout} {p : Bool} {b : RowLayout} {t : DataType} {n a e z : ℕ} {buf : List ℕ} (g : Editable l p b t (change n a e z) buf) {c : Cell} (s : Sized t z c) (q : List ℕ) (m : ℕ) (h : Holds buf (columnSet l p b t (span a e) c (take n buf)) q m) where
+module _ {l : RowLayout} {p : Bool} {b : RowLayout} {t : DataType} {n a e z : ℕ} {buf : List ℕ} (g : Editable l p b t (change n a e z) buf) {c : Cell} (s : Sized t z c) (q : List ℕ) (m : ℕ) (h : Holds buf (column_set l p b t (span a e) c (take n buf)) q m) where
   abbrev row : List ℕ
   row = take n buf
 
   abbrev edited : List ℕ
-  edited = columnSet l p b t (span a e) c row
+  edited = column_set l p b t (span a e) c row
 
   row-length : length row ≡ n
   row-length = length-take-le n buf g.inside
 
   -- its row has the bitmap, and fits the buffer
-  inside : (tableStart l.num_columns ≤ length edited) × (length edited ≤ length buf)
+  inside : (table_start l.num_columns ≤ length edited) × (length edited ≤ length buf)
   inside =
-      by_cond (λ r. (tableStart l.num_columns ≤ length r) × (length r ≤ length buf)) (isVarlen t) (rangeEdit (offsetTable (offsetWidth l.is_long) (tableStart l.num_columns) l.num_varlen_cols) b.num_varlen_cols c (span a e) row) (slotEdit (walkedPlace l p b t) (size_of t) c row)
+      by_cond (λ r. (table_start l.num_columns ≤ length r) × (length r ≤ length buf)) (is_varlen t) (range_edit (offset_table (offset_width l.is_long) (table_start l.num_columns) l.num_varlen_cols) b.num_varlen_cols c (span a e) row) (slot_edit (walked_place l p b t) (size_of t) c row)
       (λ v.
       let r = g.range v in
       let k = r.replaceable in
-      let x = length-range-edit (offsetWidth l.is_long) (tableStart l.num_columns) l.num_varlen_cols b.num_varlen_cols c a e row r.ranked r.behind k.range (rw row-length k.within) in
+      let x = length-range_edit (offset_width l.is_long) (table_start l.num_columns) l.num_varlen_cols b.num_varlen_cols c a e row r.ranked r.behind k.range (rw row-length k.within) in
       (omega (arith, x, row-length, s.text v, r.behind, k.range, k.within), omega (arith, x, row-length, s.text v, k.room, k.range, k.within)))
       (λ f.
-      let x = slot-edited (walkedPlace l p b t) (size_of t) c row (s.slot f) (g.reach.slot f) in
+      let x = slot-edited (walked_place l p b t) (size_of t) c row (s.slot f) (g.reach.slot f) in
       (rw x (omega (arith, g.reach.table)), rw (x, row-length) g.inside))
 
   lent : take m q ≡ edited
@@ -117,11 +117,11 @@ module _ {l : RowLayout} {p : Bool} {b : RowLayout} {t : DataType} {n a e z : �
   pub bit-part : m ≡ length (take m q)
   bit-part = h.1 ∙ sym (ap length lent)
 
-  pub bit-ready : (b.num_columns < l.num_columns) × (tableStart l.num_columns ≤ length (take m q))
-  bit-ready = (g.reach.column, rw lent inside.0)
+  pub bit_ready : (b.num_columns < l.num_columns) × (table_start l.num_columns ≤ length (take m q))
+  bit_ready = (g.reach.column, rw lent inside.0)
 
-  pub bit-done : (x : List ℕ) → x ≡ bitPut (nullBit c) b.num_columns (take m q) → Holds buf (row_set l p b t (span a e) c row) (x ++ drop m q) m
+  pub bit-done : (x : List ℕ) → x ≡ bit_put (null_bit c) b.num_columns (take m q) → Holds buf (row_set l p b t (span a e) c row) (x ++ drop m q) m
   bit-done x d =
       let y : x ≡ row_set l p b t (span a e) c row = d ∙ rw lent in
-      let k : length (row_set l p b t (span a e) c row) ≡ m = length-bit-edit b.num_columns c edited ∙ sym h.1 in
-      (held-again buf edited q m h.0 (sym h.1) x (ap length y ∙ k) ∙ rw y, sym k)
+      let k : length (row_set l p b t (span a e) c row) ≡ m = length-bit_edit b.num_columns c edited ∙ sym h.1 in
+      (held_again buf edited q m h.0 (sym h.1) x (ap length y ∙ k) ∙ rw y, sym k)

@@ -1,19 +1,19 @@
 -- The offsets of a table after the range of rank k, which ended at e, ends at f.
 use Rattle.std.specs.Prelude.{ℕ, suc, ◌+◌, ◌*◌, ◌-◌, ◌^◌, ◌≤◌, ◌<◌, ◌≡◌, List, ◌∷◌, ◌++◌, map, length, take, drop}
 use Rattle.std.proofs.lemmas.List.Edits.{sets}
-use Rattle.laws.specs.Bytes.{to_table, fromTable, entry_at, splice}
-use Rattle.row_format.specs.Edit.{OffsetTable, movedBy}
+use Rattle.laws.specs.Bytes.{to_table, from_table, entry_at, splice}
+use Rattle.row_format.specs.Edit.{OffsetTable, moved_by}
 
 -- the offsets from rank j on moved, in a row r with a table of v offsets at byte t
-abbrev pub movedFrom : ℕ → ℕ → ℕ → ℕ → ℕ → ℕ → List ℕ → List ℕ
-movedFrom w t v j e f r = sets r (t + j * w) (to_table w (map (movedBy e f) (fromTable w (v - j) (drop (t + j * w) r))))
+abbrev pub moved_from : ℕ → ℕ → ℕ → ℕ → ℕ → ℕ → List ℕ → List ℕ
+moved_from w t v j e f r = sets r (t + j * w) (to_table w (map (moved_by e f) (from_table w (v - j) (drop (t + j * w) r))))
 
 -- the whole table, where rank k has the offset x now
-abbrev pub tableEdit : OffsetTable → ℕ → ℕ → ℕ → ℕ → List ℕ → List ℕ
-tableEdit t k x e f r =
-    let os = fromTable t.width t.entries (drop t.start r) in
+abbrev pub table_edit : OffsetTable → ℕ → ℕ → ℕ → ℕ → List ℕ → List ℕ
+table_edit t k x e f r =
+    let os = from_table t.width t.entries (drop t.start r) in
     splice t.start (t.start + t.entries * t.width)
-    (to_table t.width (take k os ++ (x ∷ map (movedBy e f) (drop (suc k) os)))) r
+    (to_table t.width (take k os ++ (x ∷ map (moved_by e f) (drop (suc k) os)))) r
 
 -- ---- what the code needs: an offset of w bytes that moves does not fall below 0 and stays one
 

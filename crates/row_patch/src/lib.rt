@@ -2,15 +2,15 @@
 ghost use Rattle.std.specs.Prelude.{◌≡◌, true, false, [], ◌+◌, ◌*◌, ◌-◌, ◌^◌, ◌≤◌, ◌<◌, length, take, drop};
 ghost use Rattle.std.proofs.Math.Option.{none, some};
 ghost use Rattle.std.proofs.lemmas.List.Edits.{sets};
-ghost use Rattle.laws.specs.Bytes.{toLe, entry_at, splice};
-ghost use Rattle.laws.specs.Bits.{bitValue};
-ghost use Rattle.row_format.specs.Places.{tableStart, offsetWidth};
-ghost use Rattle.row_format.specs.Edit.{offsetTable, span, movedBy, rangeEdit, slotEdit};
-ghost use Rattle.datatype.specs.Types.{size_of, isVarlen};
+ghost use Rattle.laws.specs.Bytes.{to_le, entry_at, splice};
+ghost use Rattle.laws.specs.Bits.{bit_value};
+ghost use Rattle.row_format.specs.Places.{table_start, offset_width};
+ghost use Rattle.row_format.specs.Edit.{offset_table, span, moved_by, range_edit, slot_edit};
+ghost use Rattle.datatype.specs.Types.{size_of, is_varlen};
 ghost use Rattle.value.specs.Ranges.{range_of};
 ghost use Rattle.row_patch.specs.InnerHeld.{held, Holds};
-ghost use Rattle.row_patch.specs.InnerOffsets.{movedFrom, tableEdit, CanMove, HigherMove};
-ghost use Rattle.row_patch.specs.InnerStores.{form_of, bitPut, columnSet, row_set, Suited, change, Replaceable, RangeReady, Editable};
+ghost use Rattle.row_patch.specs.InnerOffsets.{moved_from, table_edit, CanMove, HigherMove};
+ghost use Rattle.row_patch.specs.InnerStores.{form_of, bit_put, column_set, row_set, Suited, change, Replaceable, RangeReady, Editable};
 
 use datatype::DataType;
 use row_layout::RowLayout;
@@ -19,10 +19,10 @@ use value::DataValue;
 // ---- the offset table
 
 fn put_offset(row: &mut [u8], is_long: bool, table: usize, rank: usize, offset: usize)
-    requires { (table + (rank + 1) * offsetWidth is_long ≤ length row.old)
-        × (offset < 256 ^ offsetWidth is_long) }
+    requires { (table + (rank + 1) * offset_width is_long ≤ length row.old)
+        × (offset < 256 ^ offset_width is_long) }
     ensures { row.new
-        ≡ sets row.old (table + rank * offsetWidth is_long) (toLe (offsetWidth is_long) offset) }
+        ≡ sets row.old (table + rank * offset_width is_long) (to_le (offset_width is_long) offset) }
 {
     if is_long {
         row_layout::write_offset(row, true, table + rank * 4, offset);
@@ -33,12 +33,12 @@ fn put_offset(row: &mut [u8], is_long: bool, table: usize, rank: usize, offset: 
 
 // An offset of 0 says null and stays.
 fn move_offset(row: &mut [u8], is_long: bool, table: usize, rank: usize, end: usize, new_end: usize)
-    requires { (table + (rank + 1) * offsetWidth is_long ≤ length row.old)
-        × CanMove (offsetWidth is_long) end new_end (entry_at (offsetWidth is_long) table rank row.old) }
+    requires { (table + (rank + 1) * offset_width is_long ≤ length row.old)
+        × CanMove (offset_width is_long) end new_end (entry_at (offset_width is_long) table rank row.old) }
     ensures { row.new
-        ≡ sets row.old (table + rank * offsetWidth is_long)
-        (toLe (offsetWidth is_long)
-        (movedBy end new_end (entry_at (offsetWidth is_long) table rank row.old))) }
+        ≡ sets row.old (table + rank * offset_width is_long)
+        (to_le (offset_width is_long)
+        (moved_by end new_end (entry_at (offset_width is_long) table rank row.old))) }
 {
     let o = row_layout::offset_at(row, is_long, table, rank);
     if o != 0 {
@@ -56,9 +56,9 @@ fn move_offsets(
     end: usize,
     new_end: usize,
 )
-    requires { HigherMove (offsetWidth is_long) table varlens rank end new_end row.old }
+    requires { HigherMove (offset_width is_long) table varlens rank end new_end row.old }
     ensures { row.new
-        ≡ movedFrom (offsetWidth is_long) table varlens (rank + 1) end new_end row.old }
+        ≡ moved_from (offset_width is_long) table varlens (rank + 1) end new_end row.old }
 {
     let mut k = rank + 1;
     while k < varlens {
@@ -78,10 +78,10 @@ fn edit_table(
     end: usize,
     new_end: usize,
 )
-    requires { HigherMove (offsetWidth is_long) table varlens rank end new_end row.old
-        × (own < 256 ^ offsetWidth is_long) }
+    requires { HigherMove (offset_width is_long) table varlens rank end new_end row.old
+        × (own < 256 ^ offset_width is_long) }
     ensures { row.new
-        ≡ tableEdit (offsetTable (offsetWidth is_long) table varlens) rank own end new_end
+        ≡ table_edit (offset_table (offset_width is_long) table varlens) rank own end new_end
         row.old }
 {
     move_offsets(row, is_long, table, varlens, rank, end, new_end);
@@ -144,9 +144,9 @@ fn store_varlen(
     area: &[u8],
 ) -> usize
     requires { RangeReady is_long table varlens rank (change n start end (range_of value).length) buf.old
-        × (Suited ty value area.now × (isVarlen ty ≡ true)) }
+        × (Suited ty value area.now × (is_varlen ty ≡ true)) }
     ensures { Holds buf.old
-        (rangeEdit (offsetTable (offsetWidth is_long) table varlens) rank
+        (range_edit (offset_table (offset_width is_long) table varlens) rank
         (some (form_of ty value area.now)) (span start end) (take n buf.old))
         buf.new result }
 {
@@ -180,7 +180,7 @@ fn null_varlen(
 ) -> usize
     requires { RangeReady is_long table varlens rank (change n start end 0) buf.old }
     ensures { Holds buf.old
-        (rangeEdit (offsetTable (offsetWidth is_long) table varlens) rank none (span start end)
+        (range_edit (offset_table (offset_width is_long) table varlens) rank none (span start end)
         (take n buf.old)) buf.new result }
 {
     remove(buf, n, start, end);
@@ -192,9 +192,9 @@ fn null_varlen(
 // A fixed column's slot, at `at`, gets the value's stored form.
 fn store_fixed(buf: &mut [u8], n: usize, at: usize, ty: DataType, value: DataValue, area: &[u8])
     requires { Suited ty value area.now
-        × ((isVarlen ty ≡ false) × ((at + size_of ty ≤ n) × (n ≤ length buf.old))) }
+        × ((is_varlen ty ≡ false) × ((at + size_of ty ≤ n) × (n ≤ length buf.old))) }
     ensures { Holds buf.old
-        (slotEdit at (size_of ty) (some (form_of ty value area.now)) (take n buf.old))
+        (slot_edit at (size_of ty) (some (form_of ty value area.now)) (take n buf.old))
         buf.new n }
 {
     value_encode::to_bytes_for_type(buf, at, ty, value, area);
@@ -202,8 +202,8 @@ fn store_fixed(buf: &mut [u8], n: usize, at: usize, ty: DataType, value: DataVal
 
 // The column's bit, in a row with a bitmap of so many columns.
 fn put_bit(row: &mut [u8], columns: usize, column: usize, null: bool)
-    requires { (column < columns) × (tableStart columns ≤ length row.old) }
-    ensures { row.new ≡ bitPut (bitValue null) column row.old }
+    requires { (column < columns) × (table_start columns ≤ length row.old) }
+    ensures { row.new ≡ bit_put (bit_value null) column row.old }
 {
     let bitmap = RowLayout::bitmap_offset();
     if null {
@@ -232,7 +232,7 @@ fn store_column(
     requires { Editable layout packed before ty (change n start end (range_of value).length) buf.old
         × Suited ty value area.now }
     ensures { Holds buf.old
-        (columnSet layout packed before ty (span start end) (some (form_of ty value area.now))
+        (column_set layout packed before ty (span start end) (some (form_of ty value area.now))
         (take n buf.old)) buf.new result }
 {
     if ty.is_variable_length() {
@@ -269,7 +269,7 @@ fn store_null(
 ) -> usize
     requires { Editable layout packed before ty (change n start end 0) buf.old }
     ensures { Holds buf.old
-        (columnSet layout packed before ty (span start end) none (take n buf.old)) buf.new
+        (column_set layout packed before ty (span start end) none (take n buf.old)) buf.new
         result }
 {
     if ty.is_variable_length() {

@@ -1,15 +1,15 @@
 // Whether the columns of a row read, and the first refusal if not: by kinds, and without the values.
 ghost use Rattle.std.specs.Prelude.{◌≡◌, true, false, ◌+◌, ◌*◌, ◌≤◌, ◌<◌, length, get_or, drop};
-ghost use Rattle.row_format.specs.Places.{offsetWidth};
-ghost use Rattle.row_layout.specs.Range.{varlenRange};
-ghost use Rattle.datatype.specs.Schema.{columnKind, columnRecordAt};
-ghost use Rattle.datatype.specs.InnerSteps.{plainSize, typeIn};
+ghost use Rattle.row_format.specs.Places.{offset_width};
+ghost use Rattle.row_layout.specs.Range.{varlen_range};
+ghost use Rattle.datatype.specs.Schema.{column_kind, column_record_at};
+ghost use Rattle.datatype.specs.InnerSteps.{plain_size, type_in};
 ghost use Rattle.datatype.specs.Check.{types_in};
-ghost use Rattle.row_column.specs.InnerWalk.{Framed, walkedColumn, Reachable};
+ghost use Rattle.row_column.specs.InnerWalk.{Framed, walked_column, Reachable};
 ghost use Rattle.row_sound.specs.Sound.{reads};
 ghost use Rattle.row_sound.specs.InnerSlots.{Recorded};
-ghost use Rattle.row_decode.specs.InnerWalk.{walkedRead};
-ghost use Rattle.row_reads.specs.InnerReads.{rangeReads, refusalIn, read_all, WalkAt};
+ghost use Rattle.row_decode.specs.InnerWalk.{walked_read};
+ghost use Rattle.row_reads.specs.InnerReads.{range_reads, refusal_in, read_all, WalkAt};
 
 use datatype::{Record, schema_kinds};
 use error::Flag;
@@ -26,9 +26,9 @@ fn range_reads(
     varlens: usize,
     rank: usize,
 ) -> bool
-    requires { (rank < varlens) × (table + varlens * offsetWidth is_long ≤ length row.now) }
-    ensures { result ≡ rangeReads by_points n row.now
-        (varlenRange (offsetWidth is_long) table varlens rank row.now) }
+    requires { (rank < varlens) × (table + varlens * offset_width is_long ≤ length row.now) }
+    ensures { result ≡ range_reads by_points n row.now
+        (varlen_range (offset_width is_long) table varlens rank row.now) }
 {
     match row_layout::varlen_range(row, is_long, table, varlens, rank) {
         VarlenRange::Null => true,
@@ -47,10 +47,10 @@ fn body_reads(
     before: RowLayout,
     row: &[u8],
 ) -> bool
-    requires { (kind ≡ get_or schema.now at 0) × ((plainSize (columnKind kind) ≡ 0) × (Recorded schema.now at
-        × Reachable layout packed before (typeIn (columnRecordAt schema.now at)) row.now)) }
-    ensures { result ≡ reads (walkedColumn layout packed before
-        (typeIn (columnRecordAt schema.now at)) row.now) }
+    requires { (kind ≡ get_or schema.now at 0) × ((plain_size (column_kind kind) ≡ 0) × (Recorded schema.now at
+        × Reachable layout packed before (type_in (column_record_at schema.now at)) row.now)) }
+    ensures { result ≡ reads (walked_column layout packed before
+        (type_in (column_record_at schema.now at)) row.now) }
 {
     let n = endian::read_u16(schema, at + 1);
     if null_bitmap::column_bit_is_set(row, before.num_columns) {
@@ -85,9 +85,9 @@ fn column_reads(
     row: &[u8],
 ) -> bool
     requires { Recorded schema.now at
-        × Reachable layout packed before (typeIn (columnRecordAt schema.now at)) row.now }
-    ensures { result ≡ reads (walkedColumn layout packed before
-        (typeIn (columnRecordAt schema.now at)) row.now) }
+        × Reachable layout packed before (type_in (column_record_at schema.now at)) row.now }
+    ensures { result ≡ reads (walked_column layout packed before
+        (type_in (column_record_at schema.now at)) row.now) }
 {
     let kind = schema[at];
     let size = datatype::plain_size(kind);
@@ -107,9 +107,9 @@ fn column_refusal(
     row: &[u8],
 ) -> Flag
     requires { Recorded schema.now at
-        × Reachable layout packed before (typeIn (columnRecordAt schema.now at)) row.now }
-    ensures { result ≡ refusalIn (walkedColumn layout packed before
-        (typeIn (columnRecordAt schema.now at)) row.now) }
+        × Reachable layout packed before (type_in (column_record_at schema.now at)) row.now }
+    ensures { result ≡ refusal_in (walked_column layout packed before
+        (type_in (column_record_at schema.now at)) row.now) }
 {
     match datatype::record_at(schema, at) {
         Record::Refused(e) => Flag::Refused(e),
@@ -134,7 +134,7 @@ pub fn check_columns(
     answer: bool,
 ) -> Flag
     requires { Framed schema.now layout packed row.now × WalkAt schema.now start from }
-    ensures { result ≡ read_all answer (walkedRead layout packed (λ i. true) row.now start
+    ensures { result ≡ read_all answer (walked_read layout packed (λ i. true) row.now start
         (drop start.num_columns (types_in schema.now))) }
 {
     let mut before = start;

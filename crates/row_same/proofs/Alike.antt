@@ -11,33 +11,33 @@ use lib.Seq.{length-take-le, drop-drop}
 use Rattle.laws.proofs.Same.{same-eq}
 use Rattle.laws.proofs.Lent.{drop-take}
 use Rattle.error.specs.declared.Flag.TheVariants.{Is}
-use Rattle.row_format.specs.Places.{tableStart, start_at, offsetWidth}
-use Rattle.row_format.proofs.Places.{all-at, start-ge}
+use Rattle.row_format.specs.Places.{table_start, start_at, offset_width}
+use Rattle.row_format.proofs.Places.{all-at, start_ge}
 use Rattle.row_layout.specs.declared.RowLayout.{RowLayout}
 use Rattle.row_layout.specs.declared.VarlenRange.{VarlenRange}
 use Rattle.row_layout.specs.declared.VarlenRange.TheVariants as Range
-use Rattle.row_layout.specs.Layout.{sizeIn}
-use Rattle.row_layout.specs.InnerLayout.{withColumn}
+use Rattle.row_layout.specs.Layout.{size_in}
+use Rattle.row_layout.specs.InnerLayout.{with_column}
 use Rattle.row_layout.specs.InnerRange.{Inside}
 use Rattle.datatype.specs.declared.DataType.{DataType}
-use Rattle.datatype.specs.Types.{size_of, alignmentOf, isVarlen, shape_of}
-use Rattle.datatype.proofs.Again.{all-aligned}
+use Rattle.datatype.specs.Types.{size_of, alignment_of, is_varlen, shape_of}
+use Rattle.datatype.proofs.Again.{all_aligned}
 use Rattle.value.specs.declared.DataValue.TheVariants.{Null}
 use Rattle.stored_form.specs.declared.SlotRead.{SlotRead}
 use Rattle.stored_form.specs.declared.SlotRead.TheVariants as Slot
 use Rattle.stored_form.specs.Read.{read_slot}
 use Rattle.stored_form.proofs.Anywhere.{both}
-use Rattle.value_same.proofs.Equal.{equal-forms-same}
+use Rattle.value_same.proofs.Equal.{equal_forms_same}
 use Rattle.row_column.specs.declared.ColumnRead.{ColumnRead}
 use Rattle.row_column.specs.declared.ColumnRead.TheVariants.{Value}
-use Rattle.row_column.specs.Column.{slotValue, readBytes, varlenValue}
-use Rattle.row_column.specs.InnerWalk.{walkedPlace, walkedColumn, Reachable}
+use Rattle.row_column.specs.Column.{slot_value, read_bytes, varlen_value}
+use Rattle.row_column.specs.InnerWalk.{walked_place, walked_column, Reachable}
 use Rattle.row_sound.specs.Sound.{reads}
-use Rattle.row_sound.proofs.Slots.{so-many}
+use Rattle.row_sound.proofs.Slots.{so_many}
 use Rattle.row_reads.proofs.Reading.{range_inside}
 use Rattle.row_same.specs.InnerWalk.{compared}
-use Rattle.row_same.specs.InnerStored.{alikeRanges, rangeIn, fixedIn, fixedPart, isMarked}
-use Rattle.row_same.specs.InnerStored.{presentAlike, storedAlike, Beside}
+use Rattle.row_same.specs.InnerStored.{alike_ranges, range_in, fixed_in, fixed_part, is_marked}
+use Rattle.row_same.specs.InnerStored.{present_alike, stored_alike, Beside}
 
 module _ (t : DataType) (i : ℕ) (a b : List ℕ) where
   abbrev Same : ColumnRead → ColumnRead → Type 0
@@ -45,7 +45,7 @@ module _ (t : DataType) (i : ℕ) (a b : List ℕ) where
 
   -- the same bytes, from s up to e of row a and from f up to g of row b
   bytes-alike : (s e f g : ℕ) → s ≤ e → e ≤ length a → f ≤ g → g ≤ length b
-      → take (e - s) (drop s a) ≡ take (g - f) (drop f b) → Same (readBytes t i a s e) (readBytes t i b f g)
+      → take (e - s) (drop s a) ≡ take (g - f) (drop f b) → Same (read_bytes t i a s e) (read_bytes t i b f g)
   bytes-alike s e f g h k m n eq =
       let x : length bytes ≡ e - s = length-take-le (e - s) (drop s a) (rw length-drop (omega arith)) in
       let y : length (take (g - f) (drop f b)) ≡ g - f =
@@ -59,18 +59,18 @@ module _ (t : DataType) (i : ℕ) (a b : List ℕ) where
       bytes = take (e - s) (drop s a)
 
       of : take (length bytes) (drop s a) ≡ bytes → take (length bytes) (drop f b) ≡ bytes → (x y : SlotRead)
-          → read_slot t s bytes ≡ x → read_slot t f bytes ≡ y → Same (slotValue i x) (slotValue i y)
-      of p q (Slot.Value v) (Slot.Value w) ex ey r = ap Is (equal-forms-same s f bytes a b p q t ex ey)
+          → read_slot t s bytes ≡ x → read_slot t f bytes ≡ y → Same (slot_value i x) (slot_value i y)
+      of p q (Slot.Value v) (Slot.Value w) ex ey r = ap Is (equal_forms_same s f bytes a b p q t ex ey)
       of p q (Slot.Value v) Slot.NoValue ex ey r = absurd (rw (ex, ey) at (both s f bytes t))
       of p q Slot.NoValue y ex ey r = absurd (false≢true r)
 
-  ranges-alike : (x y : VarlenRange) → Inside a x → Inside b y → alikeRanges a x b y ≡ true
-      → Same (varlenValue t i a x) (varlenValue t i b y)
-  ranges-alike Range.Null y h k e = absurd (false≢true e)
-  ranges-alike Range.Outside y h k e = absurd (false≢true e)
-  ranges-alike (Range.Bytes s e) Range.Null h k d = absurd (false≢true d)
-  ranges-alike (Range.Bytes s e) Range.Outside h k d = absurd (false≢true d)
-  ranges-alike (Range.Bytes s e) (Range.Bytes f g) h k d =
+  ranges_alike : (x y : VarlenRange) → Inside a x → Inside b y → alike_ranges a x b y ≡ true
+      → Same (varlen_value t i a x) (varlen_value t i b y)
+  ranges_alike Range.Null y h k e = absurd (false≢true e)
+  ranges_alike Range.Outside y h k e = absurd (false≢true e)
+  ranges_alike (Range.Bytes s e) Range.Null h k d = absurd (false≢true d)
+  ranges_alike (Range.Bytes s e) Range.Outside h k d = absurd (false≢true d)
+  ranges_alike (Range.Bytes s e) (Range.Bytes f g) h k d =
       bytes-alike s e f g h.0 h.1 k.0 k.1 (same-eq (take (e - s) (drop s a)) (take (g - f) (drop f b)) d)
 
   -- the bits first: both null, or neither
@@ -83,14 +83,14 @@ module _ (t : DataType) (i : ℕ) (a b : List ℕ) where
 
 -- ---- where the bytes of a fixed column stand
 
-size-with : (x : RowLayout) (t : DataType) (p : Bool) → isVarlen t ≡ false
-    → sizeIn (withColumn x (shape_of t)) p ≡ start_at p (alignmentOf t) (sizeIn x p) + size_of t
-size-with x t true v = rw v
-size-with x t false v = rw v
+size_with : (x : RowLayout) (t : DataType) (p : Bool) → is_varlen t ≡ false
+    → size_in (with_column x (shape_of t)) p ≡ start_at p (alignment_of t) (size_in x p) + size_of t
+size_with x t true v = rw v
+size_with x t false v = rw v
 
-starts-ge : (x : RowLayout) (t : DataType) (p : Bool) → isVarlen t ≡ false
-    → sizeIn x p ≤ start_at p (alignmentOf t) (sizeIn x p)
-starts-ge x t p v = start-ge p (alignmentOf t) (sizeIn x p) (rw v at (all-at 0 (all-aligned (t ∷ []))))
+starts_ge : (x : RowLayout) (t : DataType) (p : Bool) → is_varlen t ≡ false
+    → size_in x p ≤ start_at p (alignment_of t) (size_in x p)
+starts_ge x t p v = start_ge p (alignment_of t) (size_in x p) (rw v at (all-at 0 (all_aligned (t ∷ []))))
 
 -- a slot of z bytes at st is the end of the part from sx on
 module _ (base sx st z : ℕ) (r : List ℕ) (h : sx ≤ st) (k : base + st + z ≤ length r) where
@@ -108,13 +108,13 @@ module _ (base sx st z : ℕ) (r : List ℕ) (h : sx ≤ st) (k : base + st + z 
 -- the column of type t after those of layout x
 module _ (x : RowLayout) (t : DataType) where
   abbrev start : Bool → ℕ
-  start p = start_at p (alignmentOf t) (sizeIn x p)
+  start p = start_at p (alignment_of t) (size_in x p)
 
   pub beside : {l : RowLayout} {p : Bool} {r : List ℕ} {y : RowLayout} → Reachable l p x t r
-      → y ≡ withColumn x (shape_of t) → Beside x y l p r
-  beside {l} {p} {r} {y} h e = of (isVarlen t) refl
+      → y ≡ with_column x (shape_of t) → Beside x y l p r
+  beside {l} {p} {r} {y} h e = of (is_varlen t) refl
     where
-      of : (v : Bool) → isVarlen t ≡ v → Beside x y l p r
+      of : (v : Bool) → is_varlen t ≡ v → Beside x y l p r
       of true v =
           let n : y.num_varlen_cols ≡ x.num_varlen_cols + 1 = rw (e, v) in
           record {
@@ -127,69 +127,69 @@ module _ (x : RowLayout) (t : DataType) where
           }
       of false v =
           let n : y.num_varlen_cols ≡ x.num_varlen_cols = rw (e, v) in
-          let z : sizeIn y p ≡ start p + size_of t = ap (λ (k : RowLayout). sizeIn k p) e ∙ size-with x t p v in
+          let z : size_in y p ≡ start p + size_of t = ap (λ (k : RowLayout). size_in k p) e ∙ size_with x t p v in
           record {
             whole = h.whole;
             column = h.column;
             table = h.table;
             rank = λ k. absurd (omega (arith, n, k));
-            rises = λ k. omega (arith, z, starts-ge x t p v);
+            rises = λ k. omega (arith, z, starts_ge x t p v);
             slot = λ k. omega (arith, z, h.slot v);
           }
 
   module _ {l : RowLayout} {p : Bool} {a : List ℕ} {m : RowLayout} {q : Bool} {b : List ℕ} (h : Reachable l p x t a)
       (k : Reachable m q x t b) where
     abbrev y : RowLayout
-    y = withColumn x (shape_of t)
+    y = with_column x (shape_of t)
 
     abbrev i : ℕ
     i = x.num_columns
 
     -- the part that ends with the slot, by the place of the slot
-    abbrev partTo : RowLayout → Bool → List ℕ → List ℕ
-    partTo n o r = take (fixedIn n + (start o + size_of t) - (fixedIn n + sizeIn x o)) (drop (fixedIn n + sizeIn x o) r)
+    abbrev part_to : RowLayout → Bool → List ℕ → List ℕ
+    part_to n o r = take (fixed_in n + (start o + size_of t) - (fixed_in n + size_in x o)) (drop (fixed_in n + size_in x o) r)
 
-    slots-alike : isVarlen t ≡ false → fixedPart x y l p a ≡ fixedPart x y m q b
-        → take (size_of t) (drop (walkedPlace l p x t) a) ≡ take (size_of t) (drop (walkedPlace m q x t) b)
+    slots-alike : is_varlen t ≡ false → fixed_part x y l p a ≡ fixed_part x y m q b
+        → take (size_of t) (drop (walked_place l p x t) a) ≡ take (size_of t) (drop (walked_place m q x t) b)
     slots-alike v e =
         let z : ℕ = size_of t in
-        let f : sizeIn x p ≤ start p = starts-ge x t p v in
-        let g : sizeIn x q ≤ start q = starts-ge x t q v in
-        let n : partTo l p a ≡ partTo m q b = rw (size-with x t p v, size-with x t q v) at e in
-        let u = part_length (fixedIn l) (sizeIn x p) (start p) z a f (h.slot v) in
-        let w = part_length (fixedIn m) (sizeIn x q) (start q) z b g (k.slot v) in
-        let d : start p - sizeIn x p ≡ start q - sizeIn x q = omega (arith, sym u ∙ ap length n ∙ w) in
-        sym (slot-part (fixedIn l) (sizeIn x p) (start p) z a f (h.slot v))
-        ∙ rw (d, n) (slot-part (fixedIn m) (sizeIn x q) (start q) z b g (k.slot v))
+        let f : size_in x p ≤ start p = starts_ge x t p v in
+        let g : size_in x q ≤ start q = starts_ge x t q v in
+        let n : part_to l p a ≡ part_to m q b = rw (size_with x t p v, size_with x t q v) at e in
+        let u = part_length (fixed_in l) (size_in x p) (start p) z a f (h.slot v) in
+        let w = part_length (fixed_in m) (size_in x q) (start q) z b g (k.slot v) in
+        let d : start p - size_in x p ≡ start q - size_in x q = omega (arith, sym u ∙ ap length n ∙ w) in
+        sym (slot-part (fixed_in l) (size_in x p) (start p) z a f (h.slot v))
+        ∙ rw (d, n) (slot-part (fixed_in m) (size_in x q) (start q) z b g (k.slot v))
 
     abbrev present : Bool → RowLayout → Bool → List ℕ → ColumnRead
     present v n o r =
-        cond v (varlenValue t i r (rangeIn x.num_varlen_cols n r))
-        (readBytes t i r (walkedPlace n o x t) (walkedPlace n o x t + size_of t))
+        cond v (varlen_value t i r (range_in x.num_varlen_cols n r))
+        (read_bytes t i r (walked_place n o x t) (walked_place n o x t + size_of t))
 
-    inside : (n : RowLayout) (r : List ℕ) → Inside r (rangeIn x.num_varlen_cols n r)
+    inside : (n : RowLayout) (r : List ℕ) → Inside r (range_in x.num_varlen_cols n r)
     inside n r =
-        range_inside (offsetWidth n.is_long) (tableStart n.num_columns) n.num_varlen_cols
+        range_inside (offset_width n.is_long) (table_start n.num_columns) n.num_varlen_cols
         x.num_varlen_cols r
 
-    present-alike : (v : Bool) → isVarlen t ≡ v → presentAlike x y l p a m q b ≡ true
+    present_alike_lem : (v : Bool) → is_varlen t ≡ v → present_alike x y l p a m q b ≡ true
         → Same t i a b (present v l p a) (present v m q b)
-    present-alike true v e =
+    present_alike_lem true v e =
         let rank : ℕ = x.num_varlen_cols in
         let n : ltb rank y.num_varlen_cols ≡ true = lt-ltb rank y.num_varlen_cols (rw v (omega arith)) in
-        ranges-alike t i a b (rangeIn rank l a) (rangeIn rank m b) (inside l a) (inside m b) (rw n at e)
-    present-alike false v e =
+        ranges_alike t i a b (range_in rank l a) (range_in rank m b) (inside l a) (inside m b) (rw n at e)
+    present_alike_lem false v e =
         let z : ℕ = size_of t in
-        let s : ℕ = walkedPlace l p x t in
-        let u : ℕ = walkedPlace m q x t in
+        let s : ℕ = walked_place l p x t in
+        let u : ℕ = walked_place m q x t in
         let rank : ℕ = x.num_varlen_cols in
         let n : ltb rank y.num_varlen_cols ≡ false = le-ltb rank y.num_varlen_cols (rw v (omega arith)) in
-        let f = same-eq (fixedPart x y l p a) (fixedPart x y m q b) (rw n at e) in
+        let f = same-eq (fixed_part x y l p a) (fixed_part x y m q b) (rw n at e) in
         bytes-alike t i a b s (s + z) u (u + z) (omega arith) (h.slot v) (omega arith) (k.slot v)
-        (rw (so-many s z, so-many u z) (slots-alike v f))
+        (rw (so_many s z, so_many u z) (slots-alike v f))
 
-    pub stored-alike : storedAlike x y l p a m q b ≡ true → reads (walkedColumn l p x t a) ≡ true
-        → compared t a (walkedColumn l p x t a) b (walkedColumn m q x t b) ≡ Is true
+    pub stored-alike : stored_alike x y l p a m q b ≡ true → reads (walked_column l p x t a) ≡ true
+        → compared t a (walked_column l p x t a) b (walked_column m q x t b) ≡ Is true
     stored-alike =
-        marked-alike t i a b (isMarked x a) (isMarked x b) (presentAlike x y l p a m q b) _ _
-        (present-alike (isVarlen t) refl)
+        marked-alike t i a b (is_marked x a) (is_marked x b) (present_alike x y l p a m q b) _ _
+        (present_alike_lem (is_varlen t) refl)

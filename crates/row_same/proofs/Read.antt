@@ -7,28 +7,28 @@ use native.Mathlib.Omega.{arith}
 use lib.ListN.{length, get_or}
 use Rattle.error.specs.declared.Refusal.{Refusal}
 use Rattle.error.specs.declared.Flag.TheVariants.{Is}
-use Rattle.error.specs.Result.{ok, refused, onResult}
-use Rattle.row_format.specs.Header.{isLong}
+use Rattle.error.specs.Result.{ok, refused, on_result}
+use Rattle.row_format.specs.Header.{is_long}
 use Rattle.datatype.specs.declared.DataType.{DataType}
 use Rattle.datatype.specs.Types.{length_of}
-use Rattle.datatype.specs.Schema.{Parsed, schemaOf}
+use Rattle.datatype.specs.Schema.{Parsed, schema_of}
 use Rattle.datatype.specs.Check.{type_at, types_in}
-use Rattle.datatype.specs.InnerCheck.{checkedSchema}
-use Rattle.datatype.proofs.Accept.{on-good}
+use Rattle.datatype.specs.InnerCheck.{checked_schema}
+use Rattle.datatype.proofs.Accept.{on_good}
 use Rattle.value.specs.declared.DataValue.{DataValue}
 use Rattle.value.specs.declared.DataValue.TheVariants.{Null}
 use Rattle.value.specs.Ranges.{text_of}
 use Rattle.value_list.specs.Lists.{Values}
-use Rattle.value_same.specs.Same.{sameContent}
-use Rattle.row_same.specs.Rows.{allColumns, sameValues, valuesRead, sameCall}
-use Rattle.row_same.specs.InnerWalk.{bothRead}
+use Rattle.value_same.specs.Same.{same_content}
+use Rattle.row_same.specs.Rows.{all_columns, same_values, values_read, same_call}
+use Rattle.row_same.specs.InnerWalk.{both_read}
 
 -- a row whose mark tells a sort, and what all its columns read as in a row of that sort
 pub record ReadsAs (s r : List ℕ) (ts : List DataType) (vs : List DataValue) : Type 0 where
   pub sort : Bool
-  pub marked : isLong r ≡ sort
-  pub schema-good : schemaOf sort s ≡ ok ts
-  pub all_read : allColumns sort ts r ≡ ok vs
+  pub marked : is_long r ≡ sort
+  pub schema-good : schema_of sort s ≡ ok ts
+  pub all_read : all_columns sort ts r ≡ ok vs
 
 module _ {s r : List ℕ} {ts : List DataType} {vs : List DataValue} (h : ReadsAs s r ts vs) where
   abbrev none : Refusal → List DataType
@@ -39,31 +39,31 @@ module _ {s r : List ℕ} {ts : List DataType} {vs : List DataValue} (h : ReadsA
 
   types_are : types_in s ≡ ts
   types_are =
-      on-good h.sort s (ap (checkedSchema h.sort) h.schema-good) none all
-      ∙ ap (λ (p : Parsed). onResult p none all) h.schema-good
+      on_good h.sort s (ap (checked_schema h.sort) h.schema-good) none all
+      ∙ ap (λ (p : Parsed). on_result p none all) h.schema-good
 
-  pub row_read : valuesRead s r ≡ ok vs
+  pub row_read : values_read s r ≡ ok vs
   row_read =
-      ap (λ (k : Bool). onResult (schemaOf k s) refused (λ us. allColumns k us r)) h.marked
-      ∙ ap (λ (p : Parsed). onResult p refused (λ us. allColumns h.sort us r)) h.schema-good
+      ap (λ (k : Bool). on_result (schema_of k s) refused (λ us. all_columns k us r)) h.marked
+      ∙ ap (λ (p : Parsed). on_result p refused (λ us. all_columns h.sort us r)) h.schema-good
       ∙ h.all_read
 
 pub rows-read : {s a b : List ℕ} {ts : List DataType} {vs us : List DataValue} → ReadsAs s a ts vs → ReadsAs s b ts us
-    → sameCall s a b ≡ Is (sameValues ts a vs b us)
+    → same_call s a b ≡ Is (same_values ts a vs b us)
 rows-read {s} {a} {b} {ts} {vs} {us} h k =
-    ap₂ (λ (x y : Values). bothRead (types_in s) a x b y) (row_read h) (row_read k)
-    ∙ ap (λ (x : List DataType). Is (sameValues x a vs b us)) (types_are h)
+    ap₂ (λ (x y : Values). both_read (types_in s) a x b y) (row_read h) (row_read k)
+    ∙ ap (λ (x : List DataType). Is (same_values x a vs b us)) (types_are h)
 
 -- ---- column by column
 
 module _ (a b : List ℕ) where
   abbrev pub SameAt : List DataType → List DataValue → List DataValue → ℕ → Type 0
   SameAt ts vs us i =
-      sameContent (length_of (type_at ts i)) (get_or vs i Null) (text_of a (get_or vs i Null)) (get_or us i Null)
+      same_content (length_of (type_at ts i)) (get_or vs i Null) (text_of a (get_or vs i Null)) (get_or us i Null)
       (text_of b (get_or us i Null)) ≡ true
 
   pub values_same : (ts : List DataType) (vs us : List DataValue) → length vs ≡ length ts → length us ≡ length ts
-      → ((i : ℕ) → i < length ts → SameAt ts vs us i) → sameValues ts a vs b us ≡ true
+      → ((i : ℕ) → i < length ts → SameAt ts vs us i) → same_values ts a vs b us ≡ true
   values_same [] vs us m n h = refl
   values_same (t ∷ ts) [] us m n h = absurd (omega arith)
   values_same (t ∷ ts) (v ∷ vs) [] m n h = absurd (omega arith)
@@ -71,7 +71,7 @@ module _ (a b : List ℕ) where
       rw (h zero (omega arith)) (values_same ts vs us (omega arith) (omega arith) (λ i l. h (suc i) (omega arith)))
 
 -- two rows of any sorts, as a short one and its long twin
-pub twins-same : {s a b : List ℕ} {ts : List DataType} {vs us : List DataValue} → ReadsAs s a ts vs → ReadsAs s b ts us
+pub twins_same : {s a b : List ℕ} {ts : List DataType} {vs us : List DataValue} → ReadsAs s a ts vs → ReadsAs s b ts us
     → length vs ≡ length ts → length us ≡ length ts → ((i : ℕ) → i < length ts → SameAt a b ts vs us i)
-    → sameCall s a b ≡ Is true
-twins-same {s} {a} {b} {ts} {vs} {us} h k m n same = rows-read h k ∙ ap Is (values_same a b ts vs us m n same)
+    → same_call s a b ≡ Is true
+twins_same {s} {a} {b} {ts} {vs} {us} h k m n same = rows-read h k ∙ ap Is (values_same a b ts vs us m n same)

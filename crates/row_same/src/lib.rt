@@ -3,21 +3,21 @@
 // the second row is checked. Columns that hold the same bytes have the same content, whatever their type; only others
 // are compared by their values. Each row has a layout of its own sort: `layout` is row a's, `other` row b's.
 ghost use Rattle.std.specs.Prelude.{◌≡◌, true, ◌<◌};
-ghost use Rattle.laws.specs.Bytes.{sameBytes};
-ghost use Rattle.row_layout.specs.Layout.{sizeIn};
+ghost use Rattle.laws.specs.Bytes.{same_bytes};
+ghost use Rattle.row_layout.specs.Layout.{size_in};
 ghost use Rattle.row_layout.specs.InnerRange.{Inside};
 ghost use Rattle.datatype.specs.Types.{length_of};
-ghost use Rattle.datatype.specs.Schema.{columnRecordAt};
-ghost use Rattle.datatype.specs.InnerSteps.{typeIn};
+ghost use Rattle.datatype.specs.Schema.{column_record_at};
+ghost use Rattle.datatype.specs.InnerSteps.{type_in};
 ghost use Rattle.datatype.specs.Check.{types_in};
 ghost use Rattle.datatype.specs.InnerCheck.{Accepted};
 ghost use Rattle.row_column.specs.InnerWalk.{Framed, Reachable};
 ghost use Rattle.row_sound.specs.InnerSlots.{Recorded};
-ghost use Rattle.value_same.specs.InnerFields.{standsIn};
-ghost use Rattle.row_same.specs.Rows.{sameCall};
-ghost use Rattle.row_same.specs.InnerWalk.{comparedWith, comparedAt, walkedAll, walkedRow, limitedRow, bothRead};
+ghost use Rattle.value_same.specs.InnerFields.{stands_in};
+ghost use Rattle.row_same.specs.Rows.{same_call};
+ghost use Rattle.row_same.specs.InnerWalk.{compared_with, compared_at, walked_all, walked_row, limited_row, both_read};
 ghost use Rattle.row_same.specs.InnerWalk.{AllRead, Stands};
-ghost use Rattle.row_same.specs.InnerStored.{alikeRanges, rangeIn, fixedPart, storedAlike, Ranked, Beside};
+ghost use Rattle.row_same.specs.InnerStored.{alike_ranges, range_in, fixed_part, stored_alike, Ranked, Beside};
 
 use datatype::{DataType, Record, SchemaCheck};
 use error::Flag;
@@ -28,7 +28,7 @@ use value::DataValue;
 // Whether two ranges of their rows are of the same bytes.
 fn alike_ranges(a: &[u8], first: VarlenRange, b: &[u8], second: VarlenRange) -> bool
     requires { Inside a.now first × Inside b.now second }
-    ensures { result ≡ alikeRanges a.now first b.now second }
+    ensures { result ≡ alike_ranges a.now first b.now second }
 {
     match first {
         VarlenRange::Null => false,
@@ -46,8 +46,8 @@ fn alike_ranges(a: &[u8], first: VarlenRange, b: &[u8], second: VarlenRange) -> 
 // Whether the Varchars of a rank stand in ranges of the same bytes, in rows of which one is long.
 fn long_ranges(rank: usize, layout: RowLayout, a: &[u8], other: RowLayout, b: &[u8]) -> bool
     requires { Ranked rank layout a.now × Ranked rank other b.now }
-    ensures { result ≡ alikeRanges a.now (rangeIn rank layout a.now)
-        b.now (rangeIn rank other b.now) }
+    ensures { result ≡ alike_ranges a.now (range_in rank layout a.now)
+        b.now (range_in rank other b.now) }
 {
     let table = layout.varlen_table_offset();
     let first = row_layout::varlen_range(a, layout.is_long, table, layout.num_varlen_cols, rank);
@@ -59,8 +59,8 @@ fn long_ranges(rank: usize, layout: RowLayout, a: &[u8], other: RowLayout, b: &[
 // The same in rows of any sort: that both are short is asked once, and not again at each offset.
 fn same_ranges(rank: usize, layout: RowLayout, a: &[u8], other: RowLayout, b: &[u8]) -> bool
     requires { Ranked rank layout a.now × Ranked rank other b.now }
-    ensures { result ≡ alikeRanges a.now (rangeIn rank layout a.now)
-        b.now (rangeIn rank other b.now) }
+    ensures { result ≡ alike_ranges a.now (range_in rank layout a.now)
+        b.now (range_in rank other b.now) }
 {
     if layout.is_long | other.is_long {
         return long_ranges(rank, layout, a, other, b);
@@ -74,7 +74,7 @@ fn same_ranges(rank: usize, layout: RowLayout, a: &[u8], other: RowLayout, b: &[
 
 // The bytes of the fixed columns.
 fn size_in(layout: RowLayout, packed: bool) -> usize
-    ensures { result ≡ sizeIn layout packed }
+    ensures { result ≡ size_in layout packed }
 {
     if packed {
         layout.packed_size
@@ -97,8 +97,8 @@ fn same_slots(
 ) -> bool
     requires { (Beside before after layout p a.now × Beside before after other q b.now)
         × (before.num_varlen_cols < after.num_varlen_cols → ⊥) }
-    ensures { result ≡ sameBytes (fixedPart before after layout p a.now)
-        (fixedPart before after other q b.now) }
+    ensures { result ≡ same_bytes (fixed_part before after layout p a.now)
+        (fixed_part before after other q b.now) }
 {
     let base = layout.fixed_data_start();
     let start = base + size_in(before, p);
@@ -121,7 +121,7 @@ fn same_stored(
     b: &[u8],
 ) -> bool
     requires { Beside before after layout p a.now × Beside before after other q b.now }
-    ensures { result ≡ storedAlike before after layout p a.now other q b.now }
+    ensures { result ≡ stored_alike before after layout p a.now other q b.now }
 {
     let i = before.num_columns;
     if null_bitmap::column_bit_is_set(a, i) {
@@ -139,8 +139,8 @@ fn same_stored(
 
 // The column's value v in row a against what the column of row b reads as.
 fn compare(ty: DataType, v: DataValue, a: &[u8], column: ColumnRead, b: &[u8]) -> Flag
-    requires { (standsIn (length_of ty) v a.now ≡ true) × Stands ty b.now column }
-    ensures { result ≡ comparedWith ty v a.now column b.now }
+    requires { (stands_in (length_of ty) v a.now ≡ true) × Stands ty b.now column }
+    ensures { result ≡ compared_with ty v a.now column b.now }
 {
     match column {
         ColumnRead::Refused(e) => Flag::Refused(e),
@@ -159,7 +159,7 @@ fn compare_values(
     b: &[u8],
 ) -> Flag
     requires { Reachable layout p before ty a.now × Reachable other q before ty b.now }
-    ensures { result ≡ comparedAt ty before layout p a.now other q b.now }
+    ensures { result ≡ compared_at ty before layout p a.now other q b.now }
 {
     match row_column::read_column(layout, p, before, ty, a) {
         ColumnRead::Refused(e) => Flag::Refused(e),
@@ -183,9 +183,9 @@ fn compare_column(
     b: &[u8],
 ) -> Flag
     requires { Recorded schema.now at
-        × (Reachable layout p before (typeIn (columnRecordAt schema.now at)) a.now
-        × Reachable other q before (typeIn (columnRecordAt schema.now at)) b.now) }
-    ensures { result ≡ comparedAt (typeIn (columnRecordAt schema.now at)) before
+        × (Reachable layout p before (type_in (column_record_at schema.now at)) a.now
+        × Reachable other q before (type_in (column_record_at schema.now at)) b.now) }
+    ensures { result ≡ compared_at (type_in (column_record_at schema.now at)) before
         layout p a.now other q b.now }
 {
     match datatype::record_at(schema, at) {
@@ -206,10 +206,10 @@ fn compare_columns(
     b: &[u8],
 ) -> Flag
     requires { Framed schema.now layout p a.now × (Framed schema.now other q b.now
-        × AllRead (walkedAll (types_in schema.now) layout a.now p)) }
-    ensures { result ≡ bothRead (types_in schema.now)
-        a.now (walkedAll (types_in schema.now) layout a.now p)
-        b.now (walkedAll (types_in schema.now) other b.now q) }
+        × AllRead (walked_all (types_in schema.now) layout a.now p)) }
+    ensures { result ≡ both_read (types_in schema.now)
+        a.now (walked_all (types_in schema.now) layout a.now p)
+        b.now (walked_all (types_in schema.now) other b.now q) }
 {
     let mut before = RowLayout::new();
     let mut at = 0;
@@ -245,10 +245,10 @@ fn compare_framed(
     b: &[u8],
 ) -> Flag
     requires { Framed schema.now layout p a.now × (Accepted schema.now other
-        × AllRead (walkedAll (types_in schema.now) layout a.now p)) }
-    ensures { result ≡ bothRead (types_in schema.now)
-        a.now (walkedAll (types_in schema.now) layout a.now p)
-        b.now (walkedRow (types_in schema.now) other b.now) }
+        × AllRead (walked_all (types_in schema.now) layout a.now p)) }
+    ensures { result ≡ both_read (types_in schema.now)
+        a.now (walked_all (types_in schema.now) layout a.now p)
+        b.now (walked_row (types_in schema.now) other b.now) }
 {
     match row_column::check_frame(other, b) {
         Frame::Refused(e) => Flag::Refused(e),
@@ -266,10 +266,10 @@ fn compare_second(
     b: &[u8],
 ) -> Flag
     requires { Framed schema.now layout p a.now × (Accepted schema.now other
-        × AllRead (walkedAll (types_in schema.now) layout a.now p)) }
-    ensures { result ≡ bothRead (types_in schema.now)
-        a.now (walkedAll (types_in schema.now) layout a.now p)
-        b.now (limitedRow schema.now other b.now) }
+        × AllRead (walked_all (types_in schema.now) layout a.now p)) }
+    ensures { result ≡ both_read (types_in schema.now)
+        a.now (walked_all (types_in schema.now) layout a.now p)
+        b.now (limited_row schema.now other b.now) }
 {
     match datatype::finish(other, schema.len()) {
         SchemaCheck::Refused(e) => Flag::Refused(e),
@@ -287,9 +287,9 @@ fn compare_read(
     b: &[u8],
 ) -> Flag
     requires { Framed schema.now layout p a.now × Accepted schema.now other }
-    ensures { result ≡ bothRead (types_in schema.now)
-        a.now (walkedAll (types_in schema.now) layout a.now p)
-        b.now (limitedRow schema.now other b.now) }
+    ensures { result ≡ both_read (types_in schema.now)
+        a.now (walked_all (types_in schema.now) layout a.now p)
+        b.now (limited_row schema.now other b.now) }
 {
     match row_reads::check_columns(schema, layout, p, a, RowLayout::new(), 0, true) {
         Flag::Refused(e) => Flag::Refused(e),
@@ -299,9 +299,9 @@ fn compare_read(
 
 fn compare_rows(schema: &[u8], layout: RowLayout, a: &[u8], other: RowLayout, b: &[u8]) -> Flag
     requires { Accepted schema.now layout × Accepted schema.now other }
-    ensures { result ≡ bothRead (types_in schema.now)
-        a.now (walkedRow (types_in schema.now) layout a.now)
-        b.now (limitedRow schema.now other b.now) }
+    ensures { result ≡ both_read (types_in schema.now)
+        a.now (walked_row (types_in schema.now) layout a.now)
+        b.now (limited_row schema.now other b.now) }
 {
     match row_column::check_frame(layout, a) {
         Frame::Refused(e) => Flag::Refused(e),
@@ -311,7 +311,7 @@ fn compare_rows(schema: &[u8], layout: RowLayout, a: &[u8], other: RowLayout, b:
 
 // Whether two rows have the same content, each of the sort that its own mark tells.
 pub fn same_content(schema: &[u8], a: &[u8], b: &[u8]) -> Flag
-    ensures { result ≡ sameCall schema.now a.now b.now }
+    ensures { result ≡ same_call schema.now a.now b.now }
 {
     let is_long = row_layout::is_long(a);
     match datatype::check_schema(schema, is_long) {

@@ -7,7 +7,7 @@ use native.Mathlib.Omega.{arith}
 use lib.ListN.{length, get_or}
 use lib.Pow.{pow_pos, split, high, low, shr-shr, field, mod-mod-pow}
 use lib.Seq.{get_or-set_same, get_or-set_other}
-use Rattle.laws.specs.Bits.{bit_of, put_bit, bit_at, putBitAt}
+use Rattle.laws.specs.Bits.{bit_of, put_bit, bit_at, put_bit_at}
 use Rattle.laws.proofs.Truths.{cases}
 
 -- ---- a byte
@@ -57,14 +57,14 @@ bit_kept v k j b le ne =
 -- ---- a run of bytes
 
 module _ (v i : ℕ) (bs : List ℕ) (le : v ≤ 1) (h : i / 8 < length bs) where
-  pub bit-at-put : bit_at i (putBitAt v i bs) ≡ v
+  pub bit-at-put : bit_at i (put_bit_at v i bs) ≡ v
   bit-at-put = ap (bit_of (i % 8)) (get_or-set_same bs (i / 8) _ 0 h) ∙ bit-put v (i % 8) (get_or bs (i / 8) 0) le
 
-  other_byte : (j : ℕ) → (j / 8 ≡ i / 8 → ⊥) → bit_at j (putBitAt v i bs) ≡ bit_at j bs
+  other_byte : (j : ℕ) → (j / 8 ≡ i / 8 → ⊥) → bit_at j (put_bit_at v i bs) ≡ bit_at j bs
   other_byte j ne = ap (bit_of (j % 8)) (get_or-set_other bs (i / 8) (j / 8) _ 0 ne)
 
-  same_byte : (j : ℕ) → j / 8 ≡ i / 8 → (i ≡ j → ⊥) → bit_at j (putBitAt v i bs) ≡ bit_at j bs
+  same_byte : (j : ℕ) → j / 8 ≡ i / 8 → (i ≡ j → ⊥) → bit_at j (put_bit_at v i bs) ≡ bit_at j bs
   same_byte j e ne = rw e (ap (bit_of (j % 8)) (get_or-set_same bs (i / 8) _ 0 h) ∙ bit_kept v (i % 8) (j % 8) (get_or bs (i / 8) 0) le (λ q. ne (omega arith)))
 
-  pub bit-at-kept : (j : ℕ) → (i ≡ j → ⊥) → bit_at j (putBitAt v i bs) ≡ bit_at j bs
+  pub bit-at-kept : (j : ℕ) → (i ≡ j → ⊥) → bit_at j (put_bit_at v i bs) ≡ bit_at j bs
   bit-at-kept j ne = cases (j / 8) (i / 8) (λ a. other_byte j (λ e. omega arith)) (λ a. cases (i / 8) (j / 8) (λ b. other_byte j (λ e. omega arith)) (λ b. same_byte j (omega arith) ne))

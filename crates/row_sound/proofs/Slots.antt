@@ -9,120 +9,120 @@ use lib.ListN.{length, take, drop}
 use Rattle.laws.specs.Bits.{bit_at}
 use Rattle.laws.specs.Bytes.{entry_at}
 use Rattle.laws.proofs.Truths.{by_cond}
-use Rattle.text_limit.specs.Limit.{fitsText}
-use Rattle.row_format.specs.Places.{bitmapStart, tableStart, fixedStart, start_at, offsetWidth}
-use Rattle.row_format.specs.Table.{rangeEnd}
+use Rattle.text_limit.specs.Limit.{fits_text}
+use Rattle.row_format.specs.Places.{bitmap_start, table_start, fixed_start, start_at, offset_width}
+use Rattle.row_format.specs.Table.{range_end}
 use Rattle.row_layout.specs.declared.RowLayout.{RowLayout}
 use Rattle.row_layout.specs.declared.VarlenRange.{VarlenRange}
 use Rattle.row_layout.specs.declared.VarlenRange.TheVariants as Range
-use Rattle.row_layout.specs.Layout.{sizeIn}
-use Rattle.row_layout.specs.Range.{part_of, varlenRange}
+use Rattle.row_layout.specs.Layout.{size_in}
+use Rattle.row_layout.specs.Range.{part_of, varlen_range}
 use Rattle.datatype.specs.declared.DataType.{DataType}
 use Rattle.datatype.specs.declared.DataType.TheVariants.{Char, Character, Varchar}
-use Rattle.datatype.specs.Types.{size_of, alignmentOf, isVarlen}
+use Rattle.datatype.specs.Types.{size_of, alignment_of, is_varlen}
 use Rattle.value.specs.declared.DataValue.{DataValue}
 use Rattle.value.specs.declared.DataValue.TheVariants.{Null}
 use Rattle.stored_form.specs.declared.SlotRead.{SlotRead}
 use Rattle.stored_form.specs.declared.SlotRead.TheVariants as Slot
-use Rattle.stored_form.specs.Read.{valueIf, read_slot}
+use Rattle.stored_form.specs.Read.{value_if, read_slot}
 use Rattle.row_column.specs.declared.ColumnRead.{ColumnRead}
 use Rattle.row_column.specs.declared.ColumnRead.TheVariants.{Value}
-use Rattle.row_column.specs.Column.{slotValue, varlenValue}
-use Rattle.row_column.specs.InnerWalk.{walkedPlace, Reachable}
+use Rattle.row_column.specs.Column.{slot_value, varlen_value}
+use Rattle.row_column.specs.InnerWalk.{walked_place, Reachable}
 use Rattle.row_sound.specs.Sound.{reads}
-use Rattle.row_sound.specs.InnerWalk.{walkedSound}
-use Rattle.row_sound.specs.InnerSlots.{rangeSound}
+use Rattle.row_sound.specs.InnerWalk.{walked_sound}
+use Rattle.row_sound.specs.InnerSlots.{range_sound}
 use Rattle.row_sound.specs.Laid.{is_value}
 
 -- whether the bit of the column after those of layout b is set
-abbrev pub markedNull : RowLayout → List ℕ → Bool
-markedNull b r = eqb (bit_at b.num_columns (drop bitmapStart r)) 1
+abbrev pub marked_null : RowLayout → List ℕ → Bool
+marked_null b r = eqb (bit_at b.num_columns (drop bitmap_start r)) 1
 
-pub value-if : (t : Bool) (v : DataValue) → t ≡ is_value (valueIf t v)
-value-if true v = refl
-value-if false v = refl
+pub value_if_lem : (t : Bool) (v : DataValue) → t ≡ is_value (value_if t v)
+value_if_lem true v = refl
+value_if_lem false v = refl
 
 -- ---- a fixed column
 
-fixed-cases : (x : Bool) (i : ℕ) (s : SlotRead) → cond (reads (cond x (Value Null) (slotValue i s))) true false ≡ cond x true (is_value s)
-fixed-cases true i s = refl
-fixed-cases false i (Slot.Value v) = refl
-fixed-cases false i Slot.NoValue = refl
+fixed_cases : (x : Bool) (i : ℕ) (s : SlotRead) → cond (reads (cond x (Value Null) (slot_value i s))) true false ≡ cond x true (is_value s)
+fixed_cases true i s = refl
+fixed_cases false i (Slot.Value v) = refl
+fixed_cases false i Slot.NoValue = refl
 
 either_way : (x : Bool) {y : Bool} → true ≡ y → true ≡ cond x true y
 either_way true e = refl
 either_way false e = e
 
-pub so-many : (a z : ℕ) → a + z - a ≡ z
-so-many a z = omega arith
+pub so_many : (a z : ℕ) → a + z - a ≡ z
+so_many a z = omega arith
 
-text-cases : (t : Bool) (i : ℕ) (v : DataValue) → cond (reads (slotValue i (valueIf t v))) true false ≡ t
-text-cases true i v = refl
-text-cases false i v = refl
+text_cases : (t : Bool) (i : ℕ) (v : DataValue) → cond (reads (slot_value i (value_if t v))) true false ≡ t
+text_cases true i v = refl
+text_cases false i v = refl
 
 module _ (l : RowLayout) (p : Bool) (b : RowLayout) (r : List ℕ) where
-  fixed-sound : (t : DataType) → isVarlen t ≡ false → walkedSound l p b t r
-      ≡ cond (markedNull b r) true (is_value
-      (read_slot t (walkedPlace l p b t) (take (size_of t) (drop (walkedPlace l p b t) r))))
-  unfolding walkedSound
+  fixed-sound : (t : DataType) → is_varlen t ≡ false → walked_sound l p b t r
+      ≡ cond (marked_null b r) true (is_value
+      (read_slot t (walked_place l p b t) (take (size_of t) (drop (walked_place l p b t) r))))
+  unfolding walked_sound
   fixed-sound t v =
-      rw (v, so-many (walkedPlace l p b t) (size_of t))
-      (fixed-cases (markedNull b r) b.num_columns
-      (read_slot t (walkedPlace l p b t) (take (size_of t) (drop (walkedPlace l p b t) r))))
+      rw (v, so_many (walked_place l p b t) (size_of t))
+      (fixed_cases (marked_null b r) b.num_columns
+      (read_slot t (walked_place l p b t) (take (size_of t) (drop (walked_place l p b t) r))))
 
-  pub null-sound : (t : DataType) → isVarlen t ≡ false → markedNull b r ≡ true → true ≡ walkedSound l p b t r
+  pub null-sound : (t : DataType) → is_varlen t ≡ false → marked_null b r ≡ true → true ≡ walked_sound l p b t r
   null-sound t v e = sym (fixed-sound t v ∙ rw e)
 
   -- of a type that any bytes are a value of
-  pub any-sound : (t : DataType) → isVarlen t ≡ false → ((a : ℕ) (bs : List ℕ) → true ≡ is_value (read_slot t a bs)) → true ≡ walkedSound l p b t r
-  any-sound t v f = either_way (markedNull b r)
-      (f (walkedPlace l p b t) (take (size_of t) (drop (walkedPlace l p b t) r))) ∙ sym (fixed-sound t v)
+  pub any-sound : (t : DataType) → is_varlen t ≡ false → ((a : ℕ) (bs : List ℕ) → true ≡ is_value (read_slot t a bs)) → true ≡ walked_sound l p b t r
+  any-sound t v f = either_way (marked_null b r)
+      (f (walked_place l p b t) (take (size_of t) (drop (walked_place l p b t) r))) ∙ sym (fixed-sound t v)
 
   -- not null, with a slot of z bytes at a
-  pub slot-told : (t : DataType) → isVarlen t ≡ false → {z : ℕ} → size_of t ≡ z → markedNull b r ≡ false → {a : ℕ} → a
-      ≡ walkedPlace l p b t → {q : Bool} → q ≡ is_value (read_slot t a (take z (drop a r))) → q ≡ walkedSound l p b t r
+  pub slot-told : (t : DataType) → is_varlen t ≡ false → {z : ℕ} → size_of t ≡ z → marked_null b r ≡ false → {a : ℕ} → a
+      ≡ walked_place l p b t → {q : Bool} → q ≡ is_value (read_slot t a (take z (drop a r))) → q ≡ walked_sound l p b t r
   slot-told t v e f h g = rw (h, ← e) at g ∙ sym (fixed-sound t v ∙ rw f)
 
   -- where it stands
-  pub place_is : (t : DataType) {z : ℕ} → alignmentOf t ≡ z → {f s : ℕ} → f ≡ fixedStart (offsetWidth l.is_long) l.num_columns l.num_varlen_cols → s ≡ start_at p z (sizeIn b p) → f + s ≡ walkedPlace l p b t
+  pub place_is : (t : DataType) {z : ℕ} → alignment_of t ≡ z → {f s : ℕ} → f ≡ fixed_start (offset_width l.is_long) l.num_columns l.num_varlen_cols → s ≡ start_at p z (size_in b p) → f + s ≡ walked_place l p b t
   place_is t e g h = rw (g, h, e)
 
   -- Character is stored as Char is
-  pub as-char : {n : ℕ} → Reachable l p b (Character n) r → Reachable l p b (Char n) r
-  as-char k = record { whole = k.whole; before = k.before; digits = k.digits; column = k.column; table = k.table; rank = λ v. k.rank v; slot = λ v. k.slot v }
+  pub as_char : {n : ℕ} → Reachable l p b (Character n) r → Reachable l p b (Char n) r
+  as_char k = record { whole = k.whole; before = k.before; digits = k.digits; column = k.column; table = k.table; rank = λ v. k.rank v; slot = λ v. k.slot v }
 
   -- ---- a Varchar
 
   module _ (q : Bool) (n i : ℕ) where
     abbrev Same : VarlenRange → Type 0
-    Same g = cond (reads (varlenValue (Varchar q n) i r g)) true false ≡ rangeSound q n r g
+    Same g = cond (reads (varlen_value (Varchar q n) i r g)) true false ≡ range_sound q n r g
 
     part_same : (a e : ℕ) → Same (part_of (length r) a e)
     part_same a e =
         by_cond Same (ltb e a) Range.Outside _ (λ f. refl)
-        (λ f. by_cond Same (ltb (length r) e) Range.Outside (Range.Bytes a e) (λ g. refl) (λ g. text-cases (fitsText q n (take (e - a) (drop a r))) i _))
+        (λ f. by_cond Same (ltb (length r) e) Range.Outside (Range.Bytes a e) (λ g. refl) (λ g. text_cases (fits_text q n (take (e - a) (drop a r))) i _))
 
-    range-cases : (z : Bool) (g : VarlenRange) → Same g → cond (reads (varlenValue (Varchar q n) i r (cond z Range.Null g))) (not z) false ≡ rangeSound q n r (cond z Range.Null g)
-    range-cases true g h = refl
-    range-cases false g h = h
+    range_cases : (z : Bool) (g : VarlenRange) → Same g → cond (reads (varlen_value (Varchar q n) i r (cond z Range.Null g))) (not z) false ≡ range_sound q n r (cond z Range.Null g)
+    range_cases true g h = refl
+    range_cases false g h = h
 
-  varchar-cases : (x z : Bool) (c : ColumnRead) (w : Bool) → cond (reads c) (not z) false ≡ w → cond (reads (cond x (Value Null) c)) (cond x z (not z)) false ≡ cond x z w
-  varchar-cases true z c w h = refl
-  varchar-cases false z c w h = h
+  varchar_cases : (x z : Bool) (c : ColumnRead) (w : Bool) → cond (reads c) (not z) false ≡ w → cond (reads (cond x (Value Null) c)) (cond x z (not z)) false ≡ cond x z w
+  varchar_cases true z c w h = refl
+  varchar_cases false z c w h = h
 
   abbrev offset_of : ℕ
-  offset_of = entry_at (offsetWidth l.is_long) (tableStart l.num_columns) b.num_varlen_cols r
+  offset_of = entry_at (offset_width l.is_long) (table_start l.num_columns) b.num_varlen_cols r
 
-  abbrev rangeIn : VarlenRange
-  rangeIn = varlenRange (offsetWidth l.is_long) (tableStart l.num_columns) l.num_varlen_cols b.num_varlen_cols r
+  abbrev range_in : VarlenRange
+  range_in = varlen_range (offset_width l.is_long) (table_start l.num_columns) l.num_varlen_cols b.num_varlen_cols r
 
-  pub varchar-told : (q : Bool) (n : ℕ) → walkedSound l p b (Varchar q n) r
-      ≡ cond (markedNull b r) (eqb offset_of 0) (rangeSound q n r rangeIn)
-  unfolding walkedSound
+  pub varchar-told : (q : Bool) (n : ℕ) → walked_sound l p b (Varchar q n) r
+      ≡ cond (marked_null b r) (eqb offset_of 0) (range_sound q n r range_in)
+  unfolding walked_sound
   varchar-told q n =
       let i : ℕ = b.num_columns in
-      varchar-cases (markedNull b r) (eqb offset_of 0) (varlenValue (Varchar q n) i r rangeIn) (rangeSound q n r rangeIn)
-      (range-cases q n i (eqb offset_of 0) (part_of (length r) offset_of
-      (rangeEnd (offsetWidth l.is_long) (tableStart l.num_columns) l.num_varlen_cols b.num_varlen_cols r))
-      (part_same q n i offset_of (rangeEnd (offsetWidth l.is_long) (tableStart l.num_columns) l.num_varlen_cols
+      varchar_cases (marked_null b r) (eqb offset_of 0) (varlen_value (Varchar q n) i r range_in) (range_sound q n r range_in)
+      (range_cases q n i (eqb offset_of 0) (part_of (length r) offset_of
+      (range_end (offset_width l.is_long) (table_start l.num_columns) l.num_varlen_cols b.num_varlen_cols r))
+      (part_same q n i offset_of (range_end (offset_width l.is_long) (table_start l.num_columns) l.num_varlen_cols
       b.num_varlen_cols r)))

@@ -3,17 +3,17 @@
 -- sound is not edited (15). Null is the bitmap's bit alone. "Bitmap bits past the last column are not looked at."
 use Rattle.std.specs.Prelude.{ℕ, zero, suc, Bool, true, false, cond, not, List, map, ◌≡◌, eqb, length, drop}
 use Rattle.laws.specs.Bits.{bit_at}
-use Rattle.laws.specs.Bytes.{fromTable, entry_at}
-use Rattle.row_format.specs.Places.{varlens, rank_of, bitmapStart, tableStart, minimum, offsetWidth}
-use Rattle.row_format.specs.Table.{firstOffset}
+use Rattle.laws.specs.Bytes.{from_table, entry_at}
+use Rattle.row_format.specs.Places.{varlens, rank_of, bitmap_start, table_start, minimum, offset_width}
+use Rattle.row_format.specs.Table.{first_offset}
 use Rattle.datatype.specs.declared.DataType.{DataType}
-use Rattle.datatype.specs.Types.{isVarlen, shape_of}
+use Rattle.datatype.specs.Types.{is_varlen, shape_of}
 use Rattle.datatype.specs.Check.{type_at}
 use Rattle.row_column.specs.declared.ColumnRead.{ColumnRead}
 use Rattle.row_column.specs.declared.ColumnRead.TheVariants.{Value, Refused}
 use Rattle.row_column.specs.declared.Frame.TheVariants.{Good}
-use Rattle.row_column.specs.Frame.{frame_of, onFrame}
-use Rattle.row_column.specs.Column.{columnValue}
+use Rattle.row_column.specs.Frame.{frame_of, on_frame}
+use Rattle.row_column.specs.Column.{column_value}
 use Rattle.row_sound.specs.declared.Soundness.{Soundness}
 use Rattle.row_sound.specs.declared.Soundness.TheVariants.{Sound, NotSound}
 
@@ -25,45 +25,45 @@ reads (Value v) = true
 reads (Refused e) = false
 
 -- "each Varchar has offset 0 exactly if it is null": an offset, and whether the bit is set
-abbrev pub zeroIfNull : ℕ → Bool → Bool
-zeroIfNull o null = cond null (eqb o 0) (not (eqb o 0))
+abbrev pub zero_if_null : ℕ → Bool → Bool
+zero_if_null o null = cond null (eqb o 0) (not (eqb o 0))
 
 -- a column of type t that reads as c, its offset o if it is a Varchar, and whether its bit is set
-abbrev pub soundWith : DataType → ColumnRead → ℕ → Bool → Bool
-soundWith t c o null = cond (reads c) (cond (isVarlen t) (zeroIfNull o null) true) false
+abbrev pub sound_with : DataType → ColumnRead → ℕ → Bool → Bool
+sound_with t c o null = cond (reads c) (cond (is_varlen t) (zero_if_null o null) true) false
 
 -- column i of a row r of columns ts, packed or padded, with offsets of w bytes
-unfoldable pub soundColumn : ℕ → Bool → List DataType → ℕ → List ℕ → Bool
-soundColumn w p ts i r =
-    soundWith (type_at ts i) (columnValue w p ts i r)
-    (entry_at w (tableStart (length ts)) (rank_of (map shape_of ts) i) r) (eqb (bit_at i (drop bitmapStart r)) 1)
+unfoldable pub sound_column : ℕ → Bool → List DataType → ℕ → List ℕ → Bool
+sound_column w p ts i r =
+    sound_with (type_at ts i) (column_value w p ts i r)
+    (entry_at w (table_start (length ts)) (rank_of (map shape_of ts) i) r) (eqb (bit_at i (drop bitmap_start r)) 1)
 
 -- column i and the n columns from it on
-abbrev pub soundFrom : ℕ → Bool → List DataType → List ℕ → ℕ → ℕ → Bool
-soundFrom w p ts r i zero = true
-soundFrom w p ts r i (suc n) = cond (soundColumn w p ts i r) (soundFrom w p ts r (suc i) n) false
+abbrev pub sound_from : ℕ → Bool → List DataType → List ℕ → ℕ → ℕ → Bool
+sound_from w p ts r i zero = true
+sound_from w p ts r i (suc n) = cond (sound_column w p ts i r) (sound_from w p ts r (suc i) n) false
 
 -- ---- a row
 
 -- "the first non-zero offset", else the row's length, in a row with a table of v offsets of w bytes at byte `table`
-abbrev pub firstPayload : ℕ → ℕ → ℕ → List ℕ → ℕ
-firstPayload w table v r = firstOffset (fromTable w v (drop table r)) (length r)
+abbrev pub first_payload : ℕ → ℕ → ℕ → List ℕ → ℕ
+first_payload w table v r = first_offset (from_table w v (drop table r)) (length r)
 
 -- behind its header
-abbrev pub isSoundIn : ℕ → Bool → List DataType → List ℕ → Bool
-isSoundIn w p ts r =
-    cond (soundFrom w p ts r 0 (length ts))
-    (eqb (firstPayload w (tableStart (length ts)) (varlens (map shape_of ts)) r) (minimum w p (map shape_of ts))) false
+abbrev pub is_sound_in : ℕ → Bool → List DataType → List ℕ → Bool
+is_sound_in w p ts r =
+    cond (sound_from w p ts r 0 (length ts))
+    (eqb (first_payload w (table_start (length ts)) (varlens (map shape_of ts)) r) (minimum w p (map shape_of ts))) false
 
 -- what a call that edits is told: sound, and the row's own flag
-abbrev pub soundIn : ℕ → Bool → List DataType → List ℕ → Soundness
-soundIn w p ts r = cond (isSoundIn w p ts r) (Sound p) NotSound
+abbrev pub sound_in : ℕ → Bool → List DataType → List ℕ → Soundness
+sound_in w p ts r = cond (is_sound_in w p ts r) (Sound p) NotSound
 
 -- of a sort
 abbrev pub soundness : Bool → List DataType → List ℕ → Soundness
-soundness k ts r = onFrame (frame_of k ts r) (λ e. NotSound) (λ p. soundIn (offsetWidth k) p ts r)
+soundness k ts r = on_frame (frame_of k ts r) (λ e. NotSound) (λ p. sound_in (offset_width k) p ts r)
 
 -- a sound row of sort k, packed or padded as p says
 pub record SoundRow (k : Bool) (ts : List DataType) (p : Bool) (r : List ℕ) : Type 0 where
   pub frame : frame_of k ts r ≡ Good p
-  pub sound : isSoundIn (offsetWidth k) p ts r ≡ true
+  pub sound : is_sound_in (offset_width k) p ts r ≡ true

@@ -8,10 +8,10 @@ use Rattle.value.specs.declared.DataValue.{DataValue}
 use Rattle.value.specs.Kinds.{matches}
 use Rattle.value.specs.Ranges.{text_of}
 use Rattle.value_list.specs.Records.{Sized}
-use Rattle.stored_form.specs.Write.{accepted, storedForm}
+use Rattle.stored_form.specs.Write.{accepted, stored_form}
 
 -- the numbers of a value that comes from a list fit their kind (`Sized`)
 pub data Writes (t : DataType) : Cell → Type 0 where
   null : Writes t none
   form : (v : DataValue) (area : List ℕ) → matches t v ≡ true → accepted t v area ≡ true → Sized v
-      → Writes t (some (storedForm t v (text_of area v)))
+      → Writes t (some (stored_form t v (text_of area v)))

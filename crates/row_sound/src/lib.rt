@@ -3,23 +3,23 @@
 ghost use Rattle.std.specs.Prelude.{◌≡◌, false, ◌+◌, ◌*◌, ◌≤◌, ◌<◌, length, get_or, take, drop};
 ghost use Rattle.std.specs.Int.{w64};
 ghost use Rattle.std.proofs.Common.{to_z};
-ghost use Rattle.laws.specs.Bytes.{fromLe};
-ghost use Rattle.text.specs.Rfc3629.{isText};
-ghost use Rattle.temporal.specs.Time.{timeOf};
-ghost use Rattle.row_format.specs.Places.{fixedStart, offsetWidth};
-ghost use Rattle.row_layout.specs.Range.{varlenRange};
-ghost use Rattle.row_layout.specs.InnerLayout.{Bounded, noColumns};
+ghost use Rattle.laws.specs.Bytes.{from_le};
+ghost use Rattle.text.specs.Rfc3629.{is_text};
+ghost use Rattle.temporal.specs.Time.{time_of};
+ghost use Rattle.row_format.specs.Places.{fixed_start, offset_width};
+ghost use Rattle.row_layout.specs.Range.{varlen_range};
+ghost use Rattle.row_layout.specs.InnerLayout.{Bounded, no_columns};
 ghost use Rattle.datatype.specs.declared.DataType.TheVariants.{Char, Varchar};
-ghost use Rattle.datatype.specs.Types.{isVarlen};
-ghost use Rattle.datatype.specs.Schema.{columnKind, columnRecordAt};
-ghost use Rattle.datatype.specs.InnerSteps.{plainSize, plainType, typeIn};
+ghost use Rattle.datatype.specs.Types.{is_varlen};
+ghost use Rattle.datatype.specs.Schema.{column_kind, column_record_at};
+ghost use Rattle.datatype.specs.InnerSteps.{plain_size, plain_type, type_in};
 ghost use Rattle.datatype.specs.Check.{types_in};
 ghost use Rattle.datatype.specs.InnerCheck.{Accepted};
 ghost use Rattle.stored_form.specs.Read.{timed, read_slot};
-ghost use Rattle.row_column.specs.InnerWalk.{Framed, walkedPlace, Reachable};
+ghost use Rattle.row_column.specs.InnerWalk.{Framed, walked_place, Reachable};
 ghost use Rattle.row_sound.specs.Sound.{soundness};
-ghost use Rattle.row_sound.specs.InnerWalk.{walkedSound, walkedColumns, walkedFirst, walkedSoundness};
-ghost use Rattle.row_sound.specs.InnerSlots.{rangeSound, Recorded};
+ghost use Rattle.row_sound.specs.InnerWalk.{walked_sound, walked_columns, walked_first, walked_soundness};
+ghost use Rattle.row_sound.specs.InnerSlots.{range_sound, Recorded};
 ghost use Rattle.row_sound.specs.Laid.{is_value};
 
 use datatype::{DataType, Record, schema_kinds};
@@ -37,7 +37,7 @@ pub enum Soundness {
 // A stored Time, at `start`.
 fn time_sound(row: &[u8], start: usize) -> bool
     requires { start + 8 ≤ length row.now }
-    ensures { result ≡ is_value (timed (timeOf (to_z w64 (fromLe (take 8 (drop start row.now)))))) }
+    ensures { result ≡ is_value (timed (time_of (to_z w64 (from_le (take 8 (drop start row.now)))))) }
 {
     match temporal::time_of(endian::read_i64(row, start)) {
         TimeOfDay::Micros(_) => true,
@@ -47,11 +47,11 @@ fn time_sound(row: &[u8], start: usize) -> bool
 
 // Whether the bytes at `start` are a value of a kind that no body follows. Any bytes are a number or a truth.
 fn slot_sound(kind: u8, row: &[u8], start: usize) -> bool
-    requires { (0 < plainSize (columnKind kind)) × (start + plainSize (columnKind kind) ≤ length row.now) }
+    requires { (0 < plain_size (column_kind kind)) × (start + plain_size (column_kind kind) ≤ length row.now) }
     ensures { result
         ≡ is_value
-        (read_slot (plainType (columnKind kind)) start
-        (take (plainSize (columnKind kind)) (drop start row.now))) }
+        (read_slot (plain_type (column_kind kind)) start
+        (take (plain_size (column_kind kind)) (drop start row.now))) }
 {
     match kind {
         schema_kinds::DATE => temporal::is_date(endian::read_i32(row, start)),
@@ -70,9 +70,9 @@ pub fn plain_sound(
     before: RowLayout,
     row: &[u8],
 ) -> bool
-    requires { (size ≡ plainSize (columnKind kind))
-        × ((0 < size) × ((size ≤ 8) × Reachable layout packed before (plainType (columnKind kind)) row.now)) }
-    ensures { result ≡ walkedSound layout packed before (plainType (columnKind kind)) row.now }
+    requires { (size ≡ plain_size (column_kind kind))
+        × ((0 < size) × ((size ≤ 8) × Reachable layout packed before (plain_type (column_kind kind)) row.now)) }
+    ensures { result ≡ walked_sound layout packed before (plain_type (column_kind kind)) row.now }
 {
     if kind < schema_kinds::DATE {
         return true;
@@ -94,10 +94,10 @@ fn range_sound(
     varlens: usize,
     rank: usize,
 ) -> bool
-    requires { (rank < varlens) × (table + varlens * offsetWidth is_long ≤ length row.now) }
+    requires { (rank < varlens) × (table + varlens * offset_width is_long ≤ length row.now) }
     ensures { result
-        ≡ rangeSound by_points n row.now
-        (varlenRange (offsetWidth is_long) table varlens rank row.now) }
+        ≡ range_sound by_points n row.now
+        (varlen_range (offset_width is_long) table varlens rank row.now) }
 {
     match row_layout::varlen_range(row, is_long, table, varlens, rank) {
         VarlenRange::Null => false,
@@ -116,7 +116,7 @@ fn varchar_sound(
     row: &[u8],
 ) -> bool
     requires { Reachable layout packed before (Varchar by_points n) row.now }
-    ensures { result ≡ walkedSound layout packed before (Varchar by_points n) row.now }
+    ensures { result ≡ walked_sound layout packed before (Varchar by_points n) row.now }
 {
     let table = layout.varlen_table_offset();
     let rank = before.num_varlen_cols;
@@ -138,7 +138,7 @@ fn varchar_sound(
 // The slot of a Char(n).
 pub fn char_sound(n: u16, layout: RowLayout, packed: bool, before: RowLayout, row: &[u8]) -> bool
     requires { Reachable layout packed before (Char n) row.now }
-    ensures { result ≡ isText (take n (drop (walkedPlace layout packed before (Char n)) row.now)) }
+    ensures { result ≡ is_text (take n (drop (walked_place layout packed before (Char n)) row.now)) }
 {
     let start = layout.fixed_data_start() + before.slot_start(packed, 1);
     text::is_valid(&row[start..start + n as usize])
@@ -152,8 +152,8 @@ fn column_sound(
     ty: DataType,
     row: &[u8],
 ) -> bool
-    requires { Reachable layout packed before ty row.now × (isVarlen ty ≡ false) }
-    ensures { result ≡ walkedSound layout packed before ty row.now }
+    requires { Reachable layout packed before ty row.now × (is_varlen ty ≡ false) }
+    ensures { result ≡ walked_sound layout packed before ty row.now }
 {
     match row_column::read_column(layout, packed, before, ty, row) {
         ColumnRead::Refused(_) => false,
@@ -170,10 +170,10 @@ pub fn record_sound(
     row: &[u8],
 ) -> bool
     requires { Recorded schema.now at
-        × (Reachable layout packed before (typeIn (columnRecordAt schema.now at)) row.now
-        × (isVarlen (typeIn (columnRecordAt schema.now at)) ≡ false)) }
+        × (Reachable layout packed before (type_in (column_record_at schema.now at)) row.now
+        × (is_varlen (type_in (column_record_at schema.now at)) ≡ false)) }
     ensures { result
-        ≡ walkedSound layout packed before (typeIn (columnRecordAt schema.now at))
+        ≡ walked_sound layout packed before (type_in (column_record_at schema.now at))
         row.now }
 {
     match datatype::record_at(schema, at) {
@@ -193,11 +193,11 @@ fn body_sound(
     row: &[u8],
 ) -> bool
     requires { (kind ≡ get_or schema.now at 0)
-        × ((plainSize (columnKind kind) ≡ 0)
+        × ((plain_size (column_kind kind) ≡ 0)
         × (Recorded schema.now at
-        × Reachable layout packed before (typeIn (columnRecordAt schema.now at)) row.now)) }
+        × Reachable layout packed before (type_in (column_record_at schema.now at)) row.now)) }
     ensures { result
-        ≡ walkedSound layout packed before (typeIn (columnRecordAt schema.now at))
+        ≡ walked_sound layout packed before (type_in (column_record_at schema.now at))
         row.now }
 {
     let n = endian::read_u16(schema, at + 1);
@@ -226,9 +226,9 @@ fn kind_sound(
     row: &[u8],
 ) -> bool
     requires { Recorded schema.now at
-        × Reachable layout packed before (typeIn (columnRecordAt schema.now at)) row.now }
+        × Reachable layout packed before (type_in (column_record_at schema.now at)) row.now }
     ensures { result
-        ≡ walkedSound layout packed before (typeIn (columnRecordAt schema.now at))
+        ≡ walked_sound layout packed before (type_in (column_record_at schema.now at))
         row.now }
 {
     let kind = schema[at];
@@ -242,7 +242,7 @@ fn kind_sound(
 // All columns. The schema was checked, so that no record of it is refused here.
 fn columns_sound(schema: &[u8], layout: RowLayout, packed: bool, row: &[u8]) -> bool
     requires { Framed schema.now layout packed row.now }
-    ensures { result ≡ walkedColumns layout packed row.now noColumns (types_in schema.now) }
+    ensures { result ≡ walked_columns layout packed row.now no_columns (types_in schema.now) }
 {
     let mut before = RowLayout::new();
     let mut at = 0;
@@ -260,9 +260,9 @@ fn columns_sound(schema: &[u8], layout: RowLayout, packed: bool, row: &[u8]) -> 
 // The first offset that is not 0, else the row's length.
 fn first_payload(layout: RowLayout, row: &[u8]) -> usize
     requires { Bounded layout
-        × (fixedStart (offsetWidth layout.is_long) layout.num_columns layout.num_varlen_cols
+        × (fixed_start (offset_width layout.is_long) layout.num_columns layout.num_varlen_cols
         ≤ length row.now) }
-    ensures { result ≡ walkedFirst layout row.now }
+    ensures { result ≡ walked_first layout row.now }
 {
     let varlens = layout.num_varlen_cols;
     if varlens == 0 {
@@ -279,7 +279,7 @@ fn first_payload(layout: RowLayout, row: &[u8]) -> usize
 // The row's header is good.
 fn row_sound(schema: &[u8], layout: RowLayout, packed: bool, row: &[u8]) -> Soundness
     requires { Framed schema.now layout packed row.now }
-    ensures { result ≡ walkedSoundness layout packed (types_in schema.now) row.now }
+    ensures { result ≡ walked_soundness layout packed (types_in schema.now) row.now }
 {
     if columns_sound(schema, layout, packed, row) {
         if first_payload(layout, row) == layout.min_row_size(packed) {

@@ -3,8 +3,8 @@ ghost use Rattle.std.specs.Prelude.{◌≡◌, ◌<◌, length};
 ghost use Rattle.datatype.specs.Check.{types_in};
 ghost use Rattle.datatype.specs.InnerCheck.{Accepted};
 ghost use Rattle.row_column.specs.InnerWalk.{Found, InRow};
-ghost use Rattle.value.specs.Kinds.{holdsText};
-ghost use Rattle.row_text.specs.Text.{textRead, textInRow, textOfColumn, textCall, textPart, PartIn};
+ghost use Rattle.value.specs.Kinds.{holds_text};
+ghost use Rattle.row_text.specs.Text.{text_read, text_in_row, text_of_column, text_call, text_part, PartIn};
 
 use datatype::{DataType, SchemaCheck};
 use error::Refusal;
@@ -20,7 +20,7 @@ pub enum ColumnText {
 }
 
 fn holds_text(ty: DataType) -> bool
-    ensures { result ≡ holdsText ty }
+    ensures { result ≡ holds_text ty }
 {
     let kind = value::value_kind(ty);
     if kind == value_kinds::CHAR {
@@ -31,7 +31,7 @@ fn holds_text(ty: DataType) -> bool
 
 fn text_read(column: ColumnRead, row: &[u8]) -> ColumnText
     requires { InRow (length row.now) column }
-    ensures { (result ≡ textRead column) × PartIn (length row.now) result }
+    ensures { (result ≡ text_read column) × PartIn (length row.now) result }
 {
     match column {
         ColumnRead::Value(v) => ColumnText::Part(v.range()),
@@ -48,7 +48,7 @@ fn text_in_row(
 ) -> ColumnText
     requires { Accepted schema.now layout
         × ((column < length (types_in schema.now)) × Found schema.now column found) }
-    ensures { (result ≡ textInRow layout.is_long (types_in schema.now) row.now column)
+    ensures { (result ≡ text_in_row layout.is_long (types_in schema.now) row.now column)
         × PartIn (length row.now) result }
 {
     match row_column::check_frame(layout, row) {
@@ -64,7 +64,7 @@ fn text_in_row(
 fn text_of_column(schema: &[u8], layout: RowLayout, row: &[u8], column: usize) -> ColumnText
     requires { Accepted schema.now layout }
     ensures { (result
-        ≡ textOfColumn layout.is_long (types_in schema.now) row.now column)
+        ≡ text_of_column layout.is_long (types_in schema.now) row.now column)
         × PartIn (length row.now) result }
 {
     if layout.num_columns <= column {
@@ -80,7 +80,7 @@ fn text_of_column(schema: &[u8], layout: RowLayout, row: &[u8], column: usize) -
 
 // Where the text of a column stands in the row, or why there is none. The row's own mark tells its sort.
 pub fn column_text(schema: &[u8], row: &[u8], column: usize) -> ColumnText
-    ensures { (result ≡ textCall schema.now row.now column)
+    ensures { (result ≡ text_call schema.now row.now column)
         × PartIn (length row.now) result }
 {
     let is_long = row_layout::is_long(row);
@@ -93,8 +93,8 @@ pub fn column_text(schema: &[u8], row: &[u8], column: usize) -> ColumnText
 // The text of a column: empty for a null or a refusal, which `column_text` tells apart.
 pub fn text<'s, 'r>(schema: &'s [u8], row: &'r [u8], column: usize) -> &'r [u8]
     ensures { result.now
-        ≡ textPart row.now
-        (textCall schema.now row.now column) }
+        ≡ text_part row.now
+        (text_call schema.now row.now column) }
 {
     match column_text(schema, row, column) {
         ColumnText::Refused(_) => &row[0..0],

@@ -32,8 +32,8 @@ module _ (w : Width) (x : ℕ) (f : Fits w x) (h : 2 ^ hbits w ≤ x) where
   pub upper_fits : SFits w (negsuc 0 -ℤ to_z w (2 ^ bits w - 1 - x))
   upper_fits = subst (SFits w) (sym upper) (record { sfits = omega (arith, f.fits, twice w) })
 
-  pub upper-signed : to_z w (of_z w (negsuc 0 -ℤ to_z w (2 ^ bits w - 1 - x))) ≡ to_z w x
-  upper-signed =
+  pub upper_signed : to_z w (of_z w (negsuc 0 -ℤ to_z w (2 ^ bits w - 1 - x))) ≡ to_z w x
+  upper_signed =
       let e : 2 ^ bits w - suc (2 ^ bits w - 1 - x) ≡ x = omega (arith, f.fits, twice w) in
       ap (λ (y : ℤ). to_z w (of_z w y)) upper ∙ ap (to_z w) e
 
@@ -55,38 +55,38 @@ module _ (w : Width) (z : ℤ) (f : SFits w z) where
   read = to_z-of_z w z f
 
   module _ (below : lt_z (to_z w (of_z w z)) (pos 0) ≡ true) where
-    is_negative : z ≡ negsuc (mag z)
-    is_negative = negative z (sym (ap (λ (y : ℤ). lt_z y (pos 0)) read) ∙ below)
+    is_negative_lem : z ≡ negsuc (mag z)
+    is_negative_lem = negative z (sym (ap (λ (y : ℤ). lt_z y (pos 0)) read) ∙ below)
 
     flip : negsuc 0 -ℤ to_z w (of_z w z) ≡ pos (mag z)
-    flip = ap (λ (y : ℤ). negsuc 0 -ℤ y) (read ∙ is_negative) ∙ flipped (mag z)
+    flip = ap (λ (y : ℤ). negsuc 0 -ℤ y) (read ∙ is_negative_lem) ∙ flipped (mag z)
 
-    pub flip-fits : SFits w (negsuc 0 -ℤ to_z w (of_z w z))
-    flip-fits = subst (SFits w) (sym flip) (record { sfits = f.sfits })
+    pub flip_fits : SFits w (negsuc 0 -ℤ to_z w (of_z w z))
+    flip_fits = subst (SFits w) (sym flip) (record { sfits = f.sfits })
 
-    flip-read : to_z w (of_z w (negsuc 0 -ℤ to_z w (of_z w z))) ≡ pos (mag z)
-    flip-read = ap (λ (y : ℤ). to_z w (of_z w y)) flip ∙ to_z-of_z w (pos (mag z)) (record { sfits = f.sfits })
+    flip_read : to_z w (of_z w (negsuc 0 -ℤ to_z w (of_z w z))) ≡ pos (mag z)
+    flip_read = ap (λ (y : ℤ). to_z w (of_z w y)) flip ∙ to_z-of_z w (pos (mag z)) (record { sfits = f.sfits })
 
-    pub flip-cast : T (non_neg (to_z w (of_z w (negsuc 0 -ℤ to_z w (of_z w z))))) × Fits w (nat_abs (to_z w (of_z w (negsuc 0 -ℤ to_z w (of_z w z)))))
-    flip-cast = subst (λ (y : ℤ). T (non_neg y) × Fits w (nat_abs y)) (sym flip-read) (tt, record { fits = omega (arith, f.sfits, twice w) })
+    pub flip_cast : T (non_neg (to_z w (of_z w (negsuc 0 -ℤ to_z w (of_z w z))))) × Fits w (nat_abs (to_z w (of_z w (negsuc 0 -ℤ to_z w (of_z w z)))))
+    flip_cast = subst (λ (y : ℤ). T (non_neg y) × Fits w (nat_abs y)) (sym flip_read) (tt, record { fits = omega (arith, f.sfits, twice w) })
 
-    pub flip-most : nat_abs (to_z w (of_z w (negsuc 0 -ℤ to_z w (of_z w z)))) ≤ 2 ^ bits w - 1
-    flip-most = rw flip-read (omega (arith, f.sfits, twice w))
+    pub flip_most : nat_abs (to_z w (of_z w (negsuc 0 -ℤ to_z w (of_z w z)))) ≤ 2 ^ bits w - 1
+    flip_most = rw flip_read (omega (arith, f.sfits, twice w))
 
     pub flip_bits : 2 ^ bits w - 1 - nat_abs (to_z w (of_z w (negsuc 0 -ℤ to_z w (of_z w z)))) ≡ of_z w z
     flip_bits =
         let e : 2 ^ bits w - 1 - mag z ≡ 2 ^ bits w - suc (mag z) = omega arith in
-        ap (λ (y : ℤ). 2 ^ bits w - 1 - nat_abs y) flip-read ∙ e ∙ ap (of_z w) (sym is_negative)
+        ap (λ (y : ℤ). 2 ^ bits w - 1 - nat_abs y) flip_read ∙ e ∙ ap (of_z w) (sym is_negative_lem)
 
   module _ (above : lt_z (to_z w (of_z w z)) (pos 0) ≡ false) where
     is_positive : z ≡ pos (mag z)
     is_positive = positive z (sym (ap (λ (y : ℤ). lt_z y (pos 0)) read) ∙ above)
 
-    pub plain-cast : T (non_neg (to_z w (of_z w z))) × Fits w (nat_abs (to_z w (of_z w z)))
-    plain-cast = subst (λ (y : ℤ). T (non_neg y) × Fits w (nat_abs y)) (sym (read ∙ is_positive)) (tt, record { fits = omega (arith, f.sfits, twice w) })
+    pub plain_cast : T (non_neg (to_z w (of_z w z))) × Fits w (nat_abs (to_z w (of_z w z)))
+    plain_cast = subst (λ (y : ℤ). T (non_neg y) × Fits w (nat_abs y)) (sym (read ∙ is_positive)) (tt, record { fits = omega (arith, f.sfits, twice w) })
 
-    pub plain-bits : nat_abs (to_z w (of_z w z)) ≡ of_z w z
-    plain-bits = ap nat_abs (read ∙ is_positive) ∙ ap (of_z w) (sym is_positive)
+    pub plain_bits : nat_abs (to_z w (of_z w z)) ≡ of_z w z
+    plain_bits = ap nat_abs (read ∙ is_positive) ∙ ap (of_z w) (sym is_positive)
 
 -- ---- a number handed to a call, and one that a call answered
 

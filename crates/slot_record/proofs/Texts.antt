@@ -9,37 +9,37 @@ use lib.Seq.{sets}
 use Rattle.error.specs.declared.Refusal.TheVariants.{NoValue}
 use Rattle.text.specs.declared.TextCheck.TheVariants.{Valid}
 use Rattle.text.specs.Check.{points}
-use Rattle.text_limit.specs.Limit.{fitsText}
-use Rattle.text_limit.specs.InnerCheck.{checkWithin}
-use Rattle.text_limit.proofs.Limits.{told-true, told-points, fits-valid, size-le}
-use Rattle.value_list.specs.Records.{rangeRecord}
+use Rattle.text_limit.specs.Limit.{fits_text}
+use Rattle.text_limit.specs.InnerCheck.{check_within}
+use Rattle.text_limit.proofs.Limits.{told_true, told-points, fits-valid, size-le}
+use Rattle.value_list.specs.Records.{range_record}
 use Rattle.value.specs.declared.DataValue.TheVariants as D
-use Rattle.stored_form.specs.Read.{valueIf, whole}
+use Rattle.stored_form.specs.Read.{value_if, whole}
 use Rattle.slot_record.specs.declared.Recorded.{Recorded}
 use Rattle.slot_record.specs.declared.Recorded.TheVariants.{Done, Refused}
 use Rattle.slot_record.specs.InnerRecord.{recorded}
 
-module _ (p : Bool) (n : ℕ) (bs : List ℕ) {m : ℕ} (e : checkWithin p n bs ≡ Valid m) where
-  pub check-fits : fitsText p n bs ≡ true
-  check-fits = sym (told-true (points bs) (fitsText p n bs) e)
+module _ (p : Bool) (n : ℕ) (bs : List ℕ) {m : ℕ} (e : check_within p n bs ≡ Valid m) where
+  pub check_fits : fits_text p n bs ≡ true
+  check_fits = sym (told_true (points bs) (fits_text p n bs) e)
 
-  pub check-points : m ≡ points bs
-  check-points = told-points (points bs) (fitsText p n bs) e
+  pub check_points : m ≡ points bs
+  check_points = told-points (points bs) (fits_text p n bs) e
 
-  pub check-le : m ≤ length bs
-  check-le = let k = check-points in let l = size-le true bs (fits-valid p n bs check-fits) in omega arith
+  pub check_le : m ≤ length bs
+  check_le = let k = check_points in let l = size-le true bs (fits-valid p n bs check_fits) in omega arith
 
 -- the record of a text, where t tells whether it fits
 module _ (k : Bool) (bs : List ℕ) (out : List ℕ) (at i start n : ℕ) where
   abbrev Written : ℕ → Bool → Recorded × List ℕ
   Written c t =
-      let r : List ℕ = rangeRecord k c (whole start bs) in
+      let r : List ℕ = range_record k c (whole start bs) in
       cond t (Done (at + length r) n, sets out at r) (Refused (NoValue i), out)
 
-  pub char-text : (t : Bool) → Written 8 t ≡ recorded k out at i n (valueIf t (D.Char (whole start bs)))
-  char-text true = refl
-  char-text false = refl
+  pub char_text : (t : Bool) → Written 8 t ≡ recorded k out at i n (value_if t (D.Char (whole start bs)))
+  char_text true = refl
+  char_text false = refl
 
-  pub varchar-text : (t : Bool) → Written 9 t ≡ recorded k out at i n (valueIf t (D.Varchar (whole start bs)))
+  pub varchar-text : (t : Bool) → Written 9 t ≡ recorded k out at i n (value_if t (D.Varchar (whole start bs)))
   varchar-text true = refl
   varchar-text false = refl

@@ -1,13 +1,13 @@
 // A column's bytes written as a value record, by kinds and without a value in between. `from_bytes` and then
 // `write_value_record` do the same, but pass the value through memory.
 ghost use Rattle.std.specs.Prelude.{◌≡◌, Bool, ℕ, ◌+◌, ◌-◌, ◌≤◌, length, take, drop};
-ghost use Rattle.row_format.specs.Places.{rowLimit};
+ghost use Rattle.row_format.specs.Places.{row_limit};
 ghost use Rattle.datatype.specs.declared.DataType.TheVariants.{Bool as BoolType, Date as DateType, Time as TimeType, Timestamp as TimestampType, Char as CharType, Varchar as VarcharType};
-ghost use Rattle.datatype.specs.Schema.{columnKind};
-ghost use Rattle.datatype.specs.InnerSteps.{plainSize, plainType};
+ghost use Rattle.datatype.specs.Schema.{column_kind};
+ghost use Rattle.datatype.specs.InnerSteps.{plain_size, plain_type};
 ghost use Rattle.stored_form.specs.Read.{read_slot};
 ghost use Rattle.text.specs.Check.{points};
-ghost use Rattle.slot_record.specs.InnerRecord.{recorded, textRecorded};
+ghost use Rattle.slot_record.specs.InnerRecord.{recorded, text_recorded};
 
 use datatype::schema_kinds;
 use error::Refusal;
@@ -79,11 +79,11 @@ fn timestamp_record(i: usize, bytes: &[u8], out: &mut [u8], at: usize) -> Record
 
 // A column of a kind without a body, wherever its bytes stand. The numbers have one kind as types and as values.
 pub fn plain_record(kind: u8, i: usize, bytes: &[u8], out: &mut [u8], at: usize) -> Recorded
-    requires { (plainSize (columnKind kind) ≡ 0 → ⊥)
-        × ((length bytes.now ≡ plainSize (columnKind kind)) × (at + 18 ≤ length out.old)) }
+    requires { (plain_size (column_kind kind) ≡ 0 → ⊥)
+        × ((length bytes.now ≡ plain_size (column_kind kind)) × (at + 18 ≤ length out.old)) }
     ensures { (k : Bool) (start : ℕ) → (result, out.new)
         ≡ recorded k out.old at i 0
-        (read_slot (plainType (columnKind kind)) start bytes.now) }
+        (read_slot (plain_type (column_kind kind)) start bytes.now) }
 {
     match kind {
         schema_kinds::SMALL_INT => Recorded::Done(
@@ -132,9 +132,9 @@ fn text_record(
     at: usize,
 ) -> Recorded
     requires { (start ≤ end)
-        × ((end ≤ length row.now) × ((length row.now ≤ rowLimit is_long) × (at + 18 ≤ length out.old))) }
+        × ((end ≤ length row.now) × ((length row.now ≤ row_limit is_long) × (at + 18 ≤ length out.old))) }
     ensures { (result, out.new)
-        ≡ textRecorded is_long by_points n out.old at i kind start
+        ≡ text_recorded is_long by_points n out.old at i kind start
         (take (end - start) (drop start row.now)) }
 {
     match text_limit::check_within(&row[start..end], by_points, n) {
@@ -161,7 +161,7 @@ pub fn char_record(
     at: usize,
 ) -> Recorded
     requires { (start ≤ end)
-        × ((end ≤ length row.now) × ((length row.now ≤ rowLimit is_long) × (at + 18 ≤ length out.old))) }
+        × ((end ≤ length row.now) × ((length row.now ≤ row_limit is_long) × (at + 18 ≤ length out.old))) }
     ensures { (result, out.new)
         ≡ recorded is_long out.old at i (points (take (end - start) (drop start row.now)))
         (read_slot (CharType 0) start (take (end - start) (drop start row.now))) }
@@ -193,7 +193,7 @@ pub fn varchar_record(
     at: usize,
 ) -> Recorded
     requires { (start ≤ end)
-        × ((end ≤ length row.now) × ((length row.now ≤ rowLimit is_long) × (at + 18 ≤ length out.old))) }
+        × ((end ≤ length row.now) × ((length row.now ≤ row_limit is_long) × (at + 18 ≤ length out.old))) }
     ensures { (result, out.new)
         ≡ recorded is_long out.old at i (points (take (end - start) (drop start row.now)))
         (read_slot (VarcharType by_points n) start (take (end - start) (drop start row.now))) }

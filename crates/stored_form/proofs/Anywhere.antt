@@ -7,29 +7,29 @@ use lib.Dec.{eqb}
 use lib.ListN.{length}
 use mir.Syntax.{w32, w64}
 use mir.Val.{to_z}
-use Rattle.laws.specs.Bytes.{fromLe}
-use Rattle.text.specs.Rfc3629.{isText}
-use Rattle.text_limit.specs.Limit.{fitsText}
+use Rattle.laws.specs.Bytes.{from_le}
+use Rattle.text.specs.Rfc3629.{is_text}
+use Rattle.text_limit.specs.Limit.{fits_text}
 use Rattle.temporal.specs.declared.TimeOfDay.{TimeOfDay}
 use Rattle.temporal.specs.declared.TimeOfDay.TheVariants.{Micros, OutOfRange}
-use Rattle.temporal.specs.Ranges.{isDate, isTimestamp}
-use Rattle.temporal.specs.Time.{timeOf}
+use Rattle.temporal.specs.Ranges.{is_date, is_timestamp}
+use Rattle.temporal.specs.Time.{time_of}
 use Rattle.numeric.specs.declared.Decoded.{Decoded}
 use Rattle.numeric.specs.declared.Decoded.TheVariants as Bcd
-use Rattle.numeric.specs.Packed.{decodeBcd}
+use Rattle.numeric.specs.Packed.{decode_bcd}
 use Rattle.datatype.specs.declared.DataType.{DataType}
 use Rattle.datatype.specs.declared.DataType.TheVariants as T
 use Rattle.value.specs.declared.DataValue.{DataValue}
 use Rattle.value.specs.declared.DataValue.TheVariants as D
-use Rattle.value.specs.Ranges.{noText, range_of}
+use Rattle.value.specs.Ranges.{no_text, range_of}
 use Rattle.stored_form.specs.declared.SlotRead.{SlotRead}
 use Rattle.stored_form.specs.declared.SlotRead.TheVariants.{Value, NoValue}
-use Rattle.stored_form.specs.Read.{twosComplement, decoded, timed, whole, read_slot}
+use Rattle.stored_form.specs.Read.{twos_complement, decoded, timed, whole, read_slot}
 
 module _ (a b : ℕ) (bs : List ℕ) where
   -- two values that differ at most in where their text stands: at a and at b
   pub data Twins : DataValue → DataValue → Type 0 where
-    alike : {v : DataValue} → range_of v ≡ noText → Twins v v
+    alike : {v : DataValue} → range_of v ≡ no_text → Twins v v
     char : Twins (D.Char (whole a bs)) (D.Char (whole b bs))
     varchar : Twins (D.Varchar (whole a bs)) (D.Varchar (whole b bs))
     bit : Twins (D.Bit (whole a bs)) (D.Bit (whole b bs))
@@ -44,9 +44,9 @@ module _ (a b : ℕ) (bs : List ℕ) where
   by_both true x y x' y' p q = p
   by_both false x y x' y' p q = q
 
-  both-number : (s : ℕ) (d : Decoded) → Both (decoded s bs d) (decoded s bs d)
-  both-number s (Bcd.Value negative high low) = alike refl
-  both-number s Bcd.Broken = by_both (eqb (length bs) 17) (Value (D.Numeric (twosComplement bs))) NoValue (Value (D.Numeric (twosComplement bs))) NoValue (alike refl) tt
+  both_number : (s : ℕ) (d : Decoded) → Both (decoded s bs d) (decoded s bs d)
+  both_number s (Bcd.Value negative high low) = alike refl
+  both_number s Bcd.Broken = by_both (eqb (length bs) 17) (Value (D.Numeric (twos_complement bs))) NoValue (Value (D.Numeric (twos_complement bs))) NoValue (alike refl) tt
 
   both-time : (d : TimeOfDay) → Both (timed d) (timed d)
   both-time (Micros z) = alike refl
@@ -61,13 +61,13 @@ module _ (a b : ℕ) (bs : List ℕ) where
   both T.BigInt = alike refl
   both T.Real = alike refl
   both T.DoublePrecision = alike refl
-  both (T.Numeric p s) = both-number s (decodeBcd p bs)
-  both (T.Decimal p s) = both-number s (decodeBcd p bs)
+  both (T.Numeric p s) = both_number s (decode_bcd p bs)
+  both (T.Decimal p s) = both_number s (decode_bcd p bs)
   both T.Bool = alike refl
-  both (T.Char n) = both_if (isText bs) (D.Char (whole a bs)) (D.Char (whole b bs)) char
-  both (T.Character n) = both_if (isText bs) (D.Char (whole a bs)) (D.Char (whole b bs)) char
-  both (T.Varchar p n) = both_if (fitsText p n bs) (D.Varchar (whole a bs)) (D.Varchar (whole b bs)) varchar
-  both T.Date = both_if (isDate (to_z w32 (fromLe bs))) (D.Date (to_z w32 (fromLe bs))) (D.Date (to_z w32 (fromLe bs))) (alike refl)
-  both T.Time = both-time (timeOf (to_z w64 (fromLe bs)))
+  both (T.Char n) = both_if (is_text bs) (D.Char (whole a bs)) (D.Char (whole b bs)) char
+  both (T.Character n) = both_if (is_text bs) (D.Char (whole a bs)) (D.Char (whole b bs)) char
+  both (T.Varchar p n) = both_if (fits_text p n bs) (D.Varchar (whole a bs)) (D.Varchar (whole b bs)) varchar
+  both T.Date = both_if (is_date (to_z w32 (from_le bs))) (D.Date (to_z w32 (from_le bs))) (D.Date (to_z w32 (from_le bs))) (alike refl)
+  both T.Time = both-time (time_of (to_z w64 (from_le bs)))
   both (T.Bit n) = bit
-  both T.Timestamp = both_if (isTimestamp (to_z w64 (fromLe bs))) (D.Timestamp (to_z w64 (fromLe bs))) (D.Timestamp (to_z w64 (fromLe bs))) (alike refl)
+  both T.Timestamp = both_if (is_timestamp (to_z w64 (from_le bs))) (D.Timestamp (to_z w64 (from_le bs))) (D.Timestamp (to_z w64 (from_le bs))) (alike refl)

@@ -10,7 +10,7 @@ use Rattle.value.specs.declared.TextRange.{TextRange}
 use Rattle.value.specs.declared.NumericValue.{NumericValue}
 use Rattle.value.specs.declared.DataValue.{DataValue}
 use Rattle.value.specs.declared.DataValue.TheVariants as D
-use Rattle.value.specs.Kinds.{kind_of, valueKind, matches}
+use Rattle.value.specs.Kinds.{kind_of, value_kind, matches}
 
 pub data Matched : DataType → DataValue → Type 0 where
   smallint : (z : ℤ) → Matched T.SmallInt (D.SmallInt z)
@@ -62,7 +62,7 @@ kinded (D.Time z) = Kinded.time z
 kinded (D.Bit r) = Kinded.bit r
 kinded (D.Timestamp z) = Kinded.timestamp z
 
-by_kind : (t : DataType) (v : DataValue) → Kinded v (valueKind t) → Matched t v
+by_kind : (t : DataType) (v : DataValue) → Kinded v (value_kind t) → Matched t v
 by_kind T.SmallInt v (Kinded.smallint z) = smallint z
 by_kind T.Int v (Kinded.int z) = int z
 by_kind T.BigInt v (Kinded.bigint z) = bigint z
@@ -80,4 +80,4 @@ by_kind (T.Bit n) v (Kinded.bit r) = bit n r
 by_kind T.Timestamp v (Kinded.timestamp z) = timestamp z
 
 pub matched : (t : DataType) (v : DataValue) → matches t v ≡ true → Matched t v
-matched t v e = by_kind t v (subst (Kinded v) (eqb-true (kind_of v) (valueKind t) e) (kinded v))
+matched t v e = by_kind t v (subst (Kinded v) (eqb-true (kind_of v) (value_kind t) e) (kinded v))

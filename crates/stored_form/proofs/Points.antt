@@ -8,68 +8,68 @@ use lib.Dec.{eqb}
 use lib.ListN.{length}
 use mir.Syntax.{w32, w64}
 use mir.Val.{to_z}
-use Rattle.laws.specs.Bytes.{fromLe}
-use Rattle.text.specs.Rfc3629.{isText}
-use Rattle.text_limit.specs.Limit.{fitsText}
+use Rattle.laws.specs.Bytes.{from_le}
+use Rattle.text.specs.Rfc3629.{is_text}
+use Rattle.text_limit.specs.Limit.{fits_text}
 use Rattle.temporal.specs.declared.TimeOfDay.{TimeOfDay}
 use Rattle.temporal.specs.declared.TimeOfDay.TheVariants.{Micros, OutOfRange}
-use Rattle.temporal.specs.Ranges.{isDate, isTimestamp}
-use Rattle.temporal.specs.Time.{timeOf}
+use Rattle.temporal.specs.Ranges.{is_date, is_timestamp}
+use Rattle.temporal.specs.Time.{time_of}
 use Rattle.numeric.specs.declared.Decoded.{Decoded}
 use Rattle.numeric.specs.declared.Decoded.TheVariants as Bcd
-use Rattle.numeric.specs.Packed.{decodeBcd}
+use Rattle.numeric.specs.Packed.{decode_bcd}
 use Rattle.datatype.specs.declared.DataType.{DataType}
 use Rattle.datatype.specs.declared.DataType.TheVariants as T
 use Rattle.value.specs.declared.DataValue.{DataValue}
 use Rattle.value.specs.declared.DataValue.TheVariants as D
-use Rattle.value.specs.Kinds.{kind_of, valueKind, matches, isTextKind, holdsText, isTextValue}
+use Rattle.value.specs.Kinds.{kind_of, value_kind, matches, is_text_kind, holds_text, is_text_value}
 use Rattle.stored_form.specs.declared.SlotRead.{SlotRead}
 use Rattle.stored_form.specs.declared.SlotRead.TheVariants.{Value, NoValue}
-use Rattle.stored_form.specs.Read.{valueIf, decoded, timed, read_slot}
-use Rattle.stored_form.specs.ReadBack.{readBack, hasText}
-use Rattle.stored_form.specs.Points.{pointsIn}
+use Rattle.stored_form.specs.Read.{value_if, decoded, timed, read_slot}
+use Rattle.stored_form.specs.ReadBack.{read_back, has_text}
+use Rattle.stored_form.specs.Points.{points_in}
 
 -- whether what was read is a text
 abbrev pub Texts : Bool → SlotRead → Type 0
-Texts b (Value v) = isTextValue v ≡ b
+Texts b (Value v) = is_text_value v ≡ b
 Texts b NoValue = Unit {0}
 
-if-texts : (b t : Bool) (v : DataValue) → isTextValue v ≡ b → Texts b (valueIf t v)
-if-texts b true v e = e
-if-texts b false v e = tt
+if_texts : (b t : Bool) (v : DataValue) → is_text_value v ≡ b → Texts b (value_if t v)
+if_texts b true v e = e
+if_texts b false v e = tt
 
 digits-texts : (s : ℕ) (bs : List ℕ) (d : Decoded) → Texts false (decoded s bs d)
 digits-texts s bs (Bcd.Value negative high low) = refl
-digits-texts s bs Bcd.Broken = if-texts false (eqb (length bs) 17) _ refl
+digits-texts s bs Bcd.Broken = if_texts false (eqb (length bs) 17) _ refl
 
 time-texts : (t : TimeOfDay) → Texts false (timed t)
 time-texts (Micros z) = refl
 time-texts OutOfRange = tt
 
-pub slot-texts : (t : DataType) (start : ℕ) (bs : List ℕ) → Texts (holdsText t) (read_slot t start bs)
+pub slot-texts : (t : DataType) (start : ℕ) (bs : List ℕ) → Texts (holds_text t) (read_slot t start bs)
 slot-texts T.SmallInt start bs = refl
 slot-texts T.Int start bs = refl
 slot-texts T.BigInt start bs = refl
 slot-texts T.Real start bs = refl
 slot-texts T.DoublePrecision start bs = refl
-slot-texts (T.Numeric p s) start bs = digits-texts s bs (decodeBcd p bs)
-slot-texts (T.Decimal p s) start bs = digits-texts s bs (decodeBcd p bs)
+slot-texts (T.Numeric p s) start bs = digits-texts s bs (decode_bcd p bs)
+slot-texts (T.Decimal p s) start bs = digits-texts s bs (decode_bcd p bs)
 slot-texts T.Bool start bs = refl
-slot-texts (T.Char n) start bs = if-texts true (isText bs) _ refl
-slot-texts (T.Character n) start bs = if-texts true (isText bs) _ refl
-slot-texts (T.Varchar p n) start bs = if-texts true (fitsText p n bs) _ refl
-slot-texts T.Date start bs = if-texts false (isDate (to_z w32 (fromLe bs))) _ refl
-slot-texts T.Time start bs = time-texts (timeOf (to_z w64 (fromLe bs)))
+slot-texts (T.Char n) start bs = if_texts true (is_text bs) _ refl
+slot-texts (T.Character n) start bs = if_texts true (is_text bs) _ refl
+slot-texts (T.Varchar p n) start bs = if_texts true (fits_text p n bs) _ refl
+slot-texts T.Date start bs = if_texts false (is_date (to_z w32 (from_le bs))) _ refl
+slot-texts T.Time start bs = time-texts (time_of (to_z w64 (from_le bs)))
 slot-texts (T.Bit n) start bs = refl
-slot-texts T.Timestamp start bs = if-texts false (isTimestamp (to_z w64 (fromLe bs))) _ refl
+slot-texts T.Timestamp start bs = if_texts false (is_timestamp (to_z w64 (from_le bs))) _ refl
 
 -- no text, no count
-pub no-points : (row : List ℕ) (v : DataValue) → isTextValue v ≡ false → pointsIn row v ≡ 0
+pub no-points : (row : List ℕ) (v : DataValue) → is_text_value v ≡ false → points_in row v ≡ 0
 no-points row v e = rw e
 
 -- ---- a value that was stored and read back
 
-back-kind : (t : DataType) (start : ℕ) (v : DataValue) (x : List ℕ) → kind_of (readBack t start v x) ≡ kind_of v
+back-kind : (t : DataType) (start : ℕ) (v : DataValue) (x : List ℕ) → kind_of (read_back t start v x) ≡ kind_of v
 back-kind t start D.Null x = refl
 back-kind t start (D.SmallInt z) x = refl
 back-kind t start (D.Int z) x = refl
@@ -86,15 +86,15 @@ back-kind t start (D.Bit r) x = refl
 back-kind t start (D.Timestamp z) x = refl
 
 module _ (t : DataType) (v : DataValue) (m : matches t v ≡ true) where
-  same_kind : kind_of v ≡ valueKind t
-  same_kind = eqb-true (kind_of v) (valueKind t) m
+  same_kind : kind_of v ≡ value_kind t
+  same_kind = eqb-true (kind_of v) (value_kind t) m
 
-  pub back-texts : (start : ℕ) (x : List ℕ) → isTextValue (readBack t start v x) ≡ holdsText t
-  back-texts start x = ap isTextKind (back-kind t start v x ∙ same_kind)
+  pub back-texts : (start : ℕ) (x : List ℕ) → is_text_value (read_back t start v x) ≡ holds_text t
+  back-texts start x = ap is_text_kind (back-kind t start v x ∙ same_kind)
 
   -- a value of a type that holds text has one
-  pub has-text : holdsText t ≡ true → hasText v ≡ true
-  has-text h = rw same_kind (by_kind (eqb (valueKind t) 8) (eqb (valueKind t) 9) (eqb (valueKind t) 12) h)
+  pub has-text : holds_text t ≡ true → has_text v ≡ true
+  has-text h = rw same_kind (by_kind (eqb (value_kind t) 8) (eqb (value_kind t) 9) (eqb (value_kind t) 12) h)
     where
       by_kind : (x y z : Bool) → cond x true y ≡ true → (x || (y || z)) ≡ true
       by_kind true y z e = refl

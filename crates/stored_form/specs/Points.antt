@@ -4,14 +4,14 @@ use Rattle.std.proofs.Math.Option.{Option, none, some}
 use Rattle.text.specs.Check.{points}
 use Rattle.datatype.specs.declared.DataType.{DataType}
 use Rattle.value.specs.declared.DataValue.{DataValue}
-use Rattle.value.specs.Kinds.{holdsText, isTextValue}
+use Rattle.value.specs.Kinds.{holds_text, is_text_value}
 use Rattle.value.specs.Ranges.{text_of}
 
 -- of a value that was read from a row, which is its text area
-abbrev pub pointsIn : List ℕ → DataValue → ℕ
-pointsIn row v = cond (isTextValue v) (points (text_of row v)) 0
+abbrev pub points_in : List ℕ → DataValue → ℕ
+points_in row v = cond (is_text_value v) (points (text_of row v)) 0
 
 -- of what a column of type t is given: its stored form, or null
-abbrev pub storedPoints : DataType → Option (List ℕ) → ℕ
-storedPoints t none = 0
-storedPoints t (some x) = cond (holdsText t) (points x) 0
+abbrev pub stored_points : DataType → Option (List ℕ) → ℕ
+stored_points t none = 0
+stored_points t (some x) = cond (holds_text t) (points x) 0

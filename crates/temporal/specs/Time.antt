@@ -6,12 +6,12 @@ use Rattle.temporal.specs.declared.TimeOfDay.{TimeOfDay}
 use Rattle.temporal.specs.declared.TimeOfDay.TheVariants.{Micros, OutOfRange}
 
 -- z modulo m, from 0 to m - 1
-abbrev pub modZ : ℤ → ℕ → ℕ
-modZ (pos n) m = n % m
-modZ (negsuc n) m = m - 1 - n % m
+abbrev pub mod_z : ℤ → ℕ → ℕ
+mod_z (pos n) m = n % m
+mod_z (negsuc n) m = m - 1 - n % m
 
-abbrev pub timeOf : ℤ → TimeOfDay
-timeOf z = split (rem_z z (pos 1000000)) (modZ (quot_z z (pos 1000000)) (2 ^ 32))
+abbrev pub time_of : ℤ → TimeOfDay
+time_of z = split (rem_z z (pos 1000000)) (mod_z (quot_z z (pos 1000000)) (2 ^ 32))
   where
     split : ℤ → ℕ → TimeOfDay
     split rest seconds =

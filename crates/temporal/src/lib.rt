@@ -1,11 +1,11 @@
 // value.rs, DATE, TIME and TIMESTAMP: which counts are values.
 ghost use Rattle.std.specs.Prelude.{◌≡◌, ◌^◌};
-ghost use Rattle.temporal.specs.Ranges.{isDate, isTime, isTimestamp};
-ghost use Rattle.temporal.specs.Time.{modZ, timeOf};
+ghost use Rattle.temporal.specs.Ranges.{is_date, is_time, is_timestamp};
+ghost use Rattle.temporal.specs.Time.{mod_z, time_of};
 
 // Days from 1970-01-01: the years 1 to 9999.
 pub fn is_date(days: i32) -> bool
-    ensures { result ≡ isDate days }
+    ensures { result ≡ is_date days }
 {
     if days < -719_162 {
         return false;
@@ -15,7 +15,7 @@ pub fn is_date(days: i32) -> bool
 
 // Microseconds since midnight.
 pub fn is_time(micros: i64) -> bool
-    ensures { result ≡ isTime micros }
+    ensures { result ≡ is_time micros }
 {
     if micros < 0 {
         return false;
@@ -25,7 +25,7 @@ pub fn is_time(micros: i64) -> bool
 
 // Microseconds from 1970-01-01: the years 1 to 9999.
 pub fn is_timestamp(micros: i64) -> bool
-    ensures { result ≡ isTimestamp micros }
+    ensures { result ≡ is_timestamp micros }
 {
     if micros < -62_135_596_800_000_000 {
         return false;
@@ -41,14 +41,14 @@ pub enum TimeOfDay {
 }
 
 fn low_32(q: i64) -> u32
-    ensures { result ≡ modZ q (2 ^ 32) }
+    ensures { result ≡ mod_z q (2 ^ 32) }
 {
     (signed::cast_unsigned_64(q) % 0x1_0000_0000) as u32
 }
 
 // The count is split as the Rust does it: the seconds keep their low 32 bits.
 pub fn time_of(micros: i64) -> TimeOfDay
-    ensures { result ≡ timeOf micros }
+    ensures { result ≡ time_of micros }
 {
     let rest = micros % 1_000_000;
     if rest < 0 {

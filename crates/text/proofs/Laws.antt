@@ -30,5 +30,5 @@ module _ {p : ℕ → Bool} {first end : ℕ} where
     λ g. rw (f.1 (λ i l m. g i l (omega arith)), e) (g end h (omega arith)),
   )
 
-  pub each-join : {from to last : ℕ} → Each p first end → Each p from to → from ≤ end → last ≤ to → Each p first last
-  each-join f g h k i l m = cases i end (λ n. f i l n) (λ n. g i (omega arith) (omega arith))
+  pub each_join : {from to last : ℕ} → Each p first end → Each p from to → from ≤ end → last ≤ to → Each p first last
+  each_join f g h k i l m = cases i end (λ n. f i l n) (λ n. g i (omega arith) (omega arith))

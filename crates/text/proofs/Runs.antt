@@ -12,17 +12,17 @@ use lib.Dec.{leb}
 use lib.ListN.{length, get_or, take, drop, take-append-drop, length-drop}
 use lib.Seq.{drop-drop, drop-cons, drop-length, get_or-drop, take_at, take_all}
 use Rattle.text.specs.declared.TextCheck.TheVariants.{Valid, Invalid}
-use Rattle.text.specs.Rfc3629.{Form, octets, codePoints, utf8-1, utf8-2, utf8-3, utf8-4}
-use Rattle.text.specs.Check.{checkOf}
-use Rattle.text.specs.Characters.{isOne, utf8, Characters, end, next}
+use Rattle.text.specs.Rfc3629.{Form, octets, code_points, utf8_1, utf8_2, utf8_3, utf8_4}
+use Rattle.text.specs.Check.{check_of}
+use Rattle.text.specs.Characters.{is_one, utf8, Characters, end, next}
 use Rattle.text.specs.InnerCharacters.{plus}
 use Rattle.text.specs.InnerEach.{Each}
-use Rattle.text.specs.InnerRuns.{isAscii, Ascii, Going, Run}
+use Rattle.text.specs.InnerRuns.{is_ascii, Ascii, Going, Run}
 use Rattle.laws.proofs.Truths.{cases}
-use Rattle.text.proofs.Laws.{each-join}
+use Rattle.text.proofs.Laws.{each_join}
 use Rattle.text.proofs.Append.{plus-zero}
-use Rattle.text.proofs.Forms.{rising, too-low}
-use Rattle.text.proofs.Characters.{by-forms, form-long, form-before, characters}
+use Rattle.text.proofs.Forms.{rising, too_low}
+use Rattle.text.proofs.Characters.{by_forms, form-long, form-before, characters}
 
 -- ---- the character that may stand at i
 
@@ -39,14 +39,14 @@ module _ (s : List ℕ) where
   byte : (k i : ℕ) → i < length s → take (suc k) (drop i s) ≡ get_or s i 0 ∷ take k (drop (i + 1) s)
   byte k i h = ap (take (suc k)) (drop-cons s i 0 h) ∙ rw (add-one i)
 
-  pub bytes-1 : (i : ℕ) → i < length s → take 1 (drop i s) ≡ get_or s i 0 ∷ []
-  bytes-1 i h = byte 0 i h
+  pub bytes_1 : (i : ℕ) → i < length s → take 1 (drop i s) ≡ get_or s i 0 ∷ []
+  bytes_1 i h = byte 0 i h
 
   pub bytes_2 : (i : ℕ) → i + 2 ≤ length s → take 2 (drop i s) ≡ get_or s i 0 ∷ get_or s (i + 1) 0 ∷ []
-  bytes_2 i h = byte 1 i (omega arith) ∙ rw (bytes-1 (i + 1) (omega arith))
+  bytes_2 i h = byte 1 i (omega arith) ∙ rw (bytes_1 (i + 1) (omega arith))
 
-  pub bytes-3 : (i : ℕ) → i + 3 ≤ length s → take 3 (drop i s) ≡ get_or s i 0 ∷ get_or s (i + 1) 0 ∷ get_or s (i + 2) 0 ∷ []
-  bytes-3 i h =
+  pub bytes_3 : (i : ℕ) → i + 3 ≤ length s → take 3 (drop i s) ≡ get_or s i 0 ∷ get_or s (i + 1) 0 ∷ get_or s (i + 2) 0 ∷ []
+  bytes_3 i h =
       let e : i + 1 + 1 ≡ i + 2 = omega arith in
       byte 2 i (omega arith) ∙ rw (bytes_2 (i + 1) (omega arith), e)
 
@@ -55,12 +55,12 @@ module _ (s : List ℕ) where
   bytes_4 i h =
       let e : i + 1 + 1 ≡ i + 2 = omega arith in
       let f : i + 1 + 2 ≡ i + 3 = omega arith in
-      byte 3 i (omega arith) ∙ rw (bytes-3 (i + 1) (omega arith), e, f)
+      byte 3 i (omega arith) ∙ rw (bytes_3 (i + 1) (omega arith), e, f)
 
   -- where too few bytes are left
-  short : (k i : ℕ) → length s < i + k → i ≤ length s → isOne (utf8 k) (take k (drop i s)) ≡ false
+  short : (k i : ℕ) → length s < i + k → i ≤ length s → is_one (utf8 k) (take k (drop i s)) ≡ false
   short k i h g =
-      untrue (isOne (utf8 k) (take k (drop i s)))
+      untrue (is_one (utf8 k) (take k (drop i s)))
       (λ e.
       let l = form-long k (take k (drop i s)) e in
       let m = length-drop i s in
@@ -68,19 +68,19 @@ module _ (s : List ℕ) where
       absurd (omega arith))
 
   -- where the byte at i is too low for the forms
-  low-front : (forms : List Form) (m k : ℕ) → rising m forms ≡ true → isOne forms [] ≡ false → (l : List ℕ)
-      → get_or l 0 0 < m → isOne forms (take (suc k) l) ≡ false
-  low-front forms m k r q [] h = q
-  low-front forms m k r q (b ∷ l) h = too-low b forms m r h (take k l)
+  low_front : (forms : List Form) (m k : ℕ) → rising m forms ≡ true → is_one forms [] ≡ false → (l : List ℕ)
+      → get_or l 0 0 < m → is_one forms (take (suc k) l) ≡ false
+  low_front forms m k r q [] h = q
+  low_front forms m k r q (b ∷ l) h = too_low b forms m r h (take k l)
 
-  low : (forms : List Form) (m k i : ℕ) → rising m forms ≡ true → isOne forms [] ≡ false → get_or s i 0 < m
-      → isOne forms (take (suc k) (drop i s)) ≡ false
-  low forms m k i r q h = low-front forms m k r q (drop i s) (rw (get_or-drop i s 0 0, add-zero i) h)
+  low : (forms : List Form) (m k i : ℕ) → rising m forms ≡ true → is_one forms [] ≡ false → get_or s i 0 < m
+      → is_one forms (take (suc k) (drop i s)) ≡ false
+  low forms m k i r q h = low_front forms m k r q (drop i s) (rw (get_or-drop i s 0 0, add-zero i) h)
 
-  one_more : (k i : ℕ) → isOne (utf8 k) (take k (drop i s)) ≡ true
-      → codePoints (drop i s) ≡ plus 1 (codePoints (drop (i + k) s))
+  one_more : (k i : ℕ) → is_one (utf8 k) (take k (drop i s)) ≡ true
+      → code_points (drop i s) ≡ plus 1 (code_points (drop (i + k) s))
   one_more k i e =
-      ap codePoints (sym (take-append-drop k (drop i s)))
+      ap code_points (sym (take-append-drop k (drop i s)))
       ∙ form-before k (take k (drop i s)) (drop k (drop i s)) e
       ∙ rw (drop-drop k i s)
 
@@ -93,10 +93,10 @@ module _ {k : ℕ} {s : List ℕ} {first : ℕ} where
         count = 0;
         place = rw (mul-zero k, add-zero first);
         inside = h;
-        says = sym (plus-zero (codePoints (drop first s)));
+        says = sym (plus-zero (code_points (drop first s)));
       }
 
-  more : {i : ℕ} → Going k s first i → isOne (utf8 k) (take k (drop i s)) ≡ true → i + k ≤ length s
+  more : {i : ℕ} → Going k s first i → is_one (utf8 k) (take k (drop i s)) ≡ true → i + k ≤ length s
       → Going k s first (i + k)
   more {i} g e h =
       let r = g.count in
@@ -104,11 +104,11 @@ module _ {k : ℕ} {s : List ℕ} {first : ℕ} where
         count = r + 1;
         place = let q = g.place in let m = mul-suc k r in rw (add-one r, m) (omega arith);
         inside = h;
-        says = g.says ∙ ap (plus r) (one_more s k i e) ∙ plus-plus r 1 (codePoints (drop (i + k) s));
+        says = g.says ∙ ap (plus r) (one_more s k i e) ∙ plus-plus r 1 (code_points (drop (i + k) s));
       }
 
   -- t tests the bytes at i, which are c
-  module _ {i : ℕ} {c : List ℕ} {t : Bool} (g : Going k s first i) (e : take k (drop i s) ≡ c) (f : t ≡ isOne (utf8 k) c) where
+  module _ {i : ℕ} {c : List ℕ} {t : Bool} (g : Going k s first i) (e : take k (drop i s) ≡ c) (f : t ≡ is_one (utf8 k) c) where
     pub run_more : t ≡ true → i + k ≤ length s → Going k s first (i + k)
     run_more q = more g (rw e (sym f ∙ q))
 
@@ -125,7 +125,7 @@ module _ {s : List ℕ} {first : ℕ} where
   pub ascii-none : first ≤ length s → Ascii s first first
   ascii-none h = record { from = omega arith; inside = h; each = λ i l m. absurd (omega arith) }
 
-  pub ascii_more : {i : ℕ} → Ascii s first i → isAscii s i ≡ true → i < length s → Ascii s first (i + 1)
+  pub ascii_more : {i : ℕ} → Ascii s first i → is_ascii s i ≡ true → i < length s → Ascii s first (i + 1)
   ascii_more {i} a e h =
       record {
         from = let l = a.from in omega arith;
@@ -134,22 +134,22 @@ module _ {s : List ℕ} {first : ℕ} where
       }
 
   -- a run that begins at i or before it
-  pub ascii-join : {i from to last : ℕ} → Ascii s first i → Each (isAscii s) from to → from ≤ i → i ≤ last → last ≤ to
+  pub ascii_join : {i from to last : ℕ} → Ascii s first i → Each (is_ascii s) from to → from ≤ i → i ≤ last → last ≤ to
       → last ≤ length s → Ascii s first last
-  ascii-join a f h k l m =
-      record { from = let n = a.from in omega arith; inside = m; each = each-join a.each f h l }
+  ascii_join a f h k l m =
+      record { from = let n = a.from in omega arith; inside = m; each = each_join a.each f h l }
 
-  pub ascii-then : {i j : ℕ} → Ascii s first i → Ascii s i j → Ascii s first j
-  ascii-then a b = ascii-join a b.each (omega arith) b.from (omega arith) b.inside
+  pub ascii_then : {i j : ℕ} → Ascii s first i → Ascii s i j → Ascii s first j
+  ascii_then a b = ascii_join a b.each (omega arith) b.from (omega arith) b.inside
 
 module _ (s : List ℕ) (first : ℕ) where
-  ascii-going : (d : ℕ) → first + d ≤ length s → Each (isAscii s) first (first + d) → Going 1 s first (first + d)
+  ascii-going : (d : ℕ) → first + d ≤ length s → Each (is_ascii s) first (first + d) → Going 1 s first (first + d)
   ascii-going zero h f = rw (add-zero first) (start (omega arith))
   ascii-going (suc d) h f =
       let g = ascii-going d (omega arith) (λ i l m. f i l (omega arith)) in
       let e : first + suc d ≡ first + d + 1 = omega arith in
       let t = f (first + d) (omega arith) (omega arith) in
-      rw e (more g (rw (bytes-1 s (first + d) (omega arith)) t) (omega arith))
+      rw e (more g (rw (bytes_1 s (first + d) (omega arith)) t) (omega arith))
 
   pub ascii_run : {r : ℕ} → Ascii s first r → Going 1 s first r
   ascii_run {r} a =
@@ -159,11 +159,11 @@ module _ (s : List ℕ) (first : ℕ) where
       (ascii-going (r - first) (let l = a.inside in omega arith) (λ i l m. a.each i l (omega arith)))
 
   -- up to a byte that is none, or to the end
-  pub ascii-done : {r : ℕ} → Ascii s first r → (r < length s → isAscii s r ≡ false) → Run 1 s first r
+  pub ascii-done : {r : ℕ} → Ascii s first r → (r < length s → is_ascii s r ≡ false) → Run 1 s first r
   ascii-done {r} a f =
       record {
         going = ascii_run a;
-        over = cases r (length s) (λ l. rw (bytes-1 s r l) (f l)) (λ l. short s 1 r (omega arith) a.inside);
+        over = cases r (length s) (λ l. rw (bytes_1 s r l) (f l)) (λ l. short s 1 r (omega arith) a.inside);
       }
 
 -- ---- all runs
@@ -172,108 +172,108 @@ module _ (s : List ℕ) (first : ℕ) where
 pub record Reached (s : List ℕ) (i n : ℕ) : Type 0 where
   pub inside : i ≤ length s
   pub low : n ≤ i
-  pub count : codePoints s ≡ plus n (codePoints (drop i s))
+  pub count : code_points s ≡ plus n (code_points (drop i s))
 
-begins : {s : List ℕ} {n : ℕ} → Characters s n → ((k : ℕ) → isOne (utf8 k) (take k s) ≡ false) → length s ≡ 0
+begins : {s : List ℕ} {n : ℕ} → Characters s n → ((k : ℕ) → is_one (utf8 k) (take k s) ≡ false) → length s ≡ 0
 begins end f = refl
 begins (next {s = s} c o k) f =
     let e = take_at c s o.form (form-long o.form c o.has) in
     absurd (false≢true (sym (f o.form) ∙ rw e o.has))
 
-none-begins : (s : List ℕ) (x : Option ℕ) → codePoints s ≡ x → 0 < length s
-    → ((k : ℕ) → isOne (utf8 k) (take k s) ≡ false) → x ≡ none
-none-begins s none e h f = refl
-none-begins s (some n) e h f = let l = begins ((characters s n).0 e) f in absurd (omega arith)
+none_begins : (s : List ℕ) (x : Option ℕ) → code_points s ≡ x → 0 < length s
+    → ((k : ℕ) → is_one (utf8 k) (take k s) ≡ false) → x ≡ none
+none_begins s none e h f = refl
+none_begins s (some n) e h f = let l = begins ((characters s n).0 e) f in absurd (omega arith)
 
 module _ {s : List ℕ} where
   -- c characters more, UTF8-k
-  reached-run : (k c : ℕ) {i n r : ℕ} → Reached s i n → (run : Run k s i r) → c ≡ run.going.count → c ≤ k * c
+  reached_run : (k c : ℕ) {i n r : ℕ} → Reached s i n → (run : Run k s i r) → c ≡ run.going.count → c ≤ k * c
       → Reached s r (n + c)
-  reached-run k c {i} {n} {r} g run e h =
+  reached_run k c {i} {n} {r} g run e h =
       let q = run.going.place in
       record {
         inside = run.going.inside;
         low = let l = g.low in let m : k * c ≡ k * run.going.count = rw e in omega arith;
-        count = g.count ∙ ap (plus n) run.going.says ∙ rw (← e) (plus-plus n c (codePoints (drop r s)));
+        count = g.count ∙ ap (plus n) run.going.says ∙ rw (← e) (plus-plus n c (code_points (drop r s)));
       }
 
-  pub reached-lead : {r : ℕ} → Ascii s 0 r → Reached s r r
-  reached-lead {r} a =
+  pub reached_lead : {r : ℕ} → Ascii s 0 r → Reached s r r
+  reached_lead {r} a =
       let g = ascii_run s 0 a in
       let p = g.place in
       let e : g.count ≡ r = omega arith in
       record { inside = a.inside; low = omega arith; count = rw e at g.says }
 
-  pub valid : {i n : ℕ} → Reached s i n → length s ≤ i → Valid n ≡ checkOf (codePoints s)
+  pub valid : {i n : ℕ} → Reached s i n → length s ≤ i → Valid n ≡ check_of (code_points s)
   unfolding octets
   valid {i} {n} g h =
       let e : i ≡ length s = let l = g.inside in omega arith in
-      let q : codePoints s ≡ some n = g.count ∙ rw (e, drop-length s, add-zero n) in
-      sym (ap checkOf q)
+      let q : code_points s ≡ some n = g.count ∙ rw (e, drop-length s, add-zero n) in
+      sym (ap check_of q)
 
-  invalid : {i n : ℕ} → Reached s i n → i < length s → isOne utf8-1 (take 1 (drop i s)) ≡ false
-      → isOne utf8-2 (take 2 (drop i s)) ≡ false → isOne utf8-3 (take 3 (drop i s)) ≡ false
-      → isOne utf8-4 (take 4 (drop i s)) ≡ false → Invalid ≡ checkOf (codePoints s)
+  invalid : {i n : ℕ} → Reached s i n → i < length s → is_one utf8_1 (take 1 (drop i s)) ≡ false
+      → is_one utf8_2 (take 2 (drop i s)) ≡ false → is_one utf8_3 (take 3 (drop i s)) ≡ false
+      → is_one utf8_4 (take 4 (drop i s)) ≡ false → Invalid ≡ check_of (code_points s)
   invalid {i} {n} g h one two three four =
       let l = length-drop i s in
       let e =
-      none-begins (drop i s) (codePoints (drop i s)) refl (omega arith)
-      (by-forms (λ k forms. isOne forms (take k (drop i s)) ≡ false) (λ k. refl) one two three four) in
-      let q : codePoints s ≡ none = g.count ∙ rw e in
-      sym (ap checkOf q)
+      none_begins (drop i s) (code_points (drop i s)) refl (omega arith)
+      (by_forms (λ k forms. is_one forms (take k (drop i s)) ≡ false) (λ k. refl) one two three four) in
+      let q : code_points s ≡ none = g.count ∙ rw e in
+      sym (ap check_of q)
 
   -- a turn of the check: the forms in their order, each up to where it is over
   module _ {i n one two : ℕ} (g : Reached s i n) (r1 : Run 1 s i one) (r2 : Run 2 s one two) where
-    pub two-reached : Reached s two (n + (one - i + (two - one) / 2))
-    two-reached =
+    pub two_reached : Reached s two (n + (one - i + (two - one) / 2))
+    two_reached =
         let p = r1.going.place in
         let q = r2.going.place in
         let e : n + (one - i) + (two - one) / 2 ≡ n + (one - i + (two - one) / 2) = omega arith in
-        let k = reached-run 1 (one - i) g r1 (omega arith) (omega arith) in
-        rw e at (reached-run 2 ((two - one) / 2) k r2 (omega arith) (omega arith))
+        let k = reached_run 1 (one - i) g r1 (omega arith) (omega arith) in
+        rw e at (reached_run 2 ((two - one) / 2) k r2 (omega arith) (omega arith))
 
     two_past : i ≤ two
     two_past = let p = r1.going.place in let q = r2.going.place in omega arith
 
-    pub two-less : (two ≡ i → ⊥) → length s - two < length s - i
-    two-less e = let p = two_past in let q = r2.going.inside in omega arith
+    pub two_less : (two ≡ i → ⊥) → length s - two < length s - i
+    two_less e = let p = two_past in let q = r2.going.inside in omega arith
 
     -- the forms at i, where they are over there
-    over-1 : two ≡ i → isOne utf8-1 (take 1 (drop i s)) ≡ false
-    over-1 e =
+    over_1 : two ≡ i → is_one utf8_1 (take 1 (drop i s)) ≡ false
+    over_1 e =
         let p = r1.going.place in
         let q = r2.going.place in
         let f : one ≡ i = omega arith in
         rw f at r1.over
 
-    over-2 : two ≡ i → isOne utf8-2 (take 2 (drop i s)) ≡ false
-    over-2 e = rw e at r2.over
+    over_2 : two ≡ i → is_one utf8_2 (take 2 (drop i s)) ≡ false
+    over_2 e = rw e at r2.over
 
-    pub stuck-low : leb 0xE0 (get_or s two 0) ≡ false → two ≡ i → i < length s → Invalid ≡ checkOf (codePoints s)
-    stuck-low l e h =
+    pub stuck_low : leb 0xE0 (get_or s two 0) ≡ false → two ≡ i → i < length s → Invalid ≡ check_of (code_points s)
+    stuck_low l e h =
         let m : get_or s i 0 < 0xE0 = rw e at (leb-false 0xE0 (get_or s two 0) l) in
-        invalid g h (over-1 e) (over-2 e) (low s utf8-3 0xE0 2 i refl refl m) (low s utf8-4 0xE0 3 i refl refl m)
+        invalid g h (over_1 e) (over_2 e) (low s utf8_3 0xE0 2 i refl refl m) (low s utf8_4 0xE0 3 i refl refl m)
 
     module _ {three four : ℕ} (r3 : Run 3 s two three) (r4 : Run 4 s three four) where
-      pub four-reached : Reached s four (n + (one - i + (two - one) / 2) + ((three - two) / 3 + (four - three) / 4))
-      four-reached =
+      pub four_reached : Reached s four (n + (one - i + (two - one) / 2) + ((three - two) / 3 + (four - three) / 4))
+      four_reached =
           let m = n + (one - i + (two - one) / 2) in
           let p = r3.going.place in
           let q = r4.going.place in
           let e : m + (three - two) / 3 + (four - three) / 4 ≡ m + ((three - two) / 3 + (four - three) / 4) =
           omega arith in
-          let k = reached-run 3 ((three - two) / 3) two-reached r3 (omega arith) (omega arith) in
-          rw e at (reached-run 4 ((four - three) / 4) k r4 (omega arith) (omega arith))
+          let k = reached_run 3 ((three - two) / 3) two_reached r3 (omega arith) (omega arith) in
+          rw e at (reached_run 4 ((four - three) / 4) k r4 (omega arith) (omega arith))
 
-      pub four-less : (four ≡ i → ⊥) → length s - four < length s - i
-      four-less e =
+      pub four_less : (four ≡ i → ⊥) → length s - four < length s - i
+      four_less e =
           let p = two_past in
           let q = r3.going.place in
           let t = r4.going.place in
           let u = r4.going.inside in
           omega arith
 
-      pub stuck : four ≡ i → i < length s → Invalid ≡ checkOf (codePoints s)
+      pub stuck : four ≡ i → i < length s → Invalid ≡ check_of (code_points s)
       stuck e h =
           let p = r1.going.place in
           let q = r2.going.place in
@@ -281,4 +281,4 @@ module _ {s : List ℕ} where
           let u = r4.going.place in
           let f : two ≡ i = omega arith in
           let three-over : three ≡ i = omega arith in
-          invalid g h (over-1 f) (over-2 f) (rw three-over at r3.over) (rw e at r4.over)
+          invalid g h (over_1 f) (over_2 f) (rw three-over at r3.over) (rw e at r4.over)

@@ -3,12 +3,12 @@ use Rattle.std.specs.Prelude.{ℕ, List}
 use Rattle.std.proofs.Math.Option.{Option, none, some}
 use Rattle.text.specs.declared.TextCheck.{TextCheck}
 use Rattle.text.specs.declared.TextCheck.TheVariants.{Valid, Invalid}
-use Rattle.text.specs.Rfc3629.{codePoints}
+use Rattle.text.specs.Rfc3629.{code_points}
 
 -- the check's answer: valid with the number of code points, or invalid
-abbrev pub checkOf : Option ℕ → TextCheck
-checkOf none = Invalid
-checkOf (some n) = Valid n
+abbrev pub check_of : Option ℕ → TextCheck
+check_of none = Invalid
+check_of (some n) = Valid n
 
 -- the number of code points of a text; 0 for bytes that are none
 abbrev pub points_of : Option ℕ → ℕ
@@ -16,4 +16,4 @@ points_of none = 0
 points_of (some n) = n
 
 abbrev pub points : List ℕ → ℕ
-points s = points_of (codePoints s)
+points s = points_of (code_points s)

@@ -4,12 +4,12 @@
 // characters of each as stand there, and begins anew. utf8_1 to utf8_4 are the lines of the grammar, past_ones to
 // past_fours take the characters. What is done for many bytes at once is all of UTF8-1, which is ASCII.
 ghost use Rattle.std.specs.Prelude.{◌≡◌, true, [], ◌∷◌, ◌↔◌, ◌+◌, ◌<◌, ◌≤◌, leb, length, get_or};
-ghost use Rattle.text.specs.Rfc3629.{◌to◌, within, utf8-tail, utf8-1, utf8-2, utf8-3, utf8-4, codePoints, isText};
-ghost use Rattle.text.specs.Characters.{is_of, isOne};
-ghost use Rattle.text.specs.Check.{checkOf, points};
+ghost use Rattle.text.specs.Rfc3629.{◌to◌, within, utf8_tail, utf8_1, utf8_2, utf8_3, utf8_4, code_points, is_text};
+ghost use Rattle.text.specs.Characters.{is_of, is_one};
+ghost use Rattle.text.specs.Check.{check_of, points};
 ghost use Rattle.text.specs.InnerEach.{Each};
-ghost use Rattle.text.specs.InnerRuns.{isAscii, Ascii, AsciiUpTo, Run};
-ghost use Rattle.text.specs.InnerTails.{tailsOf};
+ghost use Rattle.text.specs.InnerRuns.{is_ascii, Ascii, AsciiUpTo, Run};
+ghost use Rattle.text.specs.InnerTails.{tails_of};
 
 #[derive(Drop)]
 pub enum TextCheck {
@@ -20,7 +20,7 @@ pub enum TextCheck {
 
 // Whether the bytes are valid text.
 pub fn is_valid(s: &[u8]) -> bool
-    ensures { result ≡ isText s.now }
+    ensures { result ≡ is_text s.now }
 {
     match check(s) {
         TextCheck::Valid(_) => true,
@@ -30,7 +30,7 @@ pub fn is_valid(s: &[u8]) -> bool
 
 // Whether the bytes are valid text, and of how many code points. A text of ASCII alone is told first.
 pub fn check(s: &[u8]) -> TextCheck
-    ensures { result ≡ checkOf (codePoints s.now) }
+    ensures { result ≡ check_of (code_points s.now) }
 {
     let lead = ascii_lead(s);
     if lead == s.len() {
@@ -44,7 +44,7 @@ pub fn check(s: &[u8]) -> TextCheck
 // UTF8-char   = UTF8-1 / UTF8-2 / UTF8-3 / UTF8-4
 fn check_from(s: &[u8], first: usize) -> TextCheck
     requires { Ascii s.now 0 first }
-    ensures { result ≡ checkOf (codePoints s.now) }
+    ensures { result ≡ check_of (code_points s.now) }
 {
     let mut i = first;
     let mut count = first;
@@ -68,14 +68,14 @@ fn check_from(s: &[u8], first: usize) -> TextCheck
 
 // UTF8-1 = %x00-7F
 fn utf8_1(a: u8) -> bool
-    ensures { result ≡ isOne utf8-1 (a ∷ []) }
+    ensures { result ≡ is_one utf8_1 (a ∷ []) }
 {
     within(0x00, 0x7F, a)
 }
 
 // UTF8-2 = %xC2-DF UTF8-tail
 fn utf8_2(a: u8, b: u8) -> bool
-    ensures { result ≡ isOne utf8-2 (a ∷ b ∷ []) }
+    ensures { result ≡ is_one utf8_2 (a ∷ b ∷ []) }
 {
     within(0xC2, 0xDF, a) && is_tail(b)
 }
@@ -84,7 +84,7 @@ fn utf8_2(a: u8, b: u8) -> bool
 //          %xED %x80-9F UTF8-tail / %xEE-EF 2( UTF8-tail )
 // The first byte tells the alternative.
 fn utf8_3(a: u8, b: u8, c: u8) -> bool
-    ensures { result ≡ isOne utf8-3 (a ∷ b ∷ c ∷ []) }
+    ensures { result ≡ is_one utf8_3 (a ∷ b ∷ c ∷ []) }
 {
     if within(0xE0, 0xE0, a) {
         return within(0xA0, 0xBF, b) && is_tail(c);
@@ -104,7 +104,7 @@ fn utf8_3(a: u8, b: u8, c: u8) -> bool
 // UTF8-4 = %xF0 %x90-BF 2( UTF8-tail ) / %xF1-F3 3( UTF8-tail ) /
 //          %xF4 %x80-8F 2( UTF8-tail )
 fn utf8_4(a: u8, b: u8, c: u8, d: u8) -> bool
-    ensures { result ≡ isOne utf8-4 (a ∷ b ∷ c ∷ d ∷ []) }
+    ensures { result ≡ is_one utf8_4 (a ∷ b ∷ c ∷ d ∷ []) }
 {
     if within(0xF0, 0xF0, a) {
         return within(0x90, 0xBF, b) && are_tails(c, d);
@@ -120,14 +120,14 @@ fn utf8_4(a: u8, b: u8, c: u8, d: u8) -> bool
 
 // 2( UTF8-tail )
 fn are_tails(a: u8, b: u8) -> bool
-    ensures { result ≡ is_of (utf8-tail ∷ utf8-tail ∷ []) (a ∷ b ∷ []) }
+    ensures { result ≡ is_of (utf8_tail ∷ utf8_tail ∷ []) (a ∷ b ∷ []) }
 {
     is_tail(a) && is_tail(b)
 }
 
 // UTF8-tail = %x80-BF
 fn is_tail(b: u8) -> bool
-    ensures { result ≡ within utf8-tail b }
+    ensures { result ≡ within utf8_tail b }
 {
     within(0x80, 0xBF, b)
 }
@@ -271,7 +271,7 @@ fn ascii_blocks(s: &[u8], first: usize, m: usize) -> usize
 // Whether the n bytes from first on are ASCII.
 fn ascii(s: &[u8], first: usize, n: usize) -> bool
     requires { first + n ≤ length s.now }
-    ensures { (result ≡ true) ↔ Each (isAscii s.now) first (first + n) }
+    ensures { (result ≡ true) ↔ Each (is_ascii s.now) first (first + n) }
 {
     let mut ok = true;
     let mut k = 0;
@@ -300,7 +300,7 @@ fn ascii_bytes(s: &[u8], first: usize, end: usize) -> usize
 // The number of code points of a text: as many as bytes that are no tails. A text of fewer than 8 bytes has a loop of
 // its own, without vectors.
 pub fn count_points(s: &[u8]) -> usize
-    requires { isText s.now ≡ true }
+    requires { is_text s.now ≡ true }
     ensures { result ≡ points s.now }
 {
     let n = s.len();
@@ -319,7 +319,7 @@ pub fn count_points(s: &[u8]) -> usize
 // The number of tails among the n bytes from first on. It is summed up in a byte, as vector instructions do.
 fn tails(s: &[u8], first: usize, n: usize) -> usize
     requires { (first + n ≤ length s.now) × (n ≤ 255) }
-    ensures { result ≡ tailsOf s.now first n }
+    ensures { result ≡ tails_of s.now first n }
 {
     let mut count = 0u8;
     let mut k = 0;

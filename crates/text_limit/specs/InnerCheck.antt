@@ -3,11 +3,11 @@ use Rattle.std.specs.Prelude.{ℕ, Bool, cond, List, leb}
 use Rattle.text.specs.declared.TextCheck.{TextCheck}
 use Rattle.text.specs.declared.TextCheck.TheVariants.{Valid, Invalid}
 use Rattle.text.specs.Check.{points}
-use Rattle.text_limit.specs.Limit.{fitsText}
+use Rattle.text_limit.specs.Limit.{fits_text}
 
 -- its code points, where it fits
-abbrev pub checkWithin : Bool → ℕ → List ℕ → TextCheck
-checkWithin byPoints n x = cond (fitsText byPoints n x) (Valid (points x)) Invalid
+abbrev pub check_within : Bool → ℕ → List ℕ → TextCheck
+check_within byPoints n x = cond (fits_text byPoints n x) (Valid (points x)) Invalid
 
 -- an answer of the check that is of at most n code points
 abbrev pub limited : ℕ → TextCheck → TextCheck

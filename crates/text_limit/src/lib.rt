@@ -1,8 +1,8 @@
 // A text against the n that its column was declared with, which counts bytes or code points. No text has more code
 // points than bytes, so one of at most n bytes fits in either case.
 ghost use Rattle.std.specs.Prelude.{◌≡◌, true};
-ghost use Rattle.text_limit.specs.Limit.{fitsText};
-ghost use Rattle.text_limit.specs.InnerCheck.{checkWithin, limited};
+ghost use Rattle.text_limit.specs.Limit.{fits_text};
+ghost use Rattle.text_limit.specs.InnerCheck.{check_within, limited};
 
 use text::TextCheck;
 
@@ -23,7 +23,7 @@ fn at_most(found: TextCheck, n: usize) -> TextCheck
 
 // The text check of a text that fits.
 pub fn check_within(s: &[u8], by_points: bool, n: usize) -> TextCheck
-    ensures { result ≡ checkWithin by_points n s.now }
+    ensures { result ≡ check_within by_points n s.now }
 {
     if n < s.len() {
         if by_points {
@@ -36,7 +36,7 @@ pub fn check_within(s: &[u8], by_points: bool, n: usize) -> TextCheck
 
 // Whether it is a text of at most n code points.
 fn points_within(s: &[u8], n: usize) -> bool
-    ensures { result ≡ fitsText true n s.now }
+    ensures { result ≡ fits_text true n s.now }
 {
     match text::check(s) {
         TextCheck::Invalid => false,
@@ -46,7 +46,7 @@ fn points_within(s: &[u8], n: usize) -> bool
 
 // Whether it fits, where the number of its code points is not asked.
 pub fn is_within(s: &[u8], by_points: bool, n: usize) -> bool
-    ensures { result ≡ fitsText by_points n s.now }
+    ensures { result ≡ fits_text by_points n s.now }
 {
     if s.len() <= n {
         return text::is_valid(s);

@@ -25,51 +25,51 @@ kind_of (D.Bit r) = 12
 kind_of (D.Timestamp x) = 13
 
 -- the kind of a type's values
-abbrev pub valueKind : DataType → ℕ
-valueKind T.SmallInt = 1
-valueKind T.Int = 2
-valueKind T.BigInt = 3
-valueKind T.Real = 4
-valueKind T.DoublePrecision = 5
-valueKind (T.Numeric p s) = 6
-valueKind (T.Decimal p s) = 6
-valueKind T.Bool = 7
-valueKind (T.Char n) = 8
-valueKind (T.Character n) = 8
-valueKind (T.Varchar p n) = 9
-valueKind T.Date = 10
-valueKind T.Time = 11
-valueKind (T.Bit n) = 12
-valueKind T.Timestamp = 13
+abbrev pub value_kind : DataType → ℕ
+value_kind T.SmallInt = 1
+value_kind T.Int = 2
+value_kind T.BigInt = 3
+value_kind T.Real = 4
+value_kind T.DoublePrecision = 5
+value_kind (T.Numeric p s) = 6
+value_kind (T.Decimal p s) = 6
+value_kind T.Bool = 7
+value_kind (T.Char n) = 8
+value_kind (T.Character n) = 8
+value_kind (T.Varchar p n) = 9
+value_kind T.Date = 10
+value_kind T.Time = 11
+value_kind (T.Bit n) = 12
+value_kind T.Timestamp = 13
 
 -- 11: "value kind does not match the column's type"; null, which every row may hold, matches none
 abbrev pub matches : DataType → DataValue → Bool
-matches t v = eqb (kind_of v) (valueKind t)
+matches t v = eqb (kind_of v) (value_kind t)
 
 -- "Char, Character or Varchar": the kinds of text, and the types and the values that have one; a Bit is no text
-abbrev pub isTextKind : ℕ → Bool
-isTextKind k = cond (eqb k 8) true (eqb k 9)
+abbrev pub is_text_kind : ℕ → Bool
+is_text_kind k = cond (eqb k 8) true (eqb k 9)
 
-abbrev pub holdsText : DataType → Bool
-holdsText t = isTextKind (valueKind t)
+abbrev pub holds_text : DataType → Bool
+holds_text t = is_text_kind (value_kind t)
 
-abbrev pub isTextValue : DataValue → Bool
-isTextValue v = isTextKind (kind_of v)
+abbrev pub is_text_value : DataValue → Bool
+is_text_value v = is_text_kind (kind_of v)
 
 -- the kinds whose body is a range. 02, request 5: "Value kinds 17, 18 and 19 are Char, Varchar and Bit with start and
 -- length of four bytes each", "they match as 8, 9 and 12 do": which of them stands for which, either way round, and
 -- which have four bytes; 14, 15, 16 and those past 19 are no kinds
-abbrev pub isRangeKind : ℕ → Bool
-isRangeKind k = cond (isTextKind k) true (eqb k 12)
+abbrev pub is_range_kind : ℕ → Bool
+is_range_kind k = cond (is_text_kind k) true (eqb k 12)
 
-abbrev pub longKind : ℕ → ℕ
-longKind k = cond (eqb k 8) 17 (cond (eqb k 9) 18 19)
+abbrev pub long_kind : ℕ → ℕ
+long_kind k = cond (eqb k 8) 17 (cond (eqb k 9) 18 19)
 
-abbrev pub plainKind : ℕ → ℕ
-plainKind k = cond (eqb k 17) 8 (cond (eqb k 18) 9 (cond (eqb k 19) 12 k))
+abbrev pub plain_kind : ℕ → ℕ
+plain_kind k = cond (eqb k 17) 8 (cond (eqb k 18) 9 (cond (eqb k 19) 12 k))
 
-abbrev pub isLongKind : ℕ → Bool
-isLongKind k = leb 17 k
+abbrev pub is_long_kind : ℕ → Bool
+is_long_kind k = leb 17 k
 
-abbrev pub isValueKind : ℕ → Bool
-isValueKind k = leb k 13 || (isLongKind k && leb k 19)
+abbrev pub is_value_kind : ℕ → Bool
+is_value_kind k = leb k 13 || (is_long_kind k && leb k 19)

@@ -5,25 +5,25 @@ use Rattle.value.specs.declared.TextRange.{TextRange}
 use Rattle.value.specs.declared.DataValue.{DataValue}
 use Rattle.value.specs.declared.DataValue.TheVariants as D
 
-abbrev pub noText : TextRange
-noText = record { start = 0; length = 0 }
+abbrev pub no_text : TextRange
+no_text = record { start = 0; length = 0 }
 
 -- a value's range in the text area
 abbrev pub range_of : DataValue → TextRange
-range_of D.Null = noText
-range_of (D.SmallInt x) = noText
-range_of (D.Int x) = noText
-range_of (D.BigInt x) = noText
-range_of (D.Real x) = noText
-range_of (D.DoublePrecision x) = noText
-range_of (D.Numeric x) = noText
-range_of (D.Bool x) = noText
+range_of D.Null = no_text
+range_of (D.SmallInt x) = no_text
+range_of (D.Int x) = no_text
+range_of (D.BigInt x) = no_text
+range_of (D.Real x) = no_text
+range_of (D.DoublePrecision x) = no_text
+range_of (D.Numeric x) = no_text
+range_of (D.Bool x) = no_text
 range_of (D.Char r) = r
 range_of (D.Varchar r) = r
-range_of (D.Date x) = noText
-range_of (D.Time x) = noText
+range_of (D.Date x) = no_text
+range_of (D.Time x) = no_text
 range_of (D.Bit r) = r
-range_of (D.Timestamp x) = noText
+range_of (D.Timestamp x) = no_text
 
 -- whether it lies in an area of n bytes, and the bytes it has there
 abbrev pub in_area : ℕ → TextRange → Bool

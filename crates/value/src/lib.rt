@@ -2,10 +2,10 @@
 pub mod value_kinds;
 
 ghost use Rattle.std.specs.Prelude.{◌≡◌};
-ghost use Rattle.datatype.specs.Schema.{columnKind};
-ghost use Rattle.value.specs.Kinds.{kind_of, valueKind, matches, plainKind, isLongKind, isValueKind};
+ghost use Rattle.datatype.specs.Schema.{column_kind};
+ghost use Rattle.value.specs.Kinds.{kind_of, value_kind, matches, plain_kind, is_long_kind, is_value_kind};
 ghost use Rattle.value.specs.Ranges.{range_of};
-ghost use Rattle.value.specs.InnerKinds.{heldKind};
+ghost use Rattle.value.specs.InnerKinds.{held_kind};
 
 use datatype::{DataType, schema_kinds};
 
@@ -123,7 +123,7 @@ impl DataValue {
 
 // The kind of the values that a column of type ty holds.
 pub fn value_kind(ty: DataType) -> u8
-    ensures { result ≡ valueKind ty }
+    ensures { result ≡ value_kind ty }
 {
     match ty {
         DataType::SmallInt => value_kinds::SMALL_INT,
@@ -152,7 +152,7 @@ pub fn value_kind(ty: DataType) -> u8
 
 // The same by the kind of the column's record; that of null for no kind.
 pub fn held_kind(kind: u8) -> u8
-    ensures { result ≡ heldKind (columnKind kind) }
+    ensures { result ≡ held_kind (column_kind kind) }
 {
     match kind {
         schema_kinds::SMALL_INT => value_kinds::SMALL_INT,
@@ -177,7 +177,7 @@ pub fn held_kind(kind: u8) -> u8
 
 // Whether a byte is a kind of value record.
 pub fn is_value_kind(kind: u8) -> bool
-    ensures { result ≡ isValueKind kind }
+    ensures { result ≡ is_value_kind kind }
 {
     if kind <= value_kinds::TIMESTAMP {
         return true;
@@ -187,14 +187,14 @@ pub fn is_value_kind(kind: u8) -> bool
 
 // Whether its body is a range with four bytes for each number.
 pub fn is_long_kind(kind: u8) -> bool
-    ensures { result ≡ isLongKind kind }
+    ensures { result ≡ is_long_kind kind }
 {
     value_kinds::LONG_CHAR <= kind
 }
 
 // The kind of its values.
 pub fn plain_kind(kind: u8) -> u8
-    ensures { result ≡ plainKind kind }
+    ensures { result ≡ plain_kind kind }
 {
     match kind {
         value_kinds::LONG_CHAR => value_kinds::CHAR,

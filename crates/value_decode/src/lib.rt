@@ -3,18 +3,18 @@
 ghost use Rattle.std.specs.Prelude.{◌≡◌, true, false, cond, ◌+◌, ◌/◌, ◌^◌, ◌<◌, ◌≤◌, eqb, length, get_or};
 ghost use Rattle.std.specs.Int.{w32, w64};
 ghost use Rattle.std.proofs.Common.{to_z};
-ghost use Rattle.laws.specs.Bytes.{fromLe};
-ghost use Rattle.text.specs.Rfc3629.{isText};
-ghost use Rattle.text_limit.specs.Limit.{fitsText};
-ghost use Rattle.temporal.specs.Ranges.{isDate, isTimestamp};
-ghost use Rattle.temporal.specs.Time.{timeOf};
+ghost use Rattle.laws.specs.Bytes.{from_le};
+ghost use Rattle.text.specs.Rfc3629.{is_text};
+ghost use Rattle.text_limit.specs.Limit.{fits_text};
+ghost use Rattle.temporal.specs.Ranges.{is_date, is_timestamp};
+ghost use Rattle.temporal.specs.Time.{time_of};
 ghost use Rattle.numeric.specs.Decimal.{halves};
-ghost use Rattle.numeric.specs.Packed.{decodeBcd};
-ghost use Rattle.datatype.specs.Types.{size_of, isVarlen, precisionOf};
+ghost use Rattle.numeric.specs.Packed.{decode_bcd};
+ghost use Rattle.datatype.specs.Types.{size_of, is_varlen, precision_of};
 ghost use Rattle.value.specs.declared.DataValue.TheVariants.{Bool as BoolValue, Char as CharValue, Varchar as VarcharValue, Date as DateValue, Timestamp as TimestampValue, Numeric as NumericNumber};
 ghost use Rattle.stored_form.specs.declared.SlotRead.TheVariants.{Value as Read, NoValue};
-ghost use Rattle.stored_form.specs.Number.{numericOf};
-ghost use Rattle.stored_form.specs.Read.{valueIf, twosComplement, decoded, timed, whole, read_slot};
+ghost use Rattle.stored_form.specs.Number.{numeric_of};
+ghost use Rattle.stored_form.specs.Read.{value_if, twos_complement, decoded, timed, whole, read_slot};
 
 use datatype::DataType;
 use numeric::Decoded;
@@ -25,7 +25,7 @@ use value::{DataValue, NumericValue, TextRange};
 // The number below zero of a magnitude: the complement of one less.
 fn negated(high: u64, low: u64, scale: u8) -> NumericValue
     requires { high < 2 ^ 63 }
-    ensures { result ≡ numericOf true (halves high low) scale }
+    ensures { result ≡ numeric_of true (halves high low) scale }
 {
     if low == 0 {
         if high == 0 {
@@ -50,7 +50,7 @@ fn negated(high: u64, low: u64, scale: u8) -> NumericValue
 
 fn numeric_from(negative: bool, high: u64, low: u64, scale: u8) -> NumericValue
     requires { high < 2 ^ 63 }
-    ensures { result ≡ numericOf negative (halves high low) scale }
+    ensures { result ≡ numeric_of negative (halves high low) scale }
 {
     if negative {
         return negated(high, low, scale);
@@ -65,7 +65,7 @@ fn numeric_from(negative: bool, high: u64, low: u64, scale: u8) -> NumericValue
 // 17 bytes that are no digits: 16 of two's complement, and a scale.
 fn from_twos_complement(bytes: &[u8]) -> SlotRead
     ensures { result
-        ≡ valueIf (eqb (length bytes.now) 17) (NumericNumber (twosComplement bytes.now)) }
+        ≡ value_if (eqb (length bytes.now) 17) (NumericNumber (twos_complement bytes.now)) }
 {
     if bytes.len() == 17 {
         let low = endian::read_u64(bytes, 0);
@@ -78,7 +78,7 @@ fn from_twos_complement(bytes: &[u8]) -> SlotRead
 
 fn read_numeric(bytes: &[u8], p: usize, scale: u8) -> SlotRead
     requires { (p ≤ 38) × (length bytes.now ≡ (p + 2) / 2) }
-    ensures { result ≡ decoded scale bytes.now (decodeBcd p bytes.now) }
+    ensures { result ≡ decoded scale bytes.now (decode_bcd p bytes.now) }
 {
     match numeric::decode_numeric_bcd(bytes, p) {
         Decoded::Value(negative, high, low) => {
@@ -99,7 +99,7 @@ fn read_bool(bytes: &[u8]) -> SlotRead
 }
 
 fn read_char(bytes: &[u8], start: usize) -> SlotRead
-    ensures { result ≡ valueIf (isText bytes.now) (CharValue (whole start bytes.now)) }
+    ensures { result ≡ value_if (is_text bytes.now) (CharValue (whole start bytes.now)) }
 {
     if text::is_valid(bytes) {
         let length = bytes.len();
@@ -110,7 +110,7 @@ fn read_char(bytes: &[u8], start: usize) -> SlotRead
 
 fn read_varchar(bytes: &[u8], start: usize, by_points: bool, n: usize) -> SlotRead
     ensures { result
-        ≡ valueIf (fitsText by_points n bytes.now) (VarcharValue (whole start bytes.now)) }
+        ≡ value_if (fits_text by_points n bytes.now) (VarcharValue (whole start bytes.now)) }
 {
     if text_limit::is_within(bytes, by_points, n) {
         let length = bytes.len();
@@ -122,8 +122,8 @@ fn read_varchar(bytes: &[u8], start: usize, by_points: bool, n: usize) -> SlotRe
 fn read_date(bytes: &[u8]) -> SlotRead
     requires { length bytes.now ≡ 4 }
     ensures { result
-        ≡ valueIf (isDate (to_z w32 (fromLe bytes.now)))
-        (DateValue (to_z w32 (fromLe bytes.now))) }
+        ≡ value_if (is_date (to_z w32 (from_le bytes.now)))
+        (DateValue (to_z w32 (from_le bytes.now))) }
 {
     let days = endian::read_i32(bytes, 0);
     if temporal::is_date(days) {
@@ -134,7 +134,7 @@ fn read_date(bytes: &[u8]) -> SlotRead
 
 fn read_time(bytes: &[u8]) -> SlotRead
     requires { length bytes.now ≡ 8 }
-    ensures { result ≡ timed (timeOf (to_z w64 (fromLe bytes.now))) }
+    ensures { result ≡ timed (time_of (to_z w64 (from_le bytes.now))) }
 {
     match temporal::time_of(endian::read_i64(bytes, 0)) {
         TimeOfDay::Micros(micros) => SlotRead::Value(DataValue::Time(micros)),
@@ -145,8 +145,8 @@ fn read_time(bytes: &[u8]) -> SlotRead
 fn read_timestamp(bytes: &[u8]) -> SlotRead
     requires { length bytes.now ≡ 8 }
     ensures { result
-        ≡ valueIf (isTimestamp (to_z w64 (fromLe bytes.now)))
-        (TimestampValue (to_z w64 (fromLe bytes.now))) }
+        ≡ value_if (is_timestamp (to_z w64 (from_le bytes.now)))
+        (TimestampValue (to_z w64 (from_le bytes.now))) }
 {
     let micros = endian::read_i64(bytes, 0);
     if temporal::is_timestamp(micros) {
@@ -156,7 +156,7 @@ fn read_timestamp(bytes: &[u8]) -> SlotRead
 }
 
 pub fn from_bytes(ty: DataType, bytes: &[u8], start: usize) -> SlotRead
-    requires { (precisionOf ty ≤ 38) × (isVarlen ty ≡ false → length bytes.now ≡ size_of ty) }
+    requires { (precision_of ty ≤ 38) × (is_varlen ty ≡ false → length bytes.now ≡ size_of ty) }
     ensures { result ≡ read_slot ty start bytes.now }
 {
     let length = bytes.len();

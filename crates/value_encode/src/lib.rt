@@ -1,14 +1,14 @@
 // value.rs, `to_bytes_for_type`: whether a type holds a value, and the value's stored form at a place of a buffer.
 ghost use Rattle.std.specs.Prelude.{◌≡◌, true, [], ◌∷◌, ◌++◌, ◌+◌, ◌-◌, ◌^◌, ◌/◌, ◌<◌, ◌≤◌, leb, length, replicate};
 ghost use Rattle.std.proofs.lemmas.List.Edits.{sets};
-ghost use Rattle.bit_utils.specs.Bits.{bytesFor, packBits, unpackBits};
+ghost use Rattle.bit_utils.specs.Bits.{bytes_for, pack_bits, unpack_bits};
 ghost use Rattle.numeric.specs.Decimal.{halves};
-ghost use Rattle.numeric.specs.Packed.{encodeBcd};
+ghost use Rattle.numeric.specs.Packed.{encode_bcd};
 ghost use Rattle.datatype.specs.declared.DataType.TheVariants.{Numeric as NumericType};
-ghost use Rattle.datatype.specs.Types.{precisionOf};
+ghost use Rattle.datatype.specs.Types.{precision_of};
 ghost use Rattle.value.specs.Ranges.{text_of};
-ghost use Rattle.stored_form.specs.Number.{isNegative, magnitude as sizeOfNumber};
-ghost use Rattle.stored_form.specs.Write.{fitsDigits, suits as suitsType, accepted, storedForm};
+ghost use Rattle.stored_form.specs.Number.{is_negative, magnitude as sizeOfNumber};
+ghost use Rattle.stored_form.specs.Write.{fits_digits, suits as suitsType, accepted, stored_form};
 
 use datatype::DataType;
 use value::{DataValue, NumericValue};
@@ -43,7 +43,7 @@ fn magnitude(high: i64, low: u64) -> Halves
 // Whether a Numeric(p, s) holds a number of a scale.
 pub fn fits_number(high: i64, low: u64, scale: u8, p: usize, s: u8) -> bool
     requires { p ≤ 38 }
-    ensures { result ≡ fitsDigits (NumericType p s) scale (sizeOfNumber high low) }
+    ensures { result ≡ fits_digits (NumericType p s) scale (sizeOfNumber high low) }
 {
     if scale == s {
         let m = magnitude(high, low);
@@ -53,15 +53,15 @@ pub fn fits_number(high: i64, low: u64, scale: u8, p: usize, s: u8) -> bool
 }
 
 fn fits_digits(ty: DataType, n: NumericValue) -> bool
-    requires { precisionOf ty ≤ 38 }
-    ensures { result ≡ fitsDigits ty n.scale (sizeOfNumber n.high n.low) }
+    requires { precision_of ty ≤ 38 }
+    ensures { result ≡ fits_digits ty n.scale (sizeOfNumber n.high n.low) }
 {
     fits_number(n.high, n.low, n.scale, ty.precision() as usize, ty.scale())
 }
 
 // Whether the type holds a value whose text is at hand.
 fn suits_text(ty: DataType, value: DataValue, text: &[u8]) -> bool
-    requires { precisionOf ty ≤ 38 }
+    requires { precision_of ty ≤ 38 }
     ensures { result ≡ suitsType ty value text.now }
 {
     let n = ty.declared_length() as usize;
@@ -94,7 +94,7 @@ fn in_area(start: usize, size: usize, area: usize) -> bool
 
 // Whether the type holds the value, whose text is in the area.
 pub fn suits(ty: DataType, value: DataValue, area: &[u8]) -> bool
-    requires { precisionOf ty ≤ 38 }
+    requires { precision_of ty ≤ 38 }
     ensures { result ≡ accepted ty value area.now }
 {
     let range = value.range();
@@ -117,7 +117,7 @@ fn write_byte(out: &mut [u8], at: usize, b: u8)
 pub fn write_number(out: &mut [u8], at: usize, high: i64, low: u64, p: usize)
     requires { (p ≤ 38) × ((sizeOfNumber high low < 10 ^ p) × (at + (p + 2) / 2 ≤ length out.old)) }
     ensures { out.new
-        ≡ sets out.old at (encodeBcd p (isNegative high) (sizeOfNumber high low)) }
+        ≡ sets out.old at (encode_bcd p (is_negative high) (sizeOfNumber high low)) }
 {
     let m = magnitude(high, low);
     let negative = high < 0;
@@ -137,8 +137,8 @@ pub fn write_char(out: &mut [u8], at: usize, text: &[u8], n: usize)
 
 // n bits, and zeros in the rest of the last byte.
 pub fn write_bits(out: &mut [u8], at: usize, bits: &[u8], n: usize)
-    requires { (length bits.now ≡ bytesFor n) × (at + bytesFor n ≤ length out.old) }
-    ensures { out.new ≡ sets out.old at (packBits n (unpackBits n bits.now)) }
+    requires { (length bits.now ≡ bytes_for n) × (at + bytes_for n ≤ length out.old) }
+    ensures { out.new ≡ sets out.old at (pack_bits n (unpack_bits n bits.now)) }
 {
     endian::copy(out, at, bits);
     bit_utils::clear_spare_bits(out, at, n);
@@ -146,10 +146,10 @@ pub fn write_bits(out: &mut [u8], at: usize, bits: &[u8], n: usize)
 
 // The stored form of a value whose text is at hand.
 fn write_value(out: &mut [u8], at: usize, ty: DataType, value: DataValue, text: &[u8])
-    requires { (precisionOf ty ≤ 38)
+    requires { (precision_of ty ≤ 38)
         × ((suitsType ty value text.now ≡ true)
-        × (at + length (storedForm ty value text.now) ≤ length out.old)) }
-    ensures { out.new ≡ sets out.old at (storedForm ty value text.now) }
+        × (at + length (stored_form ty value text.now) ≤ length out.old)) }
+    ensures { out.new ≡ sets out.old at (stored_form ty value text.now) }
 {
     let n = ty.declared_length() as usize;
     let p = ty.precision() as usize;
@@ -173,11 +173,11 @@ fn write_value(out: &mut [u8], at: usize, ty: DataType, value: DataValue, text: 
 
 // The stored form of a value that the type holds, written at `at`.
 pub fn to_bytes_for_type(out: &mut [u8], at: usize, ty: DataType, value: DataValue, area: &[u8])
-    requires { (precisionOf ty ≤ 38)
+    requires { (precision_of ty ≤ 38)
         × ((accepted ty value area.now ≡ true)
-        × (at + length (storedForm ty value (text_of area.now value)) ≤ length out.old)) }
+        × (at + length (stored_form ty value (text_of area.now value)) ≤ length out.old)) }
     ensures { out.new
-        ≡ sets out.old at (storedForm ty value (text_of area.now value)) }
+        ≡ sets out.old at (stored_form ty value (text_of area.now value)) }
 {
     let range = value.range();
     let start = range.start;

@@ -11,7 +11,7 @@ use lib.ListN.{length}
 use Rattle.error.specs.declared.Refusal.{Refusal}
 use Rattle.error.specs.declared.Refusal.TheVariants.{BadValueList}
 use Rattle.error.specs.Result.{ok, refused, before}
-use Rattle.row_format.specs.Places.{rowLimit}
+use Rattle.row_format.specs.Places.{row_limit}
 use Rattle.value.specs.declared.DataValue.{DataValue}
 use Rattle.value_list.specs.declared.ListCheck.{ListCheck}
 use Rattle.value_list.specs.declared.ListCheck.TheVariants as Check
@@ -22,7 +22,7 @@ use Rattle.value_list.specs.InnerLists.{answer}
 
 -- the tests after the last record
 abbrev pub settled : Bool → ℕ → ℕ → ℕ → ℕ → ListCheck
-settled k n area len count = cond (eqb count n) (cond (ltb (rowLimit k) area) (Check.Refused (BadValueList 0)) Check.Good) (Check.Refused (BadValueList len))
+settled k n area len count = cond (eqb count n) (cond (ltb (row_limit k) area) (Check.Refused (BadValueList 0)) Check.Good) (Check.Refused (BadValueList len))
 
 abbrev rest : Bool → ℕ → ℕ → ℕ → ℕ → Values → ListCheck
 rest k n area len count (ok vs) = settled k n area len (count + length vs)
@@ -35,20 +35,20 @@ answer-cond false u q r vs = refl
 
 rest_all : (k : Bool) (n area len : ℕ) (p : Values) → rest k n area len 0 p ≡ answer (judged k n area len p)
 rest_all k n area len (ok vs) =
-    ap (settled k n area len) (zero-add (length vs)) ∙ answer-cond (eqb (length vs) n) (ltb (rowLimit k) area) (BadValueList 0) (BadValueList len) vs
+    ap (settled k n area len) (zero-add (length vs)) ∙ answer-cond (eqb (length vs) n) (ltb (row_limit k) area) (BadValueList 0) (BadValueList len) vs
 rest_all k n area len (refused r) = refl
 
-rest-before : (k : Bool) (n area len count : ℕ) (v : DataValue) (p : Values) → rest k n area len count (before v p) ≡ rest k n area len (count + 1) p
-rest-before k n area len count v (ok vs) = ap (settled k n area len) (omega arith)
-rest-before k n area len count v (refused r) = refl
+rest_before : (k : Bool) (n area len count : ℕ) (v : DataValue) (p : Values) → rest k n area len count (before v p) ≡ rest k n area len (count + 1) p
+rest_before k n area len count v (ok vs) = ap (settled k n area len) (omega arith)
+rest_before k n area len count v (refused r) = refl
 
 pub record Checking (k : Bool) (s : List ℕ) (n area at count : ℕ) : Type 0 where
   pub behind : count ≤ at
   pub whole : rest k n area (length s) count (records (length s - count) s at) ≡ answer (checked k n area s)
 
-pub check-start : (k : Bool) (s : List ℕ) (n area : ℕ) → Checking k s n area 0 0
+pub check_start : (k : Bool) (s : List ℕ) (n area : ℕ) → Checking k s n area 0 0
 unfolding values_of
-check-start k s n area =
+check_start k s n area =
     record { behind = omega arith; whole = ap (λ (m : ℕ). rest k n area (length s) 0 (records m s 0)) (sub-zero (length s)) ∙ rest_all k n area (length s) (records (length s) s 0) }
 
 module _ {k : Bool} {s : List ℕ} {n area at count : ℕ} (w : Checking k s n area at count) where
@@ -56,19 +56,19 @@ module _ {k : Bool} {s : List ℕ} {n area at count : ℕ} (w : Checking k s n a
   none_left zero h = rw add-zero
   none_left (suc m) h = rw (le-ltb _ _ h, add-zero)
 
-  pub check-end : length s ≤ at → settled k n area (length s) count ≡ answer (checked k n area s)
-  check-end h = sym (none_left (length s - count) h) ∙ w.whole
+  pub check_end : length s ≤ at → settled k n area (length s) count ≡ answer (checked k n area s)
+  check_end h = sym (none_left (length s - count) h) ∙ w.whole
 
   module _ (h : at < length s) where
     left : length s - count ≡ suc (length s - (count + 1))
     left = omega (arith, w.behind)
 
-    pub check-bad : size_at s at ≡ 0 → Check.Refused (BadValueList at) ≡ answer (checked k n area s)
-    check-bad e = sym (rw (lt-ltb at (length s) h, size_none s at h e)) ∙ rw left at w.whole
+    pub check_bad : size_at s at ≡ 0 → Check.Refused (BadValueList at) ≡ answer (checked k n area s)
+    check_bad e = sym (rw (lt-ltb at (length s) h, size_none s at h e)) ∙ rw left at w.whole
 
-    pub check-more : Whole s at → Checking k s n area (at + size_at s at) (count + 1)
-    check-more q =
+    pub check_more : Whole s at → Checking k s n area (at + size_at s at) (count + 1)
+    check_more q =
         record {
           behind = omega (arith, w.behind, q.some);
-          whole = sym (rw (lt-ltb at (length s) h, q.value) (rest-before k n area (length s) count _ (records (length s - (count + 1)) s (at + size_at s at)))) ∙ rw left at w.whole;
+          whole = sym (rw (lt-ltb at (length s) h, q.value) (rest_before k n area (length s) count _ (records (length s - (count + 1)) s (at + size_at s at)))) ∙ rw left at w.whole;
         }

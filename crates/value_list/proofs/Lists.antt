@@ -7,7 +7,7 @@ use native.Mathlib.Omega.{arith}
 use borrow.Author.Tests.{lt-ltb, le-ltb, eq-eqb, eqb-true, ltb-false}
 use lib.Dec.{eqb, ltb}
 use lib.ListN.{length, length-append}
-use Rattle.row_format.specs.Places.{rowLimit}
+use Rattle.row_format.specs.Places.{row_limit}
 use Rattle.error.specs.declared.Refusal.{Refusal}
 use Rattle.error.specs.declared.Refusal.TheVariants.{BadValueList}
 use Rattle.error.specs.Result.{ok, refused, before}
@@ -16,37 +16,37 @@ use Rattle.laws.proofs.Truths.{cases}
 use Rattle.value.specs.declared.DataValue.{DataValue}
 use Rattle.value_list.specs.declared.ValueRecord.{ValueRecord}
 use Rattle.value_list.specs.declared.ValueRecord.TheVariants.{Value, Refused}
-use Rattle.value_list.specs.Records.{recordOf, recordAt}
-use Rattle.value_list.specs.Lists.{Values, onRecord, records, values_of, judged, checked, list_of}
-use Rattle.value_list.proofs.Records.{record-least, record-read, value-sized}
+use Rattle.value_list.specs.Records.{record_of, record_at}
+use Rattle.value_list.specs.Lists.{Values, on_record, records, values_of, judged, checked, list_of}
+use Rattle.value_list.proofs.Records.{record_least, record_read, value-sized}
 use Rattle.value_list.specs.InnerLists.{AllSized, AllNarrow}
 
 -- ---- written, then read
 
-listOf-least : (k : Bool) (vs : List DataValue) → length vs ≤ length (list_of k vs)
-listOf-least k [] = omega arith
-listOf-least k (v ∷ vs) = let ih = listOf-least k vs in rw (length-append (recordOf k v) (list_of k vs)) (omega (arith, record-least k v))
+list_of-least : (k : Bool) (vs : List DataValue) → length vs ≤ length (list_of k vs)
+list_of-least k [] = omega arith
+list_of-least k (v ∷ vs) = let ih = list_of-least k vs in rw (length-append (record_of k v) (list_of k vs)) (omega (arith, record_least k v))
 
 records-read : (k : Bool) (vs : List DataValue) → AllSized vs → AllNarrow k vs → (n : ℕ) → length vs ≤ n → (us : List ℕ) (at : ℕ) → length us ≡ at → records n (us ++ list_of k vs) at ≡ ok vs
 records-read k [] f g zero h us at e = refl
 records-read k [] f g (suc n) h us at e = rw (le-ltb at (length (us ++ [])) (rw length-append (omega arith)))
 records-read k (v ∷ vs) f g zero h us at e = absurd (omega arith)
 records-read k (v ∷ vs) f g (suc n) h us at e =
-    let s = us ++ (recordOf k v ++ list_of k vs) in
-    let next = at + length (recordOf k v) in
-    let more : at < length s = rw (length-append us (recordOf k v ++ list_of k vs), length-append (recordOf k v) (list_of k vs)) (omega (arith, record-least k v)) in
-    let past : length (us ++ recordOf k v) ≡ next = length-append us (recordOf k v) ∙ ap (λ (m : ℕ). m + length (recordOf k v)) e in
+    let s = us ++ (record_of k v ++ list_of k vs) in
+    let next = at + length (record_of k v) in
+    let more : at < length s = rw (length-append us (record_of k v ++ list_of k vs), length-append (record_of k v) (list_of k vs)) (omega (arith, record_least k v)) in
+    let past : length (us ++ record_of k v) ≡ next = length-append us (record_of k v) ∙ ap (λ (m : ℕ). m + length (record_of k v)) e in
     let rest : records n s next ≡ ok vs =
-    ap (λ (l : List ℕ). records n l next) (sym (append_assoc us (recordOf k v) (list_of k vs))) ∙ records-read k vs f.1 g.1 n (omega arith) (us ++ recordOf k v) next past in
-    rw (lt-ltb at (length s) more) (ap (λ r. onRecord r (records n s)) (record-read us (list_of k vs) at e k v f.0 g.0) ∙ ap (before v) rest)
+    ap (λ (l : List ℕ). records n l next) (sym (append_assoc us (record_of k v) (list_of k vs))) ∙ records-read k vs f.1 g.1 n (omega arith) (us ++ record_of k v) next past in
+    rw (lt-ltb at (length s) more) (ap (λ r. on_record r (records n s)) (record_read us (list_of k vs) at e k v f.0 g.0) ∙ ap (before v) rest)
 
 pub values-read : (k : Bool) (vs : List DataValue) → AllSized vs → AllNarrow k vs → values_of (list_of k vs) ≡ ok vs
 unfolding values_of
-values-read k vs f g = records-read k vs f g (length (list_of k vs)) (listOf-least k vs) [] 0 refl
+values-read k vs f g = records-read k vs f g (length (list_of k vs)) (list_of-least k vs) [] 0 refl
 
 -- so a list of n values, written for rows of one sort or the other, is taken beside any text area that is not too long
-pub list-checked : (k t : Bool) (n area : ℕ) (vs : List DataValue) → AllSized vs → AllNarrow t vs → length vs ≡ n → area ≤ rowLimit k → checked k n area (list_of t vs) ≡ ok vs
-list-checked k t n area vs f g e h = ap (judged k n area (length (list_of t vs))) (values-read t vs f g) ∙ rw (eq-eqb (length vs) n e, le-ltb (rowLimit k) area h)
+pub list-checked : (k t : Bool) (n area : ℕ) (vs : List DataValue) → AllSized vs → AllNarrow t vs → length vs ≡ n → area ≤ row_limit k → checked k n area (list_of t vs) ≡ ok vs
+list-checked k t n area vs f g e h = ap (judged k n area (length (list_of t vs))) (values-read t vs f g) ∙ rw (eq-eqb (length vs) n e, le-ltb (row_limit k) area h)
 
 -- ---- what a list that is taken says
 
@@ -60,24 +60,24 @@ empty-none p = let z : ◌≡◌ {A = ℕ} 0 1 = cc in omega arith
 pub record First (n : ℕ) (s : List ℕ) (at : ℕ) (v : DataValue) (vs : List DataValue) : Type 0 where
   pub next : ℕ
   pub within : at < length s
-  pub first : recordAt s at ≡ Value v next
+  pub first : record_at s at ≡ Value v next
   pub rest : records n s next ≡ ok vs
 
 pub records-first : (n : ℕ) (s : List ℕ) (at : ℕ) {v : DataValue} {vs : List DataValue} → records (suc n) s at ≡ ok (v ∷ vs) → First n s at v vs
 records-first n s at {v} {vs} e =
-    cases at (length s) (λ h. of-record (recordAt s at) refl h (rw (lt-ltb at (length s) h) at e))
+    cases at (length s) (λ h. of_record (record_at s at) refl h (rw (lt-ltb at (length s) h) at e))
     (λ h. absurd (empty-none (rw (le-ltb at (length s) h) at e)))
   where
-    of-rest : (u : DataValue) (next : ℕ) (q : Values) → records n s next ≡ q → recordAt s at ≡ Value u next → at < length s → before u q ≡ ok (v ∷ vs) → First n s at v vs
-    of-rest u next (ok us) f g h p =
+    of_rest : (u : DataValue) (next : ℕ) (q : Values) → records n s next ≡ q → record_at s at ≡ Value u next → at < length s → before u q ≡ ok (v ∷ vs) → First n s at v vs
+    of_rest u next (ok us) f g h p =
         let head : u ≡ v = cc in
         let tail : us ≡ vs = cc in
         record { next = next; within = h; first = rw head at g; rest = f ∙ ap ok tail }
-    of-rest u next (refused r) f g h p = absurd (refused_none p)
+    of_rest u next (refused r) f g h p = absurd (refused_none p)
 
-    of-record : (q : ValueRecord) → recordAt s at ≡ q → at < length s → onRecord q (records n s) ≡ ok (v ∷ vs) → First n s at v vs
-    of-record (Value u next) g h p = of-rest u next (records n s next) refl g h p
-    of-record (Refused r) g h p = absurd (refused_none p)
+    of_record : (q : ValueRecord) → record_at s at ≡ q → at < length s → on_record q (records n s) ≡ ok (v ∷ vs) → First n s at v vs
+    of_record (Value u next) g h p = of_rest u next (records n s next) refl g h p
+    of_record (Refused r) g h p = absurd (refused_none p)
 
 records-sized : (n : ℕ) (s : List ℕ) (at : ℕ) (vs : List DataValue) → AllBytes s → records n s at ≡ ok vs → AllSized vs
 records-sized n s at [] a e = tt
@@ -92,19 +92,19 @@ values-sized s {vs} a e = records-sized (length s) s 0 vs a e
 pub record Taken (k : Bool) (n area : ℕ) (s : List ℕ) (vs : List DataValue) : Type 0 where
   pub all : values_of s ≡ ok vs
   pub count : length vs ≡ n
-  pub short : area ≤ rowLimit k
+  pub short : area ≤ row_limit k
 
 pub checked-taken : (k : Bool) (n area : ℕ) (s : List ℕ) {vs : List DataValue} → checked k n area s ≡ ok vs → Taken k n area s vs
 checked-taken k n area s {vs} e = of_values (values_of s) refl e
   where
-    judge : (us : List DataValue) → values_of s ≡ ok us → (t u : Bool) → eqb (length us) n ≡ t → ltb (rowLimit k) area ≡ u
+    judge : (us : List DataValue) → values_of s ≡ ok us → (t u : Bool) → eqb (length us) n ≡ t → ltb (row_limit k) area ≡ u
         → cond t (cond u (refused (BadValueList 0)) (ok us)) (refused (BadValueList (length s))) ≡ ok vs → Taken k n area s vs
     judge us f true false c l p =
         let same : us ≡ vs = cc in
-        record { all = f ∙ ap ok same; count = rw same at (eqb-true (length us) n c); short = ltb-false (rowLimit k) area l }
+        record { all = f ∙ ap ok same; count = rw same at (eqb-true (length us) n c); short = ltb-false (row_limit k) area l }
     judge us f true true c l p = absurd (refused_none p)
     judge us f false u c l p = absurd (refused_none p)
 
     of_values : (q : Values) → values_of s ≡ q → judged k n area (length s) q ≡ ok vs → Taken k n area s vs
-    of_values (ok us) f p = judge us f (eqb (length us) n) (ltb (rowLimit k) area) refl refl p
+    of_values (ok us) f p = judge us f (eqb (length us) n) (ltb (row_limit k) area) refl refl p
     of_values (refused r) f p = absurd (refused_none p)

@@ -9,7 +9,7 @@ use Rattle.error.specs.Result.{ok, refused}
 use Rattle.value.specs.declared.DataValue.{DataValue}
 use Rattle.value_list.specs.declared.ValueRecord.TheVariants.{Value, Refused}
 use Rattle.value_list.specs.declared.ListCheck.TheVariants as Check
-use Rattle.value_list.specs.Records.{recordAt}
+use Rattle.value_list.specs.Records.{record_at}
 use Rattle.value_list.specs.Lists.{Values, records, values_of, checked}
 use Rattle.value_list.proofs.Lists.{records-first, checked-taken}
 use Rattle.value_list.specs.InnerLists.{answer}
@@ -18,7 +18,7 @@ use mathlib.Core.Bool.{Bool}
 record First (s : List ℕ) (v : DataValue) : Type 0 where
   pub next : ℕ
   pub within : 0 < length s
-  pub first : recordAt s 0 ≡ Value v next
+  pub first : record_at s 0 ≡ Value v next
 
 first_of : (n : ℕ) (s : List ℕ) (v : DataValue) → records n s 0 ≡ ok (v ∷ []) → First s v
 first_of zero s v e = let z : ◌≡◌ {A = ℕ} 0 1 = cc in absurd (omega arith)
@@ -40,30 +40,30 @@ record Sole (k : Bool) (area : ℕ) (s : List ℕ) : Type 0 where
   pub place : First s value
 
 module _ (k : Bool) (area : ℕ) (s : List ℕ) where
-  of-list : (vs : List DataValue) → length vs ≡ 1 → checked k 1 area s ≡ ok vs → values_of s ≡ ok vs → Sole k area s
-  of-list [] c e f = absurd (omega arith)
-  of-list (v ∷ []) c e f = record { value = v; all = e; place = all_first s v f }
-  of-list (v ∷ (w ∷ vs)) c e f = absurd (omega arith)
+  of_list : (vs : List DataValue) → length vs ≡ 1 → checked k 1 area s ≡ ok vs → values_of s ≡ ok vs → Sole k area s
+  of_list [] c e f = absurd (omega arith)
+  of_list (v ∷ []) c e f = record { value = v; all = e; place = all_first s v f }
+  of_list (v ∷ (w ∷ vs)) c e f = absurd (omega arith)
 
-  of-checked : (q : Values) → checked k 1 area s ≡ q → Check.Good ≡ answer q → Sole k area s
-  of-checked (ok vs) e g = let t = checked-taken k 1 area s e in of-list vs t.count e t.all
-  of-checked (refused r) e g = absurd (good_none g)
+  of_checked : (q : Values) → checked k 1 area s ≡ q → Check.Good ≡ answer q → Sole k area s
+  of_checked (ok vs) e g = let t = checked-taken k 1 area s e in of_list vs t.count e t.all
+  of_checked (refused r) e g = absurd (good_none g)
 
   module _ (g : Check.Good ≡ answer (checked k 1 area s)) where
     sole : Sole k area s
-    sole = of-checked (checked k 1 area s) refl g
+    sole = of_checked (checked k 1 area s) refl g
 
-    pub sole-there : 0 < length s
-    sole-there = sole.place.within
+    pub sole_there : 0 < length s
+    sole_there = sole.place.within
 
-    pub sole-value : (v : DataValue) (next : ℕ) → recordAt s 0 ≡ Value v next → checked k 1 area s ≡ ok (v ∷ [])
-    sole-value v next e =
+    pub sole_value : (v : DataValue) (next : ℕ) → record_at s 0 ≡ Value v next → checked k 1 area s ≡ ok (v ∷ [])
+    sole_value v next e =
         let f : Value v next ≡ Value sole.value sole.place.next = sym e ∙ sole.place.first in
         let h : v ≡ sole.value = cc in
         sole.all ∙ ap (λ (x : DataValue). ok (x ∷ [])) (sym h)
 
-    pub sole-good : (r : Refusal) → recordAt s 0 ≡ Refused r → ⊥
-    sole-good r e = value_none (sym sole.place.first ∙ e)
+    pub sole_good : (r : Refusal) → record_at s 0 ≡ Refused r → ⊥
+    sole_good r e = value_none (sym sole.place.first ∙ e)
 
   -- and one that was not
   pub refused-list : (q : Values) (r : Refusal) → answer q ≡ Check.Refused r → q ≡ refused r

@@ -1,6 +1,6 @@
 -- For the proofs: values whose ranges fit a record.
 use Rattle.std.specs.Prelude.{Bool}
-use Rattle.row_format.specs.Places.{offsetWidth}
+use Rattle.row_format.specs.Places.{offset_width}
 use Rattle.value.specs.declared.DataValue.{DataValue}
 use Rattle.value.specs.declared.DataValue.TheVariants as D
 use Rattle.value_list.specs.Records.{NarrowRange}
@@ -15,9 +15,9 @@ Narrow k (D.Real x) = Unit {0}
 Narrow k (D.DoublePrecision x) = Unit {0}
 Narrow k (D.Numeric n) = Unit {0}
 Narrow k (D.Bool b) = Unit {0}
-Narrow k (D.Char r) = NarrowRange (offsetWidth k) r
-Narrow k (D.Varchar r) = NarrowRange (offsetWidth k) r
+Narrow k (D.Char r) = NarrowRange (offset_width k) r
+Narrow k (D.Varchar r) = NarrowRange (offset_width k) r
 Narrow k (D.Date x) = Unit {0}
 Narrow k (D.Time x) = Unit {0}
-Narrow k (D.Bit r) = NarrowRange (offsetWidth k) r
+Narrow k (D.Bit r) = NarrowRange (offset_width k) r
 Narrow k (D.Timestamp x) = Unit {0}

@@ -2,23 +2,23 @@
 use Rattle.std.specs.Prelude.{ℕ, zero, suc, Bool, cond, List, [], ◌∷◌, ◌++◌, eqb, ltb, length}
 use Rattle.error.specs.declared.Refusal.TheVariants.{BadValueList}
 use Rattle.error.specs.Result.{Result, ok, refused, before}
-use Rattle.row_format.specs.Places.{rowLimit}
+use Rattle.row_format.specs.Places.{row_limit}
 use Rattle.value.specs.declared.DataValue.{DataValue}
 use Rattle.value_list.specs.declared.ValueRecord.{ValueRecord}
 use Rattle.value_list.specs.declared.ValueRecord.TheVariants.{Value, Refused}
-use Rattle.value_list.specs.Records.{recordAt, recordOf}
+use Rattle.value_list.specs.Records.{record_at, record_of}
 
 abbrev pub Values : Type 0
 Values = Result (List DataValue)
 
-abbrev pub onRecord : ValueRecord → (ℕ → Values) → Values
-onRecord (Value v next) rest = before v (rest next)
-onRecord (Refused r) rest = refused r
+abbrev pub on_record : ValueRecord → (ℕ → Values) → Values
+on_record (Value v next) rest = before v (rest next)
+on_record (Refused r) rest = refused r
 
 -- at most n records from a place on. "The first bad value record decides the place of 10"
 abbrev pub records : ℕ → List ℕ → ℕ → Values
 records zero s at = ok []
-records (suc n) s at = cond (ltb at (length s)) (onRecord (recordAt s at) (records n s)) (ok [])
+records (suc n) s at = cond (ltb at (length s)) (on_record (record_at s at) (records n s)) (ok [])
 
 -- all of them: a record has a byte or more
 unfoldable pub values_of : List ℕ → Values
@@ -28,7 +28,7 @@ values_of s = records (length s) s 0
 -- sort, whose limit is the text area's too
 abbrev pub judged : Bool → ℕ → ℕ → ℕ → Values → Values
 judged k n area len (ok vs) =
-    cond (eqb (length vs) n) (cond (ltb (rowLimit k) area) (refused (BadValueList 0)) (ok vs))
+    cond (eqb (length vs) n) (cond (ltb (row_limit k) area) (refused (BadValueList 0)) (ok vs))
     (refused (BadValueList len))
 judged k n area len (refused r) = refused r
 
@@ -39,4 +39,4 @@ checked k n area s = judged k n area (length s) (values_of s)
 
 abbrev pub list_of : Bool → List DataValue → List ℕ
 list_of k [] = []
-list_of k (v ∷ vs) = recordOf k v ++ list_of k vs
+list_of k (v ∷ vs) = record_of k v ++ list_of k vs

@@ -4,13 +4,13 @@ use Rattle.std.specs.Prelude.{ℕ, ◌+◌, ◌^◌, ◌<◌, Bool, true, false,
 use Rattle.std.specs.Int.{w8, w16, w32, w64}
 use Rattle.std.proofs.Common.{Fits, SFits, to_z, of_z}
 use Rattle.error.specs.declared.Refusal.TheVariants.{BadValueList}
-use Rattle.laws.specs.Bytes.{toLe, fromLe}
+use Rattle.laws.specs.Bytes.{to_le, from_le}
 use Rattle.value.specs.declared.DataValue.{DataValue}
 use Rattle.value.specs.declared.DataValue.TheVariants as D
 use Rattle.value.specs.declared.NumericValue.{NumericValue}
 use Rattle.value.specs.declared.TextRange.{TextRange}
-use Rattle.row_format.specs.Places.{offsetWidth}
-use Rattle.value.specs.Kinds.{kind_of, isRangeKind, longKind, plainKind, isLongKind, isValueKind}
+use Rattle.row_format.specs.Places.{offset_width}
+use Rattle.value.specs.Kinds.{kind_of, is_range_kind, long_kind, plain_kind, is_long_kind, is_value_kind}
 use Rattle.value.specs.Ranges.{range_of}
 use Rattle.value_list.specs.declared.ValueRecord.{ValueRecord}
 use Rattle.value_list.specs.declared.ValueRecord.TheVariants.{Value, Refused}
@@ -18,8 +18,8 @@ use Rattle.value_list.specs.declared.ValueRecord.TheVariants.{Value, Refused}
 -- "1 SmallInt 2; 2 Int 4; 3 BigInt 8; 4 Real 4; 5 DoublePrecision 8; 6 Numeric 17 [..]; 7 Bool 1 [..]; 8 Char, 9
 -- Varchar and 12 Bit 4 [..]; 10 Date 4; 11 Time 8; 13 Timestamp 8"; "0 null 0". 02, request 5: "17, 18 and 19 [..] with
 -- start and length of four bytes each"
-abbrev pub bodyLength : ℕ → ℕ
-bodyLength k =
+abbrev pub body_length : ℕ → ℕ
+body_length k =
     cond (eqb k 1) 2
     (cond (eqb k 2) 4
     (cond (eqb k 3) 8
@@ -42,15 +42,15 @@ bodyLength k =
 
 -- w bytes at a place
 abbrev pub number_at : ℕ → List ℕ → ℕ → ℕ
-number_at w s at = fromLe (take w (drop at s))
+number_at w s at = from_le (take w (drop at s))
 
 -- "16 bytes two's complement, scale byte"
-abbrev pub numericAt : List ℕ → ℕ → NumericValue
-numericAt s at = record { high = to_z w64 (number_at 8 s (at + 8)); low = number_at 8 s at; scale = get_or s (at + 16) 0 }
+abbrev pub numeric_at : List ℕ → ℕ → NumericValue
+numeric_at s at = record { high = to_z w64 (number_at 8 s (at + 8)); low = number_at 8 s at; scale = get_or s (at + 16) 0 }
 
 -- "start, length in the text area, two bytes each", or four: w bytes each
-abbrev pub rangeAt : ℕ → List ℕ → ℕ → TextRange
-rangeAt w s at = record { start = number_at w s at; length = number_at w s (at + w) }
+abbrev pub range_at : ℕ → List ℕ → ℕ → TextRange
+range_at w s at = record { start = number_at w s at; length = number_at w s (at + w) }
 
 -- the body of a kind of 01's at a place, ranges of w bytes each. Any byte is a Bool's body here: one above 1 is 12,
 -- with its column
@@ -61,63 +61,63 @@ value_at w k s at =
     (cond (eqb k 3) (D.BigInt (to_z w64 (number_at 8 s at)))
     (cond (eqb k 4) (D.Real (number_at 4 s at))
     (cond (eqb k 5) (D.DoublePrecision (number_at 8 s at))
-    (cond (eqb k 6) (D.Numeric (numericAt s at))
+    (cond (eqb k 6) (D.Numeric (numeric_at s at))
     (cond (eqb k 7) (D.Bool (get_or s at 0))
-    (cond (eqb k 8) (D.Char (rangeAt w s at))
-    (cond (eqb k 9) (D.Varchar (rangeAt w s at))
+    (cond (eqb k 8) (D.Char (range_at w s at))
+    (cond (eqb k 9) (D.Varchar (range_at w s at))
     (cond (eqb k 10) (D.Date (to_z w32 (number_at 4 s at)))
     (cond (eqb k 11) (D.Time (to_z w64 (number_at 8 s at)))
-    (cond (eqb k 12) (D.Bit (rangeAt w s at))
+    (cond (eqb k 12) (D.Bit (range_at w s at))
     (cond (eqb k 13) (D.Timestamp (to_z w64 (number_at 8 s at)))
     D.Null))))))))))))
 
 -- the bytes of each number of a range, by the kind
-abbrev pub rangeWidth : ℕ → ℕ
-rangeWidth k = offsetWidth (isLongKind k)
+abbrev pub range_width : ℕ → ℕ
+range_width k = offset_width (is_long_kind k)
 
 -- 10: "unknown kind, cut"; else the value and the place after its record
-abbrev pub recordOfKind : ℕ → List ℕ → ℕ → ValueRecord
-recordOfKind k s at =
-    cond (isValueKind k)
-    (cond (ltb (length s) (at + 1 + bodyLength k)) (Refused (BadValueList at))
-    (Value (value_at (rangeWidth k) (plainKind k) s (at + 1)) (at + 1 + bodyLength k)))
+abbrev pub record_of_kind : ℕ → List ℕ → ℕ → ValueRecord
+record_of_kind k s at =
+    cond (is_value_kind k)
+    (cond (ltb (length s) (at + 1 + body_length k)) (Refused (BadValueList at))
+    (Value (value_at (range_width k) (plain_kind k) s (at + 1)) (at + 1 + body_length k)))
     (Refused (BadValueList at))
 
-abbrev pub recordAt : List ℕ → ℕ → ValueRecord
-recordAt s at = recordOfKind (get_or s at 0) s at
+abbrev pub record_at : List ℕ → ℕ → ValueRecord
+record_at s at = record_of_kind (get_or s at 0) s at
 
 -- ---- a record written
 
-abbrev pub numericBytes : NumericValue → List ℕ
-numericBytes n = toLe 8 n.low ++ (toLe 8 (of_z w64 n.high) ++ (n.scale ∷ []))
+abbrev pub numeric_bytes : NumericValue → List ℕ
+numeric_bytes n = to_le 8 n.low ++ (to_le 8 (of_z w64 n.high) ++ (n.scale ∷ []))
 
 -- start and length, of w bytes each
-abbrev pub rangeBody : ℕ → TextRange → List ℕ
-rangeBody w r = toLe w r.start ++ toLe w r.length
+abbrev pub range_body : ℕ → TextRange → List ℕ
+range_body w r = to_le w r.start ++ to_le w r.length
 
 abbrev pub body_of : DataValue → List ℕ
 body_of D.Null = []
-body_of (D.SmallInt x) = toLe 2 (of_z w16 x)
-body_of (D.Int x) = toLe 4 (of_z w32 x)
-body_of (D.BigInt x) = toLe 8 (of_z w64 x)
-body_of (D.Real x) = toLe 4 x
-body_of (D.DoublePrecision x) = toLe 8 x
-body_of (D.Numeric n) = numericBytes n
+body_of (D.SmallInt x) = to_le 2 (of_z w16 x)
+body_of (D.Int x) = to_le 4 (of_z w32 x)
+body_of (D.BigInt x) = to_le 8 (of_z w64 x)
+body_of (D.Real x) = to_le 4 x
+body_of (D.DoublePrecision x) = to_le 8 x
+body_of (D.Numeric n) = numeric_bytes n
 body_of (D.Bool b) = b ∷ []
-body_of (D.Char r) = rangeBody 2 r
-body_of (D.Varchar r) = rangeBody 2 r
-body_of (D.Date x) = toLe 4 (of_z w32 x)
-body_of (D.Time x) = toLe 8 (of_z w64 x)
-body_of (D.Bit r) = rangeBody 2 r
-body_of (D.Timestamp x) = toLe 8 (of_z w64 x)
+body_of (D.Char r) = range_body 2 r
+body_of (D.Varchar r) = range_body 2 r
+body_of (D.Date x) = to_le 4 (of_z w32 x)
+body_of (D.Time x) = to_le 8 (of_z w64 x)
+body_of (D.Bit r) = range_body 2 r
+body_of (D.Timestamp x) = to_le 8 (of_z w64 x)
 
 -- a range of kind 8, 9 or 12, for rows of a sort: "a long row reads into" 17, 18 and 19
-abbrev pub rangeRecord : Bool → ℕ → TextRange → List ℕ
-rangeRecord false kind r = kind ∷ rangeBody 2 r
-rangeRecord true kind r = longKind kind ∷ rangeBody 4 r
+abbrev pub range_record : Bool → ℕ → TextRange → List ℕ
+range_record false kind r = kind ∷ range_body 2 r
+range_record true kind r = long_kind kind ∷ range_body 4 r
 
-abbrev pub recordOf : Bool → DataValue → List ℕ
-recordOf k v = cond (isRangeKind (kind_of v)) (rangeRecord k (kind_of v) (range_of v)) (kind_of v ∷ body_of v)
+abbrev pub record_of : Bool → DataValue → List ℕ
+record_of k v = cond (is_range_kind (kind_of v)) (range_record k (kind_of v) (range_of v)) (kind_of v ∷ body_of v)
 
 -- ---- values that records can hold: the machine's numbers, and ranges of four bytes each
 

@@ -1,9 +1,9 @@
 // The bytes of value lists: a record read, and the check of a whole list. record_encode writes them.
 ghost use Rattle.std.specs.Prelude.{◌≡◌, ◌+◌, ◌*◌, ◌<◌, ◌≤◌, length};
-ghost use Rattle.row_format.specs.Places.{offsetWidth};
-ghost use Rattle.value_list.specs.Records.{bodyLength, numericAt, rangeAt, value_at, recordAt, NarrowRange};
+ghost use Rattle.row_format.specs.Places.{offset_width};
+ghost use Rattle.value_list.specs.Records.{body_length, numeric_at, range_at, value_at, record_at, NarrowRange};
 ghost use Rattle.value_list.specs.Lists.{checked};
-ghost use Rattle.value_list.specs.InnerSizes.{bodyIn, size_at};
+ghost use Rattle.value_list.specs.InnerSizes.{body_in, size_at};
 ghost use Rattle.value_list.specs.InnerLists.{answer};
 
 use error::Refusal;
@@ -25,7 +25,7 @@ pub enum ListCheck {
 
 // The bytes after the byte of kind.
 pub fn body_length(kind: u8) -> usize
-    ensures { (result ≡ bodyLength kind) × (result ≤ 17) }
+    ensures { (result ≡ body_length kind) × (result ≤ 17) }
 {
     match kind {
         value_kinds::SMALL_INT => 2,
@@ -80,7 +80,7 @@ fn record_size(list: &[u8], at: usize) -> usize
 
 fn numeric_at(list: &[u8], at: usize) -> NumericValue
     requires { at + 17 ≤ length list.now }
-    ensures { result ≡ numericAt list.now at }
+    ensures { result ≡ numeric_at list.now at }
 {
     let low = endian::read_u64(list, at);
     let high = endian::read_i64(list, at + 8);
@@ -90,8 +90,8 @@ fn numeric_at(list: &[u8], at: usize) -> NumericValue
 
 // A range, its numbers of four bytes or of two.
 pub fn range_at(list: &[u8], is_long: bool, at: usize) -> TextRange
-    requires { at + 2 * offsetWidth is_long ≤ length list.now }
-    ensures { (result ≡ rangeAt (offsetWidth is_long) list.now at) × NarrowRange 4 result }
+    requires { at + 2 * offset_width is_long ≤ length list.now }
+    ensures { (result ≡ range_at (offset_width is_long) list.now at) × NarrowRange 4 result }
 {
     if is_long {
         let start = endian::read_u32(list, at) as usize;
@@ -105,8 +105,8 @@ pub fn range_at(list: &[u8], is_long: bool, at: usize) -> TextRange
 
 // The value whose body stands at a place, of one of document 01's kinds, ranges with numbers of four bytes or of two.
 fn value_at(list: &[u8], is_long: bool, at: usize, kind: u8) -> DataValue
-    requires { at + bodyIn is_long kind ≤ length list.now }
-    ensures { result ≡ value_at (offsetWidth is_long) kind list.now at }
+    requires { at + body_in is_long kind ≤ length list.now }
+    ensures { result ≡ value_at (offset_width is_long) kind list.now at }
 {
     match kind {
         value_kinds::SMALL_INT => DataValue::SmallInt(endian::read_i16(list, at)),
@@ -128,7 +128,7 @@ fn value_at(list: &[u8], is_long: bool, at: usize, kind: u8) -> DataValue
 
 pub fn value_record_at(list: &[u8], at: usize) -> ValueRecord
     requires { at < length list.now }
-    ensures { result ≡ recordAt list.now at }
+    ensures { result ≡ record_at list.now at }
 {
     let size = record_size(list, at);
     if size == 0 {

@@ -1,11 +1,11 @@
 // "Same content", which 01 adds to the Rust: whether two values of one type are the same.
 ghost use Rattle.std.specs.Prelude.{◌≡◌, true, length};
-ghost use Rattle.bit_utils.specs.Bits.{bytesFor};
+ghost use Rattle.bit_utils.specs.Bits.{bytes_for};
 ghost use Rattle.datatype.specs.Types.{length_of};
 ghost use Rattle.value.specs.Kinds.{kind_of};
 ghost use Rattle.value.specs.Ranges.{text_of};
-ghost use Rattle.value_same.specs.Same.{sameContent};
-ghost use Rattle.value_same.specs.InnerFields.{contentOf, realOf, sameNumber, sameByFields, standsIn};
+ghost use Rattle.value_same.specs.Same.{same_content};
+ghost use Rattle.value_same.specs.InnerFields.{content_of, real_of, same_number, same_by_fields, stands_in};
 
 use datatype::DataType;
 use value::{DataValue, value_kinds};
@@ -19,7 +19,7 @@ pub struct Content {
 }
 
 fn word(v: DataValue) -> u64
-    ensures { result ≡ (contentOf v).word }
+    ensures { result ≡ (content_of v).word }
 {
     match v {
         DataValue::Null => 0,
@@ -40,7 +40,7 @@ fn word(v: DataValue) -> u64
 }
 
 fn upper(v: DataValue) -> u64
-    ensures { result ≡ (contentOf v).upper }
+    ensures { result ≡ (content_of v).upper }
 {
     match v {
         DataValue::Null => 0,
@@ -61,7 +61,7 @@ fn upper(v: DataValue) -> u64
 }
 
 fn scale(v: DataValue) -> u8
-    ensures { result ≡ (contentOf v).scale }
+    ensures { result ≡ (content_of v).scale }
 {
     match v {
         DataValue::Null => 0,
@@ -82,7 +82,7 @@ fn scale(v: DataValue) -> u8
 }
 
 fn content_of(v: DataValue) -> Content
-    ensures { result ≡ contentOf v }
+    ensures { result ≡ content_of v }
 {
     let low = word(v);
     let high = upper(v);
@@ -96,7 +96,7 @@ fn content_of(v: DataValue) -> Content
 
 // A Real's bits.
 fn real(v: DataValue) -> u32
-    ensures { result ≡ realOf v }
+    ensures { result ≡ real_of v }
 {
     match v {
         DataValue::Null => 0,
@@ -117,7 +117,7 @@ fn real(v: DataValue) -> u32
 }
 
 fn same_number(a: Content, b: Content) -> bool
-    ensures { result ≡ sameNumber a b }
+    ensures { result ≡ same_number a b }
 {
     if a.word == b.word {
         if a.upper == b.upper {
@@ -130,9 +130,9 @@ fn same_number(a: Content, b: Content) -> bool
 
 // Whether two values whose texts or packed bits are at hand are the same.
 fn same_value(ty: DataType, a: DataValue, x: &[u8], b: DataValue, y: &[u8]) -> bool
-    requires { (kind_of a ≡ 12 → length x.now ≡ bytesFor (length_of ty))
-        × (kind_of b ≡ 12 → length y.now ≡ bytesFor (length_of ty)) }
-    ensures { result ≡ sameByFields (length_of ty) a x.now b y.now }
+    requires { (kind_of a ≡ 12 → length x.now ≡ bytes_for (length_of ty))
+        × (kind_of b ≡ 12 → length y.now ≡ bytes_for (length_of ty)) }
+    ensures { result ≡ same_by_fields (length_of ty) a x.now b y.now }
 {
     let n = ty.declared_length() as usize;
     let kind = a.kind();
@@ -157,8 +157,8 @@ fn same_value(ty: DataType, a: DataValue, x: &[u8], b: DataValue, y: &[u8]) -> b
 
 // Whether two values read from columns of type ty are the same, each with its row.
 pub fn same_content(ty: DataType, a: DataValue, row_a: &[u8], b: DataValue, row_b: &[u8]) -> bool
-    requires { (standsIn (length_of ty) a row_a.now ≡ true) × (standsIn (length_of ty) b row_b.now ≡ true) }
-    ensures { result ≡ sameContent (length_of ty) a (text_of row_a.now a)
+    requires { (stands_in (length_of ty) a row_a.now ≡ true) × (stands_in (length_of ty) b row_b.now ≡ true) }
+    ensures { result ≡ same_content (length_of ty) a (text_of row_a.now a)
         b (text_of row_b.now b) }
 {
     let left = a.range();

@@ -1,17 +1,17 @@
 -- The worked cases of 01, by computation.
 use mathlib.Core.Path.{refl}
-use Rattle.row_format.specs.Table.{lay, rangeEnd}
-use Rattle.row_format.specs.Row.{header, rowWith}
-use Rattle.row_format.specs.Header.{isLong, sortIn}
-use Rattle.row_format.specs.Edit.{rangeStart, varlenEdit, editedRow}
+use Rattle.row_format.specs.Table.{lay, range_end}
+use Rattle.row_format.specs.Row.{header, row_with}
+use Rattle.row_format.specs.Header.{is_long, sort_in}
+use Rattle.row_format.specs.Edit.{range_start, varlen_edit, edited_row}
 use Rattle.value_list.specs.Lists.{values_of}
-use Rattle.row_sound.specs.Sound.{soundColumn}
-use Rattle.datatype.specs.Schema.{schemaOf}
+use Rattle.row_sound.specs.Sound.{sound_column}
+use Rattle.datatype.specs.Schema.{schema_of}
 use Rattle.numeric.specs.Decimal.{digits}
-use Rattle.numeric.specs.Packed.{encodeBcd}
+use Rattle.numeric.specs.Packed.{encode_bcd}
 use Rattle.text.specs.Rfc3629.{octets}
 use Rattle.worked.specs.Cases.{AllHold, columns, S, row, table}
 
 pub worked : AllHold table
-unfolding table row S columns schemaOf rowWith lay rangeEnd rangeStart varlenEdit editedRow values_of soundColumn header octets digits encodeBcd isLong sortIn
+unfolding table row S columns schema_of row_with lay range_end range_start varlen_edit edited_row values_of sound_column header octets digits encode_bcd is_long sort_in
 worked = refl

@@ -1,20 +1,20 @@
 -- The worked cases of edits, by computation.
 use mathlib.Core.Path.{refl}
-use Rattle.row_format.specs.Table.{rangeEnd}
-use Rattle.row_format.specs.Header.{isLong, sortIn}
-use Rattle.row_format.specs.Edit.{rangeStart, varlenEdit, editedRow}
-use Rattle.datatype.specs.Schema.{schemaOf}
+use Rattle.row_format.specs.Table.{range_end}
+use Rattle.row_format.specs.Header.{is_long, sort_in}
+use Rattle.row_format.specs.Edit.{range_start, varlen_edit, edited_row}
+use Rattle.datatype.specs.Schema.{schema_of}
 use Rattle.datatype.specs.Check.{types_in}
 use Rattle.value_list.specs.Lists.{values_of}
-use Rattle.row_sound.specs.Sound.{soundColumn}
+use Rattle.row_sound.specs.Sound.{sound_column}
 use Rattle.text.specs.Rfc3629.{octets}
 use Rattle.worked.specs.Cases.{AllHold}
-use Rattle.worked.specs.Editing.{setValues, setNulls}
+use Rattle.worked.specs.Editing.{set_values, set_nulls}
 
-pub set_values : AllHold setValues
-unfolding setValues schemaOf types_in values_of soundColumn isLong sortIn rangeEnd rangeStart varlenEdit editedRow octets
-set_values = refl
+pub set_values_lem : AllHold set_values
+unfolding set_values schema_of types_in values_of sound_column is_long sort_in range_end range_start varlen_edit edited_row octets
+set_values_lem = refl
 
-pub set-nulls : AllHold setNulls
-unfolding setNulls schemaOf types_in soundColumn isLong sortIn rangeEnd rangeStart varlenEdit editedRow octets
+pub set-nulls : AllHold set_nulls
+unfolding set_nulls schema_of types_in sound_column is_long sort_in range_end range_start varlen_edit edited_row octets
 set-nulls = refl

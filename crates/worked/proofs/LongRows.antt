@@ -1,16 +1,16 @@
 -- The examples of 02, request 5, by computation.
 use mathlib.Core.Path.{refl}
-use Rattle.row_format.specs.Header.{isLong, sortIn}
-use Rattle.row_format.specs.Table.{lay, rangeEnd}
-use Rattle.row_format.specs.Row.{header, rowWith}
-use Rattle.row_format.specs.Edit.{rangeStart, varlenEdit, editedRow}
-use Rattle.datatype.specs.Schema.{schemaOf}
+use Rattle.row_format.specs.Header.{is_long, sort_in}
+use Rattle.row_format.specs.Table.{lay, range_end}
+use Rattle.row_format.specs.Row.{header, row_with}
+use Rattle.row_format.specs.Edit.{range_start, varlen_edit, edited_row}
+use Rattle.datatype.specs.Schema.{schema_of}
 use Rattle.value_list.specs.Lists.{values_of}
-use Rattle.row_sound.specs.Sound.{soundColumn}
+use Rattle.row_sound.specs.Sound.{sound_column}
 use Rattle.text.specs.Rfc3629.{octets}
 use Rattle.worked.specs.Cases.{AllHold}
 use Rattle.worked.specs.LongRows.{table}
 
 pub long-rows : AllHold table
-unfolding table schemaOf rowWith lay rangeEnd rangeStart varlenEdit editedRow values_of soundColumn header octets isLong sortIn
+unfolding table schema_of row_with lay range_end range_start varlen_edit edited_row values_of sound_column header octets is_long sort_in
 long-rows = refl

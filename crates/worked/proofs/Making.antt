@@ -1,17 +1,17 @@
 -- The worked cases of fresh and built rows, by computation.
 use mathlib.Core.Path.{refl}
 use Rattle.row_format.specs.Table.{lay}
-use Rattle.row_format.specs.Row.{header, rowWith}
-use Rattle.datatype.specs.Schema.{schemaOf}
+use Rattle.row_format.specs.Row.{header, row_with}
+use Rattle.datatype.specs.Schema.{schema_of}
 use Rattle.value_list.specs.Lists.{values_of}
 use Rattle.text.specs.Rfc3629.{octets}
 use Rattle.worked.specs.Cases.{AllHold}
-use Rattle.worked.specs.Making.{rowsOfNulls, rowsOfValues}
+use Rattle.worked.specs.Making.{rows_of_nulls, rows_of_values}
 
-pub rows-of-nulls : AllHold rowsOfNulls
-unfolding rowsOfNulls schemaOf rowWith lay header
-rows-of-nulls = refl
+pub rows_of_nulls_lem : AllHold rows_of_nulls
+unfolding rows_of_nulls schema_of row_with lay header
+rows_of_nulls_lem = refl
 
-pub rows-of-values : AllHold rowsOfValues
-unfolding rowsOfValues schemaOf values_of rowWith lay header octets
-rows-of-values = refl
+pub rows_of_values_lem : AllHold rows_of_values
+unfolding rows_of_values schema_of values_of row_with lay header octets
+rows_of_values_lem = refl

@@ -1,9 +1,9 @@
 -- The worked cases of the null flag, by computation.
 use mathlib.Core.Path.{refl}
-use Rattle.row_format.specs.Header.{isLong}
+use Rattle.row_format.specs.Header.{is_long}
 use Rattle.worked.specs.Cases.{AllHold}
 use Rattle.worked.specs.NullFlag.{table}
 
 pub null-flag : AllHold table
-unfolding table isLong
+unfolding table is_long
 null-flag = refl

@@ -3,19 +3,19 @@
 use Rattle.std.specs.Prelude.{ℕ, ◌+◌, ◌*◌, ◌-◌, Bool, cond, List, [], ◌∷◌, ◌++◌, ltb, replicate}
 use Prim.Native.Char.{code}
 use Prim.Native.String.{String, [] as end, ◌∷◌ as ◌then◌}
-use Rattle.null_bitmap.specs.Bitmap.{nullFlag}
-use Rattle.row_build.specs.Build.{freshCall, buildCall}
-use Rattle.row_decode.specs.Read.{readCall}
-use Rattle.row_text.specs.Text.{textCall, textPart}
-use Rattle.row_same.specs.Rows.{sameCall}
-use Rattle.row_edit.specs.Edit.{setCall, setNullCall}
+use Rattle.null_bitmap.specs.Bitmap.{null_flag}
+use Rattle.row_build.specs.Build.{fresh_call, build_call}
+use Rattle.row_decode.specs.Read.{read_call}
+use Rattle.row_text.specs.Text.{text_call, text_part}
+use Rattle.row_same.specs.Rows.{same_call}
+use Rattle.row_edit.specs.Edit.{set_call, set_null_call}
 use Rattle.row_handle.specs.declared.RowHandle.{RowHandle}
-use Rattle.row_handle.specs.Handle.{handleSet, handleSetNull}
-use Rattle.occupation_list.specs.Print.{printCall}
+use Rattle.row_handle.specs.Handle.{handle_set, handle_set_null}
+use Rattle.occupation_list.specs.Print.{print_call}
 use Rattle.rook_row.specs.declared.RowAnswer.{RowAnswer}
 use Rattle.rook_row.specs.declared.FlagAnswer.{FlagAnswer}
 use Rattle.rook_row.specs.declared.TextAnswer.{TextAnswer}
-use Rattle.rook_row.specs.Answers.{rowOutcome, countedOutcome, handleOutcome, flagAnswer, textAnswer}
+use Rattle.rook_row.specs.Answers.{row_outcome, counted_outcome, handle_outcome, flag_answer, text_answer}
 use Rattle.worked.specs.Cases.{Case}
 
 infix 3 ◌gives◌
@@ -58,8 +58,8 @@ row2 = hex "03 00 01 80 04 0D 00 01 00 00 00 00 00 41 42"
 abbrev pub varchars : List ℕ
 varchars = hex "0B 05 00 0B 05 00 0B 05 00"
 
-abbrev pub varcharsRow : List ℕ
-varcharsRow = hex "03 00 03 80 02 0B 00 00 00 0C 00 41 42"
+abbrev pub varchars_row : List ℕ
+varchars_row = hex "03 00 03 80 02 0B 00 00 00 0C 00 41 42"
 
 abbrev pub ABCDEF : List ℕ
 ABCDEF = hex "41 42 43 44 45 46"
@@ -70,60 +70,60 @@ ABCDEF = hex "41 42 43 44 45 46"
 abbrev pub refused : ℕ → ℕ → List ℕ
 refused number place = number ∷ place ∷ 0 ∷ []
 
-abbrev pub rowTold : RowAnswer → List ℕ
-rowTold a = a.number ∷ a.place ∷ a.length ∷ []
+abbrev pub row_told : RowAnswer → List ℕ
+row_told a = a.number ∷ a.place ∷ a.length ∷ []
 
-abbrev pub flagTold : FlagAnswer → List ℕ
-flagTold a = a.number ∷ a.place ∷ a.flag ∷ []
+abbrev pub flag_told : FlagAnswer → List ℕ
+flag_told a = a.number ∷ a.place ∷ a.flag ∷ []
 
-abbrev pub textTold : TextAnswer → List ℕ
-textTold a = a.number ∷ a.place ∷ a.start ∷ a.length ∷ []
+abbrev pub text_told : TextAnswer → List ℕ
+text_told a = a.number ∷ a.place ∷ a.start ∷ a.length ∷ []
 
-abbrev pub handleTold : RowHandle → List ℕ
-handleTold h =
+abbrev pub handle_told : RowHandle → List ℕ
+handle_told h =
     h.length ∷ h.layout.num_columns ∷ h.layout.num_varlen_cols ∷ h.layout.fixed_size ∷ h.layout.packed
     ∷ h.layout.is_long ∷ []
 
 abbrev pub fresh : Bool → List ℕ → List ℕ → List ℕ
-fresh sort schema out = let o = rowOutcome 0 (freshCall sort schema out) in rowTold o.0 ++ o.1
+fresh sort schema out = let o = row_outcome 0 (fresh_call sort schema out) in row_told o.0 ++ o.1
 
 abbrev pub build : Bool → List ℕ → List ℕ → List ℕ → List ℕ → List ℕ → List ℕ
 build sort schema values area out counts =
-    let o = countedOutcome 0 (buildCall sort schema values area out counts) in
-    rowTold o.0 ++ (o.1.0 ++ o.1.1)
+    let o = counted_outcome 0 (build_call sort schema values area out counts) in
+    row_told o.0 ++ (o.1.0 ++ o.1.1)
 
 abbrev pub read : List ℕ → List ℕ → List ℕ → List ℕ → List ℕ → List ℕ
 read schema row wanted out counts =
-    let o = countedOutcome 0 (readCall schema row wanted out counts) in
-    rowTold o.0 ++ (o.1.0 ++ o.1.1)
+    let o = counted_outcome 0 (read_call schema row wanted out counts) in
+    row_told o.0 ++ (o.1.0 ++ o.1.1)
 
 abbrev pub set : List ℕ → List ℕ → ℕ → ℕ → List ℕ → List ℕ → List ℕ
 set schema buf n column values area =
-    let o = rowOutcome n (setCall schema buf n column values area) in rowTold o.0 ++ o.1
+    let o = row_outcome n (set_call schema buf n column values area) in row_told o.0 ++ o.1
 
-abbrev pub setNull : List ℕ → List ℕ → ℕ → ℕ → List ℕ
-setNull schema buf n column = let o = rowOutcome n (setNullCall schema buf n column) in rowTold o.0 ++ o.1
+abbrev pub set_null : List ℕ → List ℕ → ℕ → ℕ → List ℕ
+set_null schema buf n column = let o = row_outcome n (set_null_call schema buf n column) in row_told o.0 ++ o.1
 
 -- over a handle, which is told last
-abbrev pub setBy : RowHandle → List ℕ → List ℕ → ℕ → List ℕ → List ℕ → List ℕ
-setBy h schema buf column values area =
-    let o = handleOutcome h.length (handleSet schema buf h column values area) in
-    rowTold o.0 ++ (o.1.0 ++ handleTold o.1.1)
+abbrev pub set_by : RowHandle → List ℕ → List ℕ → ℕ → List ℕ → List ℕ → List ℕ
+set_by h schema buf column values area =
+    let o = handle_outcome h.length (handle_set schema buf h column values area) in
+    row_told o.0 ++ (o.1.0 ++ handle_told o.1.1)
 
-abbrev pub setNullBy : RowHandle → List ℕ → List ℕ → ℕ → List ℕ
-setNullBy h schema buf column =
-    let o = handleOutcome h.length (handleSetNull schema buf h column) in
-    rowTold o.0 ++ (o.1.0 ++ handleTold o.1.1)
+abbrev pub set_null_by : RowHandle → List ℕ → List ℕ → ℕ → List ℕ
+set_null_by h schema buf column =
+    let o = handle_outcome h.length (handle_set_null schema buf h column) in
+    row_told o.0 ++ (o.1.0 ++ handle_told o.1.1)
 
 -- with the bytes of the part that is handed out
 abbrev pub text_of : List ℕ → List ℕ → ℕ → List ℕ
-text_of schema row column = let t = textCall schema row column in textTold (textAnswer t) ++ textPart row t
+text_of schema row column = let t = text_call schema row column in text_told (text_answer t) ++ text_part row t
 
 abbrev pub same : List ℕ → List ℕ → List ℕ → List ℕ
-same schema a b = flagTold (flagAnswer (sameCall schema a b))
+same schema a b = flag_told (flag_answer (same_call schema a b))
 
 abbrev pub is_null : List ℕ → ℕ → List ℕ
-is_null row column = flagTold (flagAnswer (nullFlag row column))
+is_null row column = flag_told (flag_answer (null_flag row column))
 
 abbrev pub print : List ℕ → List ℕ → List ℕ
-print list out = let o = rowOutcome 0 (printCall list out) in rowTold o.0 ++ o.1
+print list out = let o = row_outcome 0 (print_call list out) in row_told o.0 ++ o.1

@@ -7,24 +7,24 @@ use Rattle.error.specs.declared.Answer.TheVariants.{Done, Refused}
 use Rattle.error.specs.Refusal.{number_of as numberFor, place_of}
 use Rattle.error.specs.Answer.{Outcome, Counted}
 use Rattle.error.specs.Result.{ok, refused}
-use Rattle.laws.specs.Bits.{bitValue}
-use Rattle.laws.specs.Bytes.{toLe}
+use Rattle.laws.specs.Bits.{bit_value}
+use Rattle.laws.specs.Bytes.{to_le}
 use Rattle.row_format.specs.declared.Shape.{Shape}
-use Rattle.row_format.specs.Places.{minimum, offsetWidth}
+use Rattle.row_format.specs.Places.{minimum, offset_width}
 use Rattle.row_format.specs.Table.{Cell}
-use Rattle.row_format.specs.Row.{packedMarks, builtRow}
+use Rattle.row_format.specs.Row.{packed_marks, built_row}
 use Rattle.datatype.specs.Types.{shape_of}
-use Rattle.datatype.specs.Schema.{Parsed, schemaOf}
-use Rattle.text.specs.Rfc3629.{codePoints, isText}
+use Rattle.datatype.specs.Schema.{Parsed, schema_of}
+use Rattle.text.specs.Rfc3629.{code_points, is_text}
 use Rattle.std.specs.Int.{w32, w64}
 use Rattle.std.proofs.Common.{of_z}
 use Rattle.datatype.specs.declared.DataType.TheVariants as T
 use Rattle.value.specs.declared.DataValue.TheVariants.{Numeric}
-use Rattle.stored_form.specs.Number.{numericOf}
-use Rattle.stored_form.specs.Write.{storedForm}
-use Rattle.row_decode.specs.Read.{readCall}
-use Rattle.row_build.specs.Build.{freshCall, buildCall}
-use Rattle.row_edit.specs.Edit.{setCall, setNullCall}
+use Rattle.stored_form.specs.Number.{numeric_of}
+use Rattle.stored_form.specs.Write.{stored_form}
+use Rattle.row_decode.specs.Read.{read_call}
+use Rattle.row_build.specs.Build.{fresh_call, build_call}
+use Rattle.row_edit.specs.Edit.{set_call, set_null_call}
 
 pub record Case : Type 0 where
   pub computed : List ℕ
@@ -35,12 +35,12 @@ abbrev pub AllHold : List Case → Type 0
 AllHold cases = map (λ c. c.computed) cases ≡ map (λ c. c.stated) cases
 
 -- the columns of a schema's bytes
-abbrev pub shapesIn : Parsed → List Shape
-shapesIn (ok ts) = map shape_of ts
-shapesIn (refused r) = []
+abbrev pub shapes_in : Parsed → List Shape
+shapes_in (ok ts) = map shape_of ts
+shapes_in (refused r) = []
 
 unfoldable pub columns : List ℕ → List Shape
-columns schema = shapesIn (schemaOf false schema)
+columns schema = shapes_in (schema_of false schema)
 
 abbrev pub schema : List ℕ
 schema = 2 ∷ 11 ∷ 5 ∷ 0 ∷ 1 ∷ []
@@ -51,10 +51,10 @@ S = columns schema
 
 unfoldable pub row : List Cell → List ℕ
 unfolding S
-row cells = builtRow (offsetWidth false) (packedMarks false) S cells
+row cells = built_row (offset_width false) (packed_marks false) S cells
 
 abbrev pub one : Cell
-one = some (toLe 4 1)
+one = some (to_le 4 1)
 
 -- 0 and the length, or number and place; then the lent bytes
 abbrev pub answered : Answer → List ℕ
@@ -65,23 +65,23 @@ abbrev pub outcome : Outcome → List ℕ
 outcome o = answered o.0 ++ o.1
 
 -- without the numbers of the list of counts, which specs/Widths is about
-abbrev pub withoutCounts : Counted → List ℕ
-withoutCounts o = answered o.0 ++ o.1.0
+abbrev pub without_counts : Counted → List ℕ
+without_counts o = answered o.0 ++ o.1.0
 
 abbrev pub lent : List ℕ
 lent = replicate 10 0xAA
 
 -- a read of column 1 into the lent bytes, where the row has a Bool and a column of the kind with the slot's bytes
-abbrev pub readColumn : ℕ → List ℕ → List ℕ
-readColumn kind slot =
-    withoutCounts
-    (readCall (8 ∷ kind ∷ []) (2 ∷ 0 ∷ 0 ∷ 0x80 ∷ 0 ∷ 1 ∷ slot) (1 ∷ []) lent (replicate 2 0))
+abbrev pub read_column : ℕ → List ℕ → List ℕ
+read_column kind slot =
+    without_counts
+    (read_call (8 ∷ kind ∷ []) (2 ∷ 0 ∷ 0 ∷ 0x80 ∷ 0 ∷ 1 ∷ slot) (1 ∷ []) lent (replicate 2 0))
 
 abbrev pub time : ℤ → List ℕ
-time z = readColumn 13 (toLe 8 (of_z w64 z))
+time z = read_column 13 (to_le 8 (of_z w64 z))
 
 abbrev pub date : ℤ → List ℕ
-date z = readColumn 12 (toLe 4 (of_z w32 z))
+date z = read_column 12 (to_le 4 (of_z w32 z))
 
 -- a number, if there is one
 abbrev pub listed : Option ℕ → List ℕ
@@ -105,7 +105,7 @@ table =
       stated = 3 ∷ 0 ∷ 1 ∷ 0x80 ∷ 7 ∷ 0 ∷ 0 ∷ replicate 6 0;
     }
     ∷ record {
-      computed = outcome (freshCall false schema (replicate 14 0xAA));
+      computed = outcome (fresh_call false schema (replicate 14 0xAA));
       stated = 0 ∷ 13 ∷ 3 ∷ 0 ∷ 1 ∷ 0x80 ∷ 7 ∷ 0 ∷ 0 ∷ 0 ∷ 0 ∷ 0 ∷ 0 ∷ 0 ∷ 0 ∷ 0xAA ∷ [];
     }
     -- 2. "S of 1, "AB", null: 03 00 01 80 04 0D 00 01 00 00 00 00 00 41 42."
@@ -115,8 +115,8 @@ table =
     }
     ∷ record {
       computed =
-          withoutCounts
-          (buildCall false schema
+          without_counts
+          (build_call false schema
           (2 ∷ 1 ∷ 0 ∷ 0 ∷ 0 ∷ 9 ∷ 0 ∷ 0 ∷ 2 ∷ 0 ∷ 0 ∷ []) (0x41 ∷ 0x42 ∷ []) (replicate 16 0xAA) (replicate 3 0));
       stated = 0 ∷ 15 ∷ row2;
     }
@@ -126,7 +126,7 @@ table =
       stated = 3 ∷ 0 ∷ 1 ∷ 0x80 ∷ 4 ∷ 0x0D ∷ 0 ∷ 1 ∷ 0 ∷ 0 ∷ 0 ∷ 0 ∷ 0 ∷ [];
     }
     ∷ record {
-      computed = outcome (setCall schema row2 15 1 (9 ∷ 0 ∷ 0 ∷ 0 ∷ 0 ∷ []) []);
+      computed = outcome (set_call schema row2 15 1 (9 ∷ 0 ∷ 0 ∷ 0 ∷ 0 ∷ []) []);
       stated = 0 ∷ 13 ∷ 3 ∷ 0 ∷ 1 ∷ 0x80 ∷ 4 ∷ 0x0D ∷ 0 ∷ 1 ∷ 0 ∷ 0 ∷ 0 ∷ 0 ∷ 0 ∷ 0x41 ∷ 0x42 ∷ 0xAA ∷ [];
     }
     -- 4. "Column 1 set null instead: 13 bytes, bitmap 06, offset 00 00."
@@ -135,21 +135,21 @@ table =
       stated = 3 ∷ 0 ∷ 1 ∷ 0x80 ∷ 6 ∷ 0 ∷ 0 ∷ 1 ∷ 0 ∷ 0 ∷ 0 ∷ 0 ∷ 0 ∷ [];
     }
     ∷ record {
-      computed = outcome (setNullCall schema row2 15 1);
+      computed = outcome (set_null_call schema row2 15 1);
       stated = 0 ∷ 13 ∷ 3 ∷ 0 ∷ 1 ∷ 0x80 ∷ 6 ∷ 0 ∷ 0 ∷ 1 ∷ 0 ∷ 0 ∷ 0 ∷ 0 ∷ 0 ∷ 0x41 ∷ 0x42 ∷ 0xAA ∷ [];
     }
     -- 5. "SmallInt, Int: minimum 11 packed, 13 padded."
     ∷ record {
-      computed = map (λ p. minimum (offsetWidth false) p (columns (1 ∷ 2 ∷ []))) (true ∷ false ∷ []);
+      computed = map (λ p. minimum (offset_width false) p (columns (1 ∷ 2 ∷ []))) (true ∷ false ∷ []);
       stated = 11 ∷ 13 ∷ [];
     }
     -- 6. "Numeric(4,2) of −12.34: 01 23 4D. Numeric(3,0) of 7: 00 7C."
     ∷ record {
-      computed = storedForm (T.Numeric 4 2) (Numeric (numericOf true 1234 2)) [];
+      computed = stored_form (T.Numeric 4 2) (Numeric (numeric_of true 1234 2)) [];
       stated = 0x01 ∷ 0x23 ∷ 0x4D ∷ [];
     }
     ∷ record {
-      computed = storedForm (T.Numeric 3 0) (Numeric (numericOf false 7 0)) [];
+      computed = stored_form (T.Numeric 3 0) (Numeric (numeric_of false 7 0)) [];
       stated = 0x00 ∷ 0x7C ∷ [];
     }
     -- 7. "Time 86,399,999,999 read; [..]": null for column 0, then the value's record; the number is 14 1D D7 5F FF
@@ -173,7 +173,7 @@ table =
     -- 9. "Text ED A0 80, C0 80 and F4 90 80 80 invalid; F4 8F BF BF valid."
     ∷ record {
       computed =
-          map (λ s. bitValue (isText s))
+          map (λ s. bit_value (is_text s))
           ((0xED ∷ 0xA0 ∷ 0x80 ∷ []) ∷ (0xC0 ∷ 0x80 ∷ []) ∷ (0xF4 ∷ 0x90 ∷ 0x80 ∷ 0x80 ∷ [])
           ∷ (0xF4 ∷ 0x8F ∷ 0xBF ∷ 0xBF ∷ []) ∷ []);
       stated = 0 ∷ 0 ∷ 0 ∷ 1 ∷ [];
@@ -181,32 +181,32 @@ table =
     -- 11, which is not marked. "Row 2 with offset 0 and bitmap 04: column 1 reads as null; an edit gives 15."
     ∷ record {
       computed =
-          withoutCounts (readCall schema row11 (1 ∷ []) (replicate 4 0xAA) (replicate 3 0));
+          without_counts (read_call schema row11 (1 ∷ []) (replicate 4 0xAA) (replicate 3 0));
       stated = 0 ∷ 3 ∷ 0 ∷ 0 ∷ 0 ∷ 0xAA ∷ [];
     }
     ∷ record {
-      computed = outcome (setCall schema row11 15 1 (9 ∷ 0 ∷ 0 ∷ 0 ∷ 0 ∷ []) []);
+      computed = outcome (set_call schema row11 15 1 (9 ∷ 0 ∷ 0 ∷ 0 ∷ 0 ∷ []) []);
       stated = 15 ∷ 0 ∷ row11;
     }
     -- RFC 3629, section 7: the number of the code points that each example encodes
     -- U+0041 U+2262 U+0391 U+002E
     ∷ record {
-      computed = listed (codePoints (0x41 ∷ 0xE2 ∷ 0x89 ∷ 0xA2 ∷ 0xCE ∷ 0x91 ∷ 0x2E ∷ []));
+      computed = listed (code_points (0x41 ∷ 0xE2 ∷ 0x89 ∷ 0xA2 ∷ 0xCE ∷ 0x91 ∷ 0x2E ∷ []));
       stated = 4 ∷ [];
     }
     -- U+D55C U+AD6D U+C5B4
     ∷ record {
-      computed = listed (codePoints (0xED ∷ 0x95 ∷ 0x9C ∷ 0xEA ∷ 0xB5 ∷ 0xAD ∷ 0xEC ∷ 0x96 ∷ 0xB4 ∷ []));
+      computed = listed (code_points (0xED ∷ 0x95 ∷ 0x9C ∷ 0xEA ∷ 0xB5 ∷ 0xAD ∷ 0xEC ∷ 0x96 ∷ 0xB4 ∷ []));
       stated = 3 ∷ [];
     }
     -- U+65E5 U+672C U+8A9E
     ∷ record {
-      computed = listed (codePoints (0xE6 ∷ 0x97 ∷ 0xA5 ∷ 0xE6 ∷ 0x9C ∷ 0xAC ∷ 0xE8 ∷ 0xAA ∷ 0x9E ∷ []));
+      computed = listed (code_points (0xE6 ∷ 0x97 ∷ 0xA5 ∷ 0xE6 ∷ 0x9C ∷ 0xAC ∷ 0xE8 ∷ 0xAA ∷ 0x9E ∷ []));
       stated = 3 ∷ [];
     }
     -- U+233B4 behind a byte order mark, U+FEFF
     ∷ record {
-      computed = listed (codePoints (0xEF ∷ 0xBB ∷ 0xBF ∷ 0xF0 ∷ 0xA3 ∷ 0x8E ∷ 0xB4 ∷ []));
+      computed = listed (code_points (0xEF ∷ 0xBB ∷ 0xBF ∷ 0xF0 ∷ 0xA3 ∷ 0x8E ∷ 0xB4 ∷ []));
       stated = 2 ∷ [];
     }
     ∷ []

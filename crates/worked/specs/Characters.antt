@@ -1,9 +1,9 @@
 -- 02, request 3, worked out: Varchars of at most n code points beside Varchars of at most n bytes, each case as what
 -- the definitions compute beside what is stated.
 use Rattle.std.specs.Prelude.{ℕ, false, List, [], ◌∷◌, ◌++◌, replicate}
-use Rattle.row_decode.specs.Read.{readCall}
-use Rattle.row_build.specs.Build.{freshCall, buildCall}
-use Rattle.row_edit.specs.Edit.{setNullCall}
+use Rattle.row_decode.specs.Read.{read_call}
+use Rattle.row_build.specs.Build.{fresh_call, build_call}
+use Rattle.row_edit.specs.Edit.{set_null_call}
 use Rattle.worked.specs.Cases.{Case, outcome}
 use Rattle.worked.specs.Widths.{counted}
 
@@ -27,10 +27,10 @@ lent = replicate 13 0xAA
 -- a build of one text of n bytes, read of all columns, set null of column 0
 abbrev pub build : List ℕ → ℕ → List ℕ → List ℕ
 build schema n area =
-    counted (buildCall false schema (9 ∷ 0 ∷ 0 ∷ n ∷ 0 ∷ []) area lent (7 ∷ []))
+    counted (build_call false schema (9 ∷ 0 ∷ 0 ∷ n ∷ 0 ∷ []) area lent (7 ∷ []))
 
 abbrev pub read : List ℕ → List ℕ → List ℕ
-read schema row = counted (readCall schema row (0 ∷ []) (replicate 5 0xAA) (7 ∷ []))
+read schema row = counted (read_call schema row (0 ∷ []) (replicate 5 0xAA) (7 ∷ []))
 
 unfoldable pub table : List Case
 table =
@@ -49,7 +49,7 @@ table =
       stated = 8 ∷ 0 ∷ replicate 5 0xAA ++ (7 ∷ []);
     }
     ∷ record {
-      computed = outcome (setNullCall (characters 2) (row_of (0x41 ∷ 0x42 ∷ 0x43 ∷ [])) 10 0);
+      computed = outcome (set_null_call (characters 2) (row_of (0x41 ∷ 0x42 ∷ 0x43 ∷ [])) 10 0);
       stated = 15 ∷ 0 ∷ row_of (0x41 ∷ 0x42 ∷ 0x43 ∷ []);
     }
     ∷ record {
@@ -63,7 +63,7 @@ table =
     ∷ record {
       computed =
           counted
-          (buildCall false (characters 1 ++ bytes 1) (9 ∷ 0 ∷ 0 ∷ 2 ∷ 0 ∷ 9 ∷ 2 ∷ 0 ∷ 1 ∷ 0 ∷ [])
+          (build_call false (characters 1 ++ bytes 1) (9 ∷ 0 ∷ 0 ∷ 2 ∷ 0 ∷ 9 ∷ 2 ∷ 0 ∷ 1 ∷ 0 ∷ [])
           (0xC3 ∷ 0xA9 ∷ 0x41 ∷ []) (replicate 12 0xAA) (7 ∷ 7 ∷ []));
       stated =
           0 ∷ 12 ∷ 2 ∷ 0 ∷ 2 ∷ 0x80 ∷ 0 ∷ 9 ∷ 0 ∷ 0x0B ∷ 0 ∷ 0xC3 ∷ 0xA9 ∷ 0x41 ∷ 1 ∷ 1 ∷ [];
@@ -73,14 +73,14 @@ table =
     ∷ record { computed = build (characters 0) 1 (0x41 ∷ []); stated = 12 ∷ 0 ∷ lent ++ (7 ∷ []) }
     -- "Schema 10 05 at the end (hexadecimal, cut) gives 1."
     ∷ record {
-      computed = outcome (freshCall false (2 ∷ 0x10 ∷ 5 ∷ []) lent);
+      computed = outcome (fresh_call false (2 ∷ 0x10 ∷ 5 ∷ []) lent);
       stated = 1 ∷ 1 ∷ lent;
     }
     -- "VALUE kinds 14, 15 and 16 stay unknown (10)."
     ∷ record {
       computed =
           counted
-          (buildCall false (characters 2) (0x10 ∷ 0 ∷ 0 ∷ 5 ∷ 0 ∷ []) text lent (7 ∷ []));
+          (build_call false (characters 2) (0x10 ∷ 0 ∷ 0 ∷ 5 ∷ 0 ∷ []) text lent (7 ∷ []));
       stated = 10 ∷ 0 ∷ lent ++ (7 ∷ []);
     }
     ∷ []

@@ -3,7 +3,7 @@
 -- last. Each number, which of two comes first; and lines in their order. No row of a list is above 65,535 bytes, so
 -- that 4 is never given. An answer is number, place and length, then the lent bytes.
 use Rattle.std.specs.Prelude.{ℕ, List, [], ◌∷◌, ◌++◌, length}
-use Rattle.laws.specs.Bytes.{toLe}
+use Rattle.laws.specs.Bytes.{to_le}
 use Rattle.worked.specs.Cases.{Case}
 use Rattle.worked.specs.Calls.{◌gives◌, refused, hex, ascii, zeros, lent, print}
 
@@ -11,7 +11,7 @@ use Rattle.worked.specs.Calls.{◌gives◌, refused, hex, ascii, zeros, lent, pr
 abbrev pub row : ℕ → ℕ → ℕ → List ℕ → List ℕ → List ℕ → List ℕ
 row nulls platform unit arrival departure texts =
     let r = hex "04 00 02 80" ++ ((nulls ∷ platform ∷ 0 ∷ unit ∷ 0 ∷ []) ++ (arrival ++ (departure ++ texts))) in
-    toLe 2 (length r) ++ r
+    to_le 2 (length r) ++ r
 
 -- with a platform alone; with platform and arrival; with both texts, the platform of one byte
 abbrev pub at : List ℕ → List ℕ

@@ -3,17 +3,17 @@
 -- counts.
 use Rattle.std.specs.Prelude.{ℕ, List, [], ◌∷◌, ◌++◌, take}
 use Rattle.worked.specs.Cases.{Case}
-use Rattle.worked.specs.Calls.{◌gives◌, refused, hex, zeros, lent, S, row2, varchars, varcharsRow, read}
+use Rattle.worked.specs.Calls.{◌gives◌, refused, hex, zeros, lent, S, row2, varchars, varchars_row, read}
 
-abbrev pub readS : List ℕ → List ℕ
-readS row = read S row (0 ∷ 1 ∷ 2 ∷ []) [] []
+abbrev pub read_s : List ℕ → List ℕ
+read_s row = read S row (0 ∷ 1 ∷ 2 ∷ []) [] []
 
 -- Date, Varchar(5) and Varchar(5), Date, and a row of both: the date is none, the offset 63 is past the end
-abbrev pub dateText : List ℕ
-dateText = hex "0C 0B 05 00"
+abbrev pub date_text : List ℕ
+date_text = hex "0C 0B 05 00"
 
-abbrev pub textDate : List ℕ
-textDate = hex "0B 05 00 0C"
+abbrev pub text_date : List ℕ
+text_date = hex "0B 05 00 0C"
 
 abbrev pub bad : List ℕ
 bad = hex "02 00 01 80 00 63 00 FF FF FF 7F"
@@ -35,27 +35,27 @@ table =
     -- a long row of 65,536 bytes, of a Bool that is null
     ∷ (read (hex "08") (hex "01 00 00 C0 01" ++ zeros 65531) [] (lent 1) (7 ∷ []) gives 0 ∷ 0 ∷ 1 ∷ 0 ∷ 0 ∷ [])
     -- 4 before 5; 3 (four bytes) before 5; 5 before 6; 6 before 3 (minimum)
-    ∷ (readS (zeros 65536) gives refused 4 0)
-    ∷ (readS [] gives refused 3 0)
-    ∷ (readS (hex "04 00 02") gives refused 3 0)
-    ∷ (readS (hex "04 00 02 80") gives refused 5 0)
-    ∷ (readS (hex "03 00 02 80") gives refused 6 0)
+    ∷ (read_s (zeros 65536) gives refused 4 0)
+    ∷ (read_s [] gives refused 3 0)
+    ∷ (read_s (hex "04 00 02") gives refused 3 0)
+    ∷ (read_s (hex "04 00 02 80") gives refused 5 0)
+    ∷ (read_s (hex "03 00 02 80") gives refused 6 0)
     -- 3 (minimum), which is 13, before 7 and with no column wanted
-    ∷ (readS (hex "03 00 01 80 00 63 00 00 00 00 00 00") gives refused 3 0)
+    ∷ (read_s (hex "03 00 01 80 00 63 00 00 00 00 00 00") gives refused 3 0)
     ∷ (read S (hex "03 00 01 80") [] [] [] gives refused 3 0)
     -- 7: "start > end or end > row length"
-    ∷ (readS (hex "03 00 01 80 04 10 00 01 00 00 00 00 00 41 42") gives refused 7 1)
+    ∷ (read_s (hex "03 00 01 80 04 10 00 01 00 00 00 00 00 41 42") gives refused 7 1)
     ∷ (read (hex "0B 05 00 0B 05 00") behind (0 ∷ []) [] [] gives refused 7 0)
     ∷ (read (hex "0B 05 00 0B 05 00") behind (1 ∷ []) [] [] gives refused 7 1)
     -- 8: a byte that is no text, a text above n bytes
-    ∷ (readS (hex "03 00 01 80 04 0D 00 01 00 00 00 00 00 41 FF") gives refused 8 1)
-    ∷ (readS (hex "03 00 01 80 04 0D 00 01 00 00 00 00 00 41 42 43 44 45 46") gives refused 8 1)
+    ∷ (read_s (hex "03 00 01 80 04 0D 00 01 00 00 00 00 00 41 FF") gives refused 8 1)
+    ∷ (read_s (hex "03 00 01 80 04 0D 00 01 00 00 00 00 00 41 42 43 44 45 46") gives refused 8 1)
     -- "by rising column", of those that are wanted
-    ∷ (read dateText bad (1 ∷ 0 ∷ []) [] [] gives refused 8 0)
-    ∷ (read dateText bad (1 ∷ []) [] [] gives refused 7 1)
-    ∷ (read textDate bad (1 ∷ 0 ∷ []) [] [] gives refused 7 0)
-    ∷ (read textDate bad (1 ∷ []) [] [] gives refused 8 1)
-    ∷ (read textDate bad [] (lent 3) (7 ∷ 7 ∷ []) gives 0 ∷ 0 ∷ 2 ∷ hex "00 00 EE" ++ (0 ∷ 0 ∷ []))
+    ∷ (read date_text bad (1 ∷ 0 ∷ []) [] [] gives refused 8 0)
+    ∷ (read date_text bad (1 ∷ []) [] [] gives refused 7 1)
+    ∷ (read text_date bad (1 ∷ 0 ∷ []) [] [] gives refused 7 0)
+    ∷ (read text_date bad (1 ∷ []) [] [] gives refused 8 1)
+    ∷ (read text_date bad [] (lent 3) (7 ∷ 7 ∷ []) gives 0 ∷ 0 ∷ 2 ∷ hex "00 00 EE" ++ (0 ∷ 0 ∷ []))
     -- 14 is last: for want of a byte, of a number
     ∷ (read S row2 (0 ∷ 1 ∷ 2 ∷ []) (lent 10) (7 ∷ 7 ∷ 7 ∷ []) gives 14 ∷ 0 ∷ 0 ∷ lent 10 ++ (7 ∷ 7 ∷ 7 ∷ []))
     ∷ (read S row2 (0 ∷ 1 ∷ 2 ∷ []) (lent 11) (7 ∷ 7 ∷ []) gives 14 ∷ 0 ∷ 0 ∷ lent 11 ++ (7 ∷ 7 ∷ []))
@@ -66,7 +66,7 @@ table =
     gives 0 ∷ 0 ∷ 7 ∷ hex "02 01 00 00 00 00 00" ++ (0 ∷ 0 ∷ 0 ∷ []))
     -- "A range ends at the next non-zero offset of a higher rank"; an offset inside the header: "the Rust reads from
     -- there"
-    ∷ (read varchars varcharsRow (0 ∷ 1 ∷ 2 ∷ []) (lent 11) (7 ∷ 7 ∷ 7 ∷ [])
+    ∷ (read varchars varchars_row (0 ∷ 1 ∷ 2 ∷ []) (lent 11) (7 ∷ 7 ∷ 7 ∷ [])
     gives 0 ∷ 0 ∷ 11 ∷ hex "09 0B 00 01 00 00 09 0C 00 01 00" ++ (1 ∷ 0 ∷ 1 ∷ []))
     ∷ (read (hex "0B 05 00") (hex "01 00 01 80 00 04 00") (0 ∷ []) (lent 5) (7 ∷ [])
     gives 0 ∷ 0 ∷ 5 ∷ hex "09 04 00 03 00" ++ (3 ∷ []))

@@ -4,8 +4,8 @@ use Rattle.std.specs.Prelude.{ℕ, false, List, [], ◌∷◌, ◌++◌, take}
 use Rattle.error.specs.declared.Answer.{Answer}
 use Rattle.error.specs.declared.Answer.TheVariants.{Done, Refused}
 use Rattle.error.specs.Refusal.{number_of, place_of}
-use Rattle.row_build.specs.Build.{buildCall}
-use Rattle.row_decode.specs.Read.{readCall}
+use Rattle.row_build.specs.Build.{build_call}
+use Rattle.row_decode.specs.Read.{read_call}
 use Rattle.worked.specs.Cases.{Case}
 use Rattle.worked.specs.Calls.{◌gives◌, hex, zeros, lent}
 
@@ -20,10 +20,10 @@ row slot = hex "01 00 00 80 00" ++ slot
 
 abbrev pub write : List ℕ → List ℕ → List ℕ → List ℕ
 write schema value area =
-    let o = buildCall false schema value area (lent 25) (7 ∷ []) in result o.0 o.1.0
+    let o = build_call false schema value area (lent 25) (7 ∷ []) in result o.0 o.1.0
 
 abbrev pub read : List ℕ → List ℕ → List ℕ
-read schema slot = let o = readCall schema (row slot) (0 ∷ []) (lent 18) (7 ∷ []) in result o.0 o.1.0
+read schema slot = let o = read_call schema (row slot) (0 ∷ []) (lent 18) (7 ∷ []) in result o.0 o.1.0
 
 abbrev pub date : List ℕ
 date = hex "0C"

@@ -4,15 +4,15 @@ use Rattle.std.specs.Prelude.{ℕ, false, List, [], ◌∷◌, ◌++◌, replica
 use Rattle.error.specs.Answer.{Counted}
 use Rattle.text.specs.declared.TextCheck.{TextCheck}
 use Rattle.text.specs.declared.TextCheck.TheVariants.{Valid, Invalid}
-use Rattle.text.specs.Rfc3629.{codePoints}
-use Rattle.text.specs.Check.{checkOf}
-use Rattle.row_decode.specs.Read.{readCall}
-use Rattle.row_build.specs.Build.{buildCall}
+use Rattle.text.specs.Rfc3629.{code_points}
+use Rattle.text.specs.Check.{check_of}
+use Rattle.row_decode.specs.Read.{read_call}
+use Rattle.row_build.specs.Build.{build_call}
 use Rattle.worked.specs.Cases.{Case, answered}
 
 -- the check's answer: 1 and the number, or 0 and 0
 abbrev pub checked : List ℕ → List ℕ
-checked s = told (checkOf (codePoints s))
+checked s = told (check_of (code_points s))
   where
     told : TextCheck → List ℕ
     told (Valid n) = 1 ∷ n ∷ []
@@ -48,10 +48,10 @@ numbers n = replicate n 7
 -- "é", "é€", bits 110, null, and the same with the byte a first
 abbrev pub build : ℕ → ℕ → ℕ → List ℕ
 build a room count =
-    counted (buildCall false schema (values 2) (area a) (lent room) (numbers count))
+    counted (build_call false schema (values 2) (area a) (lent room) (numbers count))
 
 abbrev pub read : List ℕ → ℕ → List ℕ
-read wanted count = counted (readCall schema row wanted (lent 16) (numbers count))
+read wanted count = counted (read_call schema row wanted (lent 16) (numbers count))
 
 unfoldable pub table : List Case
 table =
@@ -82,7 +82,7 @@ table =
     ∷ record { computed = read (1 ∷ []) 3; stated = 14 ∷ 0 ∷ lent 16 ++ numbers 3 }
     -- no columns need no list
     ∷ record {
-      computed = counted (buildCall false [] [] [] (lent 4) []);
+      computed = counted (build_call false [] [] [] (lent 4) []);
       stated = 0 ∷ 4 ∷ 0 ∷ 0 ∷ 0 ∷ 0x80 ∷ [];
     }
     ∷ []

@@ -1,5 +1,5 @@
 use borrow.Author.Rules.{rules}
-use Rattle.calendar.proofs.Texts.{pair-digits}
+use Rattle.calendar.proofs.Texts.{pair_digits}
 use Rattle.calendar.proofs.digit_pair.Statement.{statement}
 use Rattle.calendar.proofs.digit_pair.Tie as tie
 
@@ -22,7 +22,7 @@ cast-result : tie.Need-overflow-cast-result
 cast-result c = search rules
 
 returns : tie.Need-returns
-returns c = pair-digits c.args.n c.requires
+returns c = pair_digits c.args.n c.requires
 
 pub digit-pair-spec : {M : Type 1} → statement M
 digit-pair-spec =

@@ -1,5 +1,5 @@
 use borrow.Author.Rules.{rules}
-use Rattle.calendar.proofs.Months.{month-of}
+use Rattle.calendar.proofs.Months.{month_of_lem}
 use Rattle.calendar.proofs.month_day.Statement.{statement}
 use Rattle.calendar.proofs.month_day.Tie as tie
 
@@ -10,7 +10,7 @@ add-n : tie.Need-overflow-add-n
 add-n c = search rules
 
 returns : tie.Need-returns
-returns c = month-of c.args.day c.requires
+returns c = month_of_lem c.args.day c.requires
 
 pub month-day-spec : {M : Type 1} → statement M
 month-day-spec = tie.close (tie.spec mul-n add-n returns)

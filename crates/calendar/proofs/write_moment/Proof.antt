@@ -1,8 +1,8 @@
 use borrow.Author.Rules.{rules}
 use Prim.Native.Nat.{◌/◌}
 use native.Mathlib.Omega.{arith}
-use Rattle.calendar.specs.Moment.{momentText}
-use Rattle.calendar.proofs.Texts.{in-digits, moment-stored}
+use Rattle.calendar.specs.Moment.{moment_text}
+use Rattle.calendar.proofs.Texts.{in_digits, moment_stored}
 use Rattle.calendar.proofs.write_moment.Statement.{statement}
 use Rattle.calendar.proofs.write_moment.Tie as tie
 
@@ -14,8 +14,8 @@ date-of-requires c κs = search rules
 
 write-date-requires : tie.Need-write-date-requires
 write-date-requires c κs =
-    let d = in-digits c.before.date-of.result (c.before.before.before.args.micros / 1000000 / 86400) c.before.date-of.ensures (omega arith) in
-    (search rules, (d.year-fits, (d.month-fits, d.day-fits)))
+    let d = in_digits c.before.date_of_lem.result (c.before.before.before.args.micros / 1000000 / 86400) c.before.date_of_lem.ensures (omega arith) in
+    (search rules, (d.year_fits, (d.month_fits, d.day_fits)))
 
 add-write-time : tie.Need-overflow-add-write-time
 add-write-time c = search rules
@@ -36,10 +36,10 @@ same_length : tie.Need-same-length
 same_length c = search rules
 
 returns : tie.Need-returns
-unfolding momentText
+unfolding moment_text
 returns c =
     let a = c.before.before.before.before.before.before.before.before.before.before.args in
-    moment-stored a.out.now a.at (a.micros / 1000000) c.before.before.before.before.before.before.before.before.date-of.ensures c.before.before.before.before.before.before.write-date.ensures c.before.before.write-time.ensures
+    moment_stored a.out.now a.at (a.micros / 1000000) c.before.before.before.before.before.before.before.before.date_of_lem.ensures c.before.before.before.before.before.before.write-date.ensures c.before.before.write-time.ensures
 
 pub write-moment-spec : {M : Type 1} → statement M
 write-moment-spec =

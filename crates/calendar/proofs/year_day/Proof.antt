@@ -1,5 +1,5 @@
 use borrow.Author.Rules.{rules}
-use Rattle.calendar.proofs.Years.{from-march}
+use Rattle.calendar.proofs.Years.{from_march}
 use Rattle.calendar.proofs.year_day.Statement.{statement}
 use Rattle.calendar.proofs.year_day.Tie as tie
 
@@ -25,7 +25,7 @@ add-t7 : tie.Need-overflow-add-t7
 add-t7 c = search rules
 
 returns : tie.Need-returns
-returns c = from-march c.args.days c.requires
+returns c = from_march c.args.days c.requires
 
 pub year-day-spec : {M : Type 1} → statement M
 year-day-spec =

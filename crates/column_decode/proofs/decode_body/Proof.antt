@@ -7,11 +7,11 @@ use Rattle.datatype.specs.declared.DataType.{DataType}
 use Rattle.datatype.specs.declared.DataType.TheVariants.{Char, Character, Varchar}
 use Rattle.datatype.specs.Check.{type_at, types_in}
 use Rattle.datatype.proofs.KindTable.{varchar-kind, no-varchar}
-use Rattle.datatype.proofs.Plain.{sized-record}
-use Rattle.value.specs.Kinds.{holdsText}
+use Rattle.datatype.proofs.Plain.{sized_record}
+use Rattle.value.specs.Kinds.{holds_text}
 use Rattle.row_column.specs.InnerWalk.{Reachable}
-use Rattle.column_decode.proofs.Counts.{other-no-text, column-uncounted}
-use Rattle.column_decode.proofs.Present.{as-char}
+use Rattle.column_decode.proofs.Counts.{other_no-text, column_uncounted}
+use Rattle.column_decode.proofs.Present.{as_char}
 use Rattle.column_decode.proofs.decode_body.Statement.{statement}
 use Rattle.column_decode.proofs.decode_body.Tie as tie
 use Rattle.endian.proofs.read_u16.Reads as read-u16-reads
@@ -34,7 +34,7 @@ read-u16-requires : tie.Need-read-u16-requires
 read-u16-requires c κs =
     let entry = c.before.before.before.before.before.before in
     let k = get_or entry.args.schema.now entry.args.at 0 in
-    omega (arith, (sized-record entry.args.schema.now entry.args.at entry.requires.0.good (Varchar (eqb k 16)) (varchar-kind k (sym c.before.is-varchar.ensures ∙ c.if1.true))).0)
+    omega (arith, (sized_record entry.args.schema.now entry.args.at entry.requires.0.good (Varchar (eqb k 16)) (varchar-kind k (sym c.before.is-varchar.ensures ∙ c.if1.true))).0)
 
 cast-n : tie.Need-overflow-cast-n
 cast-n c = search rules
@@ -48,7 +48,7 @@ decode-varchar-requires c κs =
     let k = get_or entry.args.schema.now entry.args.at 0 in
     let a = entry.args in
     let n = c.before.before.read-u16.ensures in
-    let typed = sym entry.requires.0.typed ∙ (sized-record entry.args.schema.now entry.args.at entry.requires.0.good (Varchar (eqb k 16)) (varchar-kind k (sym c.before.before.before.before.is-varchar.ensures ∙ c.before.before.before.if1.true))).1 ∙ ap (Varchar (eqb k 16)) (sym n) in
+    let typed = sym entry.requires.0.typed ∙ (sized_record entry.args.schema.now entry.args.at entry.requires.0.good (Varchar (eqb k 16)) (varchar-kind k (sym c.before.before.before.before.is-varchar.ensures ∙ c.before.before.before.if1.true))).1 ∙ ap (Varchar (eqb k 16)) (sym n) in
     let q = subst (λ (t : DataType). Reachable a.layout a.packed a.before t a.row.now) typed entry.requires.0.reach in
     ((q.rank refl, rw c.before.varlen-table-offset.ensures q.table), (entry.requires.0.short, entry.requires.0.room))
 
@@ -61,7 +61,7 @@ returns c =
     let k = get_or entry.args.schema.now entry.args.at 0 in
     let n = c.before.before.before.before.before.read-u16.ensures in
     rw (
-      sym entry.requires.0.typed ∙ (sized-record entry.args.schema.now entry.args.at entry.requires.0.good (Varchar (eqb k 16)) (varchar-kind k (sym c.before.before.before.before.before.before.before.is-varchar.ensures ∙ c.before.before.before.before.before.before.if1.true))).1 ∙ ap (Varchar (eqb k 16)) (sym n),
+      sym entry.requires.0.typed ∙ (sized_record entry.args.schema.now entry.args.at entry.requires.0.good (Varchar (eqb k 16)) (varchar-kind k (sym c.before.before.before.before.before.before.before.is-varchar.ensures ∙ c.before.before.before.before.before.before.if1.true))).1 ∙ ap (Varchar (eqb k 16)) (sym n),
       entry.requires.1,
       ← c.before.before.before.before.varlen-table-offset.ensures,
     )
@@ -73,7 +73,7 @@ add-read-u16-2 c = search rules
 read-u16-requires-2 : tie.Need-read-u16-requires-2
 read-u16-requires-2 c κs =
     let entry = c.before.before.before.before.before.before.before in
-    omega (arith, (sized-record entry.args.schema.now entry.args.at entry.requires.0.good Char (rw c.match.keys1)).0)
+    omega (arith, (sized_record entry.args.schema.now entry.args.at entry.requires.0.good Char (rw c.match.keys1)).0)
 
 cast-n-2 : tie.Need-overflow-cast-n-2
 cast-n-2 c = search rules
@@ -82,7 +82,7 @@ decode-char-requires : tie.Need-decode-char-requires
 decode-char-requires c κs =
     let entry = c.before.before.before.before.before.before.before.before.before in
     let a = entry.args in
-    let typed = sym entry.requires.0.typed ∙ (sized-record entry.args.schema.now entry.args.at entry.requires.0.good Char (rw c.before.before.match.keys1)).1 ∙ ap Char (sym c.before.read-u162.ensures) in
+    let typed = sym entry.requires.0.typed ∙ (sized_record entry.args.schema.now entry.args.at entry.requires.0.good Char (rw c.before.before.match.keys1)).1 ∙ ap Char (sym c.before.read-u162.ensures) in
     (subst (λ (t : DataType). Reachable a.layout a.packed a.before t a.row.now) typed entry.requires.0.reach, (entry.requires.0.short, entry.requires.0.room))
 
 add-read-u16-3 : tie.Need-overflow-add-read-u16-3
@@ -91,7 +91,7 @@ add-read-u16-3 c = search rules
 read-u16-requires-3 : tie.Need-read-u16-requires-3
 read-u16-requires-3 c κs =
     let entry = c.before.before.before.before.before.before.before in
-    omega (arith, (sized-record entry.args.schema.now entry.args.at entry.requires.0.good Character (rw c.match.keys2)).0)
+    omega (arith, (sized_record entry.args.schema.now entry.args.at entry.requires.0.good Character (rw c.match.keys2)).0)
 
 cast-n-3 : tie.Need-overflow-cast-n-3
 cast-n-3 c = search rules
@@ -100,8 +100,8 @@ decode-char-requires-2 : tie.Need-decode-char-requires-2
 decode-char-requires-2 c κs =
     let entry = c.before.before.before.before.before.before.before.before.before in
     let a = entry.args in
-    let typed = sym entry.requires.0.typed ∙ (sized-record entry.args.schema.now entry.args.at entry.requires.0.good Character (rw c.before.before.match.keys2)).1 ∙ ap Character (sym c.before.read-u163.ensures) in
-    (as-char (subst (λ (t : DataType). Reachable a.layout a.packed a.before t a.row.now) typed entry.requires.0.reach), (entry.requires.0.short, entry.requires.0.room))
+    let typed = sym entry.requires.0.typed ∙ (sized_record entry.args.schema.now entry.args.at entry.requires.0.good Character (rw c.before.before.match.keys2)).1 ∙ ap Character (sym c.before.read-u163.ensures) in
+    (as_char (subst (λ (t : DataType). Reachable a.layout a.packed a.before t a.row.now) typed entry.requires.0.reach), (entry.requires.0.short, entry.requires.0.room))
 
 decode-value-requires : tie.Need-decode-value-requires
 decode-value-requires c κs = c.before.before.before.before.before.before.before.before.requires.0
@@ -112,7 +112,7 @@ same-length-2 c = search rules
 returns-2 : tie.Need-returns-2
 returns-2 c =
     let entry = c.before.before.before.before.before.before.before.before.before.before.before.before in
-    rw (sym entry.requires.0.typed ∙ (sized-record entry.args.schema.now entry.args.at entry.requires.0.good Char (rw c.before.before.before.before.before.match.keys1)).1 ∙ ap Char (sym c.before.before.before.before.read-u162.ensures), entry.requires.1) c.before.before.decode-char.ensures
+    rw (sym entry.requires.0.typed ∙ (sized_record entry.args.schema.now entry.args.at entry.requires.0.good Char (rw c.before.before.before.before.before.match.keys1)).1 ∙ ap Char (sym c.before.before.before.before.read-u162.ensures), entry.requires.1) c.before.before.decode-char.ensures
 
 same-length-3 : tie.Need-same-length-3
 same-length-3 c = search rules
@@ -120,7 +120,7 @@ same-length-3 c = search rules
 returns-3 : tie.Need-returns-3
 returns-3 c =
     let entry = c.before.before.before.before.before.before.before.before.before.before.before.before in
-    rw (sym entry.requires.0.typed ∙ (sized-record entry.args.schema.now entry.args.at entry.requires.0.good Character (rw c.before.before.before.before.before.match.keys2)).1 ∙ ap Character (sym c.before.before.before.before.read-u163.ensures), entry.requires.1) c.before.before.decode-char2.ensures
+    rw (sym entry.requires.0.typed ∙ (sized_record entry.args.schema.now entry.args.at entry.requires.0.good Character (rw c.before.before.before.before.before.match.keys2)).1 ∙ ap Character (sym c.before.before.before.before.read-u163.ensures), entry.requires.1) c.before.before.decode-char2.ensures
 
 same-length-4 : tie.Need-same-length-4
 same-length-4 c = search rules
@@ -131,10 +131,10 @@ returns-4 c =
     let a = entry.args in
     let k = c.before.before.before.before.match.rest in
     let no = no-varchar (get_or a.schema.now a.at 0) (sym c.before.before.before.before.before.before.is-varchar.ensures ∙ c.before.before.before.before.before.if1.false) in
-    let other = other-no-text a.schema.now a.at (k.0.1, (k.1, no)) entry.requires.0.good in
+    let other = other_no-text a.schema.now a.at (k.0.1, (k.1, no)) entry.requires.0.good in
     c.before.before.decode-value.ensures
-    ∙ column-uncounted a.layout.is_long a.buf.now a.end a.layout a.packed a.before (type_at (types_in a.schema.now) a.before.num_columns) a.row.now
-    (ap holdsText (sym entry.requires.0.typed) ∙ other)
+    ∙ column_uncounted a.layout.is_long a.buf.now a.end a.layout a.packed a.before (type_at (types_in a.schema.now) a.before.num_columns) a.row.now
+    (ap holds_text (sym entry.requires.0.typed) ∙ other)
 
 pub decode-body-spec : {M : Type 1} → statement M
 decode-body-spec =

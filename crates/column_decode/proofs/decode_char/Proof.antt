@@ -1,5 +1,5 @@
-use Rattle.column_decode.proofs.Counts.{count-char}
-use Rattle.stored_form.specs.Points.{pointsIn}
+use Rattle.column_decode.proofs.Counts.{count_char}
+use Rattle.stored_form.specs.Points.{points_in}
 use Rattle.text.specs.Check.{points}
 use borrow.Author.Rules.{rules}
 use Rattle.column_decode.proofs.decode_char.Statement.{statement}
@@ -49,8 +49,8 @@ returns c =
     let bs = take (start + a.n - start) (drop start a.row.now) in
     rw (← c.before.before.before.before.slot-start.ensures, ← c.before.before.before.before.before.fixed-data-start.ensures.0)
     (c.before.before.char-record.ensures
-    ∙ slot-stepped a.layout.is_long a.buf.now a.end a.before.num_columns (points bs) (pointsIn a.row.now) (read_slot (Char a.n) start bs)
-    (count-char a.row.now start (start + a.n) (omega arith) h a.n))
+    ∙ slot-stepped a.layout.is_long a.buf.now a.end a.before.num_columns (points bs) (points_in a.row.now) (read_slot (Char a.n) start bs)
+    (count_char a.row.now start (start + a.n) (omega arith) h a.n))
 
 pub decode-char-spec : {M : Type 1} → statement M
 decode-char-spec =

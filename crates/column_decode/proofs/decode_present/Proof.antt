@@ -1,4 +1,4 @@
-use Rattle.stored_form.specs.Points.{pointsIn}
+use Rattle.stored_form.specs.Points.{points_in}
 use Rattle.column_decode.proofs.Counts.{count-plain}
 use borrow.Author.Rules.{rules}
 use Rattle.column_decode.proofs.decode_present.Statement.{statement}
@@ -7,8 +7,8 @@ use Rattle.column_decode.specs.InnerColumn.{stepped}
 use Rattle.column_decode.proofs.Present.{slot-stepped, is_some, plain-inside, plain-length, plain-column}
 use Prim.Native.Nat.{◌+◌, ◌-◌}
 use lib.ListN.{get_or, take, drop}
-use Rattle.datatype.specs.Schema.{columnKind}
-use Rattle.datatype.specs.InnerSteps.{plainType}
+use Rattle.datatype.specs.Schema.{column_kind}
+use Rattle.datatype.specs.InnerSteps.{plain_type}
 use Rattle.stored_form.specs.Read.{read_slot}
 use Rattle.column_decode.proofs.decode_present.Tie as tie
 use Rattle.datatype.proofs.plain_size.Reads as plain-size-reads
@@ -66,9 +66,9 @@ returns c =
     let entry = c.before.before.before.before.before.before.before.before.before.before.before.before.before in
     let a = entry.args in
     let start = c.before.before.before.before.before.before.fixed-data-start.result + c.before.before.before.before.before.slot-start.result in
-    c.before.before.plain-record.ensures a.layout.is_long start ∙ slot-stepped a.layout.is_long a.buf.now a.end a.before.num_columns 0 (pointsIn a.row.now) (read_slot (plainType (columnKind (get_or a.schema.now a.at 0))) start (take (start + c.before.before.before.before.before.before.before.before.plain_size.result - start) (drop start a.row.now)))
+    c.before.before.plain_record.ensures a.layout.is_long start ∙ slot-stepped a.layout.is_long a.buf.now a.end a.before.num_columns 0 (points_in a.row.now) (read_slot (plain_type (column_kind (get_or a.schema.now a.at 0))) start (take (start + c.before.before.before.before.before.before.before.before.plain_size.result - start) (drop start a.row.now)))
     (count-plain a.row.now (get_or a.schema.now a.at 0) start (take (start + c.before.before.before.before.before.before.before.before.plain_size.result - start) (drop start a.row.now)) (λ e. c.before.before.before.before.before.before.before.if1.true (c.before.before.before.before.before.before.before.before.plain_size.ensures.0 ∙ e)))
-    ∙ ap (stepped a.layout.is_long a.buf.now a.end (pointsIn a.row.now)) (plain-column entry.args.schema.now entry.args.at entry.args.layout entry.args.packed entry.args.before entry.args.row.now entry.requires.0.typed c.before.before.before.before.before.before.before.if1.true c.before.before.before.before.before.before.before.before.plain_size.ensures.0 (ap₂ ◌+◌ c.before.before.before.before.before.before.fixed-data-start.ensures.0 c.before.before.before.before.before.slot-start.ensures) entry.requires.1)
+    ∙ ap (stepped a.layout.is_long a.buf.now a.end (points_in a.row.now)) (plain-column entry.args.schema.now entry.args.at entry.args.layout entry.args.packed entry.args.before entry.args.row.now entry.requires.0.typed c.before.before.before.before.before.before.before.if1.true c.before.before.before.before.before.before.before.before.plain_size.ensures.0 (ap₂ ◌+◌ c.before.before.before.before.before.before.fixed-data-start.ensures.0 c.before.before.before.before.before.slot-start.ensures) entry.requires.1)
 
 decode-body-requires : tie.Need-decode-body-requires
 decode-body-requires c κs = search rules

@@ -1,13 +1,13 @@
 use borrow.Author.Rules.{rules}
-use Rattle.row_format.specs.Places.{rowLimit}
+use Rattle.row_format.specs.Places.{row_limit}
 use Rattle.column_decode.proofs.decode_value.Statement.{statement}
 use mathlib.Core.Path.{sym, ap, ◌∙◌, subst}
 use lib.ListN.{length}
 use Rattle.datatype.specs.declared.DataType.{DataType}
-use Rattle.row_column.specs.InnerWalk.{walkedColumn, Reachable}
-use Rattle.column_decode.specs.InnerColumn.{stepped, noPoints}
+use Rattle.row_column.specs.InnerWalk.{walked_column, Reachable}
+use Rattle.column_decode.specs.InnerColumn.{stepped, no_points}
 use Rattle.column_decode.proofs.Present.{wider}
-use Rattle.column_decode.proofs.Present.{type-read}
+use Rattle.column_decode.proofs.Present.{type_read}
 use Rattle.column_decode.proofs.decode_value.Tie as tie
 use Rattle.datatype.proofs.record_at.Reads as record-at-reads
 use Rattle.row_column.proofs.read_column.Reads as read-column-reads
@@ -26,12 +26,12 @@ read-column-requires : tie.Need-read-column-requires
 read-column-requires c κs =
     let entry = c.before.before.before.before.before.before.before in
     let a = entry.args in
-    subst (λ (t : DataType). Reachable a.layout a.packed a.before t a.row.now) (sym (type-read c.before.before.before.record-at.ensures c.before.ty.given.1 entry.requires.typed)) entry.requires.reach
+    subst (λ (t : DataType). Reachable a.layout a.packed a.before t a.row.now) (sym (type_read c.before.before.before.record-at.ensures c.before.ty.given.1 entry.requires.typed)) entry.requires.reach
 
 write-column-requires : tie.Need-write-column-requires
 write-column-requires c κs =
     let entry = c.before.before.before.before.before.before.before.before.before in
-    (entry.requires.room, wider c.before.read-column.result (length entry.args.row.now) (rowLimit entry.args.layout.is_long) entry.requires.short c.before.read-column.ensures.1)
+    (entry.requires.room, wider c.before.read-column.result (length entry.args.row.now) (row_limit entry.args.layout.is_long) entry.requires.short c.before.read-column.ensures.1)
 
 returns : tie.Need-returns
 returns c = absurd (c.before.before.before.before.before.before.before.requires.good _ (sym c.before.before.before.record-at.ensures ∙ c.before.e.given.1))
@@ -43,7 +43,7 @@ returns-2 : tie.Need-returns-2
 returns-2 c =
     let entry = c.before.before.before.before.before.before.before.before.before.before.before.before in
     let a = entry.args in
-    c.before.before.write-column.ensures ∙ ap (stepped a.layout.is_long a.buf.now a.end noPoints) (c.before.before.before.before.read-column.ensures.0 ∙ ap (λ (t : DataType). walkedColumn a.layout a.packed a.before t a.row.now) (type-read c.before.before.before.before.before.before.before.before.record-at.ensures c.before.before.before.before.before.before.ty.given.1 entry.requires.typed))
+    c.before.before.write-column.ensures ∙ ap (stepped a.layout.is_long a.buf.now a.end no_points) (c.before.before.before.before.read-column.ensures.0 ∙ ap (λ (t : DataType). walked_column a.layout a.packed a.before t a.row.now) (type_read c.before.before.before.before.before.before.before.before.record-at.ensures c.before.before.before.before.before.before.ty.given.1 entry.requires.typed))
 
 pub decode-value-spec : {M : Type 1} → statement M
 decode-value-spec =

@@ -1,5 +1,5 @@
 use Rattle.column_decode.proofs.Counts.{count-varchar}
-use Rattle.stored_form.specs.Points.{pointsIn}
+use Rattle.stored_form.specs.Points.{points_in}
 use Rattle.text.specs.Check.{points}
 use borrow.Author.Rules.{rules}
 use Rattle.column_decode.proofs.decode_varchar.Statement.{statement}
@@ -51,7 +51,7 @@ returns-2 c =
     let i = rw c.before.before.before.before.before.start.given.1 at c.before.before.before.before.before.before.before.varlen-range.ensures.1 in
     rw (← c.before.before.before.before.before.before.before.varlen-range.ensures.0, c.before.before.before.before.before.start.given.1)
     (c.before.before.varchar-record.ensures
-    ∙ slot-stepped a.is-long a.buf.now a.end a.i (points bs) (pointsIn a.row.now) (read_slot (Varchar a.by-points a.n) part.0 bs)
+    ∙ slot-stepped a.is-long a.buf.now a.end a.i (points bs) (points_in a.row.now) (read_slot (Varchar a.by-points a.n) part.0 bs)
     (count-varchar a.row.now part.0 part.1.0 i.0 i.1 a.by-points a.n))
 
 returns-3 : tie.Need-returns-3

@@ -1,4 +1,4 @@
-use Rattle.value_list.proofs.Records.{record-short, inside-narrow}
+use Rattle.value_list.proofs.Records.{record_short, inside_narrow}
 use native.Mathlib.Omega.{arith}
 use borrow.Author.Rules.{rules}
 use Rattle.column_decode.proofs.write_column.Statement.{statement}
@@ -10,8 +10,8 @@ enum-known-column c = search rules
 write-value-record-requires : tie.Need-write-value-record-requires
 write-value-record-requires c κs =
     let v = c.before.before.column.given in
-    let s = record-short c.before.before.before.before.before.args.is-long v.0.0 in
-    (omega arith, inside-narrow c.before.before.before.before.before.args.is-long v.0.0 (rw v.1 at c.before.before.before.before.before.requires.1))
+    let s = record_short c.before.before.before.before.before.args.is-long v.0.0 in
+    (omega arith, inside_narrow c.before.before.before.before.before.args.is-long v.0.0 (rw v.1 at c.before.before.before.before.before.requires.1))
 
 enum-known-column-2 : tie.Need-enum-known-column-2
 enum-known-column-2 c = search rules

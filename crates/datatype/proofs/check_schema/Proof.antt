@@ -2,8 +2,8 @@ use Rattle.datatype.proofs.check_schema.Statement.{statement}
 use native.Mathlib.Omega.{arith}
 use mathlib.Core.Path.{sym, ◌∙◌}
 use Prim.Native.Nat.{◌-◌}
-use Rattle.datatype.proofs.Walk.{Walking, walk_start, walk_end, walk-over, walk-bad, walk_more}
-use Rattle.datatype.proofs.Plain.{plain-record, plain-added}
+use Rattle.datatype.proofs.Walk.{Walking, walk_start, walk_end, walk_over, walk_bad, walk_more}
+use Rattle.datatype.proofs.Plain.{plain_record, plain_added}
 use borrow.Author.Rules.{rules}
 use Rattle.datatype.proofs.check_schema.Tie as tie
 use Rattle.datatype.proofs.body_at.Reads as body-at-reads
@@ -26,7 +26,7 @@ loop-holds : tie.Need-loop-init invariant-loop decreases-loop
 loop-holds c = rw (c.of-sort.ensures, c.before.new.ensures) (walk_start c.before.before.before.args.is-long c.before.before.before.args.schema.now)
 
 returns : tie.Need-returns invariant-loop decreases-loop
-returns c = (walk-over c.before.before.before.loop.invariant c.before.before.loop-test.true c.if1.true, tt)
+returns c = (walk_over c.before.before.before.loop.invariant c.before.before.loop-test.true c.if1.true, tt)
 
 shared-slice-read-kind : tie.Need-shared-slice-read-kind invariant-loop decreases-loop
 shared-slice-read-kind c = search rules
@@ -47,8 +47,8 @@ loop-again : tie.Need-loop-preserved invariant-loop decreases-loop
 loop-again c =
     let s = c.before.before.before.before.before.before.before.before.before.before.before.args.schema.now in
     let l = c.before.before.before.before.before.before.before.loop in
-    let added = plain-added s l.at l.layout c.before.before.plain_size.ensures.0 c.before.if2.true c.with-column.ensures.0 in
-    rw added (walk_more l.invariant c.before.before.before.before.before.before.loop-test.true c.before.before.before.before.if1.false (plain-record s l.at (λ e. c.before.if2.true (c.before.before.plain_size.ensures.0 ∙ e))) (rw added at c.with-column.ensures.1))
+    let added = plain_added s l.at l.layout c.before.before.plain_size.ensures.0 c.before.if2.true c.with-column.ensures.0 in
+    rw added (walk_more l.invariant c.before.before.before.before.before.before.loop-test.true c.before.before.before.before.if1.false (plain_record s l.at (λ e. c.before.if2.true (c.before.before.plain_size.ensures.0 ∙ e))) (rw added at c.with-column.ensures.1))
 
 body-at-requires : tie.Need-body-at-requires invariant-loop decreases-loop
 body-at-requires c κs = (search rules, sym c.before.plain_size.ensures.0 ∙ c.if2.false)
@@ -59,7 +59,7 @@ enum-known-r c = search rules
 returns-2 : tie.Need-returns-2 invariant-loop decreases-loop
 returns-2 c =
     let l = c.before.before.before.before.before.before.before.before.before.before.loop in
-    (walk-bad l.invariant c.before.before.before.before.before.before.before.before.before.loop-test.true c.before.before.before.before.before.before.before.if1.false (sym c.before.before.before.body_at.ensures ∙ c.before.r.given.1), tt)
+    (walk_bad l.invariant c.before.before.before.before.before.before.before.before.before.loop-test.true c.before.before.before.before.before.before.before.if1.false (sym c.before.before.before.body_at.ensures ∙ c.before.r.given.1), tt)
 
 enum-known-t : tie.Need-enum-known-t invariant-loop decreases-loop
 enum-known-t c = search rules

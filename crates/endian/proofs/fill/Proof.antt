@@ -4,7 +4,7 @@ use mathlib.Core.Path.{◌≡◌, refl, sym, ◌∙◌}
 use native.Mathlib.Nat.{add-zero, sub-zero}
 use lib.ListN.{length, replicate, length-set}
 use lib.Seq.{sets}
-use Rattle.laws.proofs.Stores.{filled, filled-all}
+use Rattle.laws.proofs.Stores.{filled, filled_all}
 use Rattle.endian.proofs.fill.Statement.{statement}
 use Rattle.endian.proofs.fill.Tie as tie
 
@@ -42,7 +42,7 @@ returns : tie.Need-returns invariant-loop decreases-loop
 returns c =
     let a = c.before.before.args in
     let l = c.before.loop in
-    sym (filled-all l.s a.at a.n l.i a.b (search rules)) ∙ l.invariant.1.1
+    sym (filled_all l.s a.at a.n l.i a.b (search rules)) ∙ l.invariant.1.1
 
 pub fill_spec : {M : Type 1} → statement M
 fill_spec =

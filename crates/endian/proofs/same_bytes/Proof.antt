@@ -1,4 +1,4 @@
-use Rattle.laws.proofs.Same.{Comparing, same-lengths, compare-more, compare-other, compare-end}
+use Rattle.laws.proofs.Same.{Comparing, same_lengths, compare_more, compare_other, compare_end}
 use lib.ListN.{length}
 use Prim.Native.Nat.{◌-◌}
 use mathlib.Core.Path.{sym}
@@ -15,7 +15,7 @@ decreases-loop a b i₀ i = length a - i
 returns : tie.Need-returns invariant-loop decreases-loop
 returns c =
     let a = c.before.before.before.args in
-    sym (same-lengths a.a.now a.b.now (search rules))
+    sym (same_lengths a.a.now a.b.now (search rules))
 
 same-words-requires : tie.Need-same-words-requires invariant-loop decreases-loop
 same-words-requires c κs = search rules
@@ -30,7 +30,7 @@ shared-slice-read-if2-2 : tie.Need-shared-slice-read-if2-2 invariant-loop decrea
 shared-slice-read-if2-2 c = let e = c.before.before.before.loop.invariant.lengths in search rules
 
 returns-2 : tie.Need-returns-2 invariant-loop decreases-loop
-returns-2 c = compare-other c.before.before.before.before.loop.invariant (search rules) (search rules)
+returns-2 c = compare_other c.before.before.before.before.loop.invariant (search rules) (search rules)
 
 add-i : tie.Need-overflow-add-i invariant-loop decreases-loop
 add-i c = search rules
@@ -39,10 +39,10 @@ loop-less : tie.Need-loop-smaller invariant-loop decreases-loop
 loop-less c = search rules
 
 loop-again : tie.Need-loop-preserved invariant-loop decreases-loop
-loop-again c = compare-more c.before.before.before.before.loop.invariant (search rules) (search rules)
+loop-again c = compare_more c.before.before.before.before.loop.invariant (search rules) (search rules)
 
 returns-3 : tie.Need-returns-3 invariant-loop decreases-loop
-returns-3 c = compare-end c.before.loop.invariant (search rules)
+returns-3 c = compare_end c.before.loop.invariant (search rules)
 
 pub same-bytes-spec : {M : Type 1} → statement M
 same-bytes-spec =

@@ -1,4 +1,4 @@
-use Rattle.laws.proofs.Same.{Comparing, compare-start, compare-number}
+use Rattle.laws.proofs.Same.{Comparing, compare_start, compare_number}
 use lib.ListN.{length}
 use Prim.Native.Nat.{◌-◌}
 use mathlib.Core.Path.{sym, ◌∙◌}
@@ -13,7 +13,7 @@ abbrev decreases-loop : tie.decreases-loop
 decreases-loop a b n i₀ i = length a - i
 
 loop-holds : tie.Need-loop-init invariant-loop decreases-loop
-loop-holds c = compare-start c.before.before.requires
+loop-holds c = compare_start c.before.before.requires
 
 sub-loop : tie.Need-overflow-sub-loop invariant-loop decreases-loop
 sub-loop c = let h = c.loop.invariant.within in search rules
@@ -41,7 +41,7 @@ loop-again : tie.Need-loop-preserved invariant-loop decreases-loop
 loop-again c =
     let k = c.before.before.before.before.loop.invariant in
     let h = k.within in
-    compare-number k c.before.before.before.before.before.before.shared-slice-known.given
+    compare_number k c.before.before.before.before.before.before.shared-slice-known.given
     c.before.before.before.before.before.shared-slice-known2.given 8 (search rules)
     (sym c.before.before.read_u64.ensures ∙ c.if1.false ∙ c.before.read-u642.ensures)
 

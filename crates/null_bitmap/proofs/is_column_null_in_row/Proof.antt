@@ -1,7 +1,7 @@
 use mathlib.Core.Path.{ap, ◌∙◌}
 use borrow.Author.Rules.{rules}
 use Rattle.laws.proofs.Tests.{by_tests}
-use Rattle.row_format.specs.Places.{rowLimit}
+use Rattle.row_format.specs.Places.{row_limit}
 use Rattle.null_bitmap.proofs.is_column_null_in_row.Statement.{statement}
 use Rattle.null_bitmap.proofs.is_column_null_in_row.Tie as tie
 
@@ -12,7 +12,7 @@ row-limit-requires : tie.Need-row-limit-requires
 row-limit-requires c κs = search rules
 
 returns : tie.Need-returns
-returns c = rw (← (c.before.row-limit.ensures.0 ∙ ap rowLimit c.before.before.is-long.ensures)) (search by_tests)
+returns c = rw (← (c.before.row_limit_lem.ensures.0 ∙ ap row_limit c.before.before.is-long.ensures)) (search by_tests)
 
 bitmap-offset-requires : tie.Need-bitmap-offset-requires
 bitmap-offset-requires c κs = search rules
@@ -20,7 +20,7 @@ bitmap-offset-requires c κs = search rules
 returns-2 : tie.Need-returns-2
 returns-2 c =
     let short = rw c.before.bitmap-offset.ensures at c.if2.true in
-    rw (← (c.before.before.before.row-limit.ensures.0 ∙ ap rowLimit c.before.before.before.before.is-long.ensures)) (search by_tests)
+    rw (← (c.before.before.before.row_limit_lem.ensures.0 ∙ ap row_limit c.before.before.before.before.is-long.ensures)) (search by_tests)
 
 read-u16-requires : tie.Need-read-u16-requires
 read-u16-requires c κs = search rules
@@ -31,7 +31,7 @@ cast-n c = search rules
 returns-3 : tie.Need-returns-3
 returns-3 c =
     let long = rw c.before.before.before.bitmap-offset.ensures at c.before.before.if2.false in
-    rw (← c.before.read-u16.ensures, ← (c.before.before.before.before.before.row-limit.ensures.0 ∙ ap rowLimit c.before.before.before.before.before.before.is-long.ensures)) (search by_tests)
+    rw (← c.before.read-u16.ensures, ← (c.before.before.before.before.before.row_limit_lem.ensures.0 ∙ ap row_limit c.before.before.before.before.before.before.is-long.ensures)) (search by_tests)
 
 add-if4 : tie.Need-overflow-add-if4
 add-if4 c = search rules
@@ -43,7 +43,7 @@ returns-4 : tie.Need-returns-4
 returns-4 c =
     let long = rw c.before.before.before.before.bitmap-offset.ensures at c.before.before.before.if2.false in
     let cut = rw c.before.before.before.before.bitmap-offset.ensures at c.if4.true in
-    rw (← c.before.before.read-u16.ensures, ← (c.before.before.before.before.before.before.row-limit.ensures.0 ∙ ap rowLimit c.before.before.before.before.before.before.before.is-long.ensures)) (search by_tests)
+    rw (← c.before.before.read-u16.ensures, ← (c.before.before.before.before.before.before.row_limit_lem.ensures.0 ∙ ap row_limit c.before.before.before.before.before.before.before.is-long.ensures)) (search by_tests)
 
 column-bit-is-set-requires : tie.Need-column-bit-is-set-requires
 column-bit-is-set-requires c κs = search rules
@@ -53,7 +53,7 @@ returns-5 c =
     let b = c.before.before.before.before.before in
     let long = rw b.bitmap-offset.ensures at c.before.before.before.before.if2.false in
     let whole = rw b.bitmap-offset.ensures at c.before.if4.false in
-    rw (c.column-bit-is-set.ensures, ← c.before.before.before.read-u16.ensures, ← (b.before.before.row-limit.ensures.0 ∙ ap rowLimit b.before.before.before.is-long.ensures)) (search by_tests)
+    rw (c.column-bit-is-set.ensures, ← c.before.before.before.read-u16.ensures, ← (b.before.before.row_limit_lem.ensures.0 ∙ ap row_limit b.before.before.before.is-long.ensures)) (search by_tests)
 
 pub is-column-null-in-row-spec : {M : Type 1} → statement M
 is-column-null-in-row-spec =

@@ -1,5 +1,5 @@
 use borrow.Author.Rules.{rules}
-use Rattle.laws.proofs.Bits.{shifted_one, set-le, clear-lt, put_same, put-clear, put-set, put-none}
+use Rattle.laws.proofs.Bits.{shifted_one, set-le, clear_lt, put_same, put_clear, put-set, put-none}
 use Rattle.null_bitmap.proofs.put_bit.Statement.{statement}
 use Rattle.null_bitmap.proofs.put_bit.Tie as tie
 
@@ -29,7 +29,7 @@ shl-result-2 c = search rules
 add-result : tie.Need-overflow-add-result
 add-result c =
     let a = c.before.before.args in
-    rw (shifted_one a.k (search rules)) (record { fits = clear-lt a.k a.b (search rules) (search rules) c.before.if1.false })
+    rw (shifted_one a.k (search rules)) (record { fits = clear_lt a.k a.b (search rules) (search rules) c.before.if1.false })
 
 returns : tie.Need-returns
 returns c = let a = c.before.before.args in rw c.if2.true (put_same a.k a.b 1 c.before.if1.true)
@@ -37,7 +37,7 @@ returns c = let a = c.before.before.args in rw c.if2.true (put_same a.k a.b 1 c.
 returns-2 : tie.Need-returns-2
 returns-2 c =
     let a = c.before.before.args in
-    rw (c.if2.false, shifted_one a.k (search rules)) (put-clear a.k a.b c.before.if1.true)
+    rw (c.if2.false, shifted_one a.k (search rules)) (put_clear a.k a.b c.before.if1.true)
 
 returns-3 : tie.Need-returns-3
 returns-3 c =

@@ -1,7 +1,7 @@
 use borrow.Author.Rules.{rules}
 use Rattle.numeric.proofs.divided_by.Statement.{statement}
 use Rattle.numeric.proofs.divided_by.Tie as tie
-use Rattle.numeric.proofs.Digits.{upper, halves-divided, upper-part, lower-part}
+use Rattle.numeric.proofs.Digits.{upper, halves_divided, upper_part, lower-part}
 use native.Mathlib.Nat.{mod-lt}
 use native.Mathlib.Omega.{arith}
 
@@ -30,19 +30,19 @@ div-t7 : tie.Need-nonzero-div-t7
 div-t7 c = search rules
 
 mul-t8 : tie.Need-overflow-mul-t8
-mul-t8 c = omega (arith, upper-part c.args.high c.args.low c.args.d c.requires.0 c.ranges.low.fits)
+mul-t8 c = omega (arith, upper_part c.args.high c.args.low c.args.d c.requires.0 c.ranges.low.fits)
 
 div-t9 : tie.Need-nonzero-div-t9
 div-t9 c = search rules
 
 add-t10 : tie.Need-overflow-add-t10
-add-t10 c = omega (arith, upper-part c.args.high c.args.low c.args.d c.requires.0 c.ranges.low.fits, lower-part c.args.high c.args.low c.args.d c.requires.0)
+add-t10 c = omega (arith, upper_part c.args.high c.args.low c.args.d c.requires.0 c.ranges.low.fits, lower-part c.args.high c.args.low c.args.d c.requires.0)
 
 rem-t11 : tie.Need-nonzero-rem-t11
 rem-t11 c = search rules
 
 returns : tie.Need-returns
-returns c = halves-divided c.args.high c.args.low c.args.d c.requires.0
+returns c = halves_divided c.args.high c.args.low c.args.d c.requires.0
 
 pub divided-by-spec : {M : Type 1} → statement M
 divided-by-spec =

@@ -9,13 +9,13 @@ use lib.ListN.{length, get_or, set, drop, length-set}
 use lib.Seq.{sets}
 use Rattle.laws.proofs.Stores.{copied, copied_all}
 use Rattle.numeric.specs.Decimal.{halves}
-use Rattle.numeric.specs.Packed.{encodeBcd}
-use Rattle.numeric.proofs.Packing.{length-encode, digits-at, digits_last, last-digit}
+use Rattle.numeric.specs.Packed.{encode_bcd}
+use Rattle.numeric.proofs.Packing.{length_encode, digits-at, digits_last, last_digit}
 use Rattle.numeric.proofs.digits_of.Reads as digits-of-reads
 use Rattle.numeric.proofs.sign_nibble.Reads as sign-nibble-reads
 
 abbrev invariant-loop : tie.invariant-loop
-invariant-loop s₀ at high low negative p d last j₀ s j = (length s ≡ length s₀) × ((j ≤ last) × (sets s (at + j) (drop j (encodeBcd p negative (halves high low))) ≡ sets s₀ at (encodeBcd p negative (halves high low))))
+invariant-loop s₀ at high low negative p d last j₀ s j = (length s ≡ length s₀) × ((j ≤ last) × (sets s (at + j) (drop j (encode_bcd p negative (halves high low))) ≡ sets s₀ at (encode_bcd p negative (halves high low))))
 
 abbrev decreases-loop : tie.decreases-loop
 decreases-loop s₀ at high low negative p d last j₀ s j = last - j
@@ -55,7 +55,7 @@ loop-again c =
     let l = c.before.loop in
     let x = halves a.high a.low in
     let e = digits-at a.p x pre.1.0 pre.0 a.negative l.j c.loop-test.true in
-    (simp length-set l.invariant.0, (search rules, rw (c.before.before.digits_of.ensures, e) (copied l.s (encodeBcd a.p a.negative x) a.at l.j (rw length-encode (search rules))) ∙ l.invariant.1.1))
+    (simp length-set l.invariant.0, (search rules, rw (c.before.before.digits_of.ensures, e) (copied l.s (encode_bcd a.p a.negative x) a.at l.j (rw length_encode (search rules))) ∙ l.invariant.1.1))
 
 array-read-s-2 : tie.Need-array-read-s-2 invariant-loop decreases-loop
 array-read-s-2 c = search rules
@@ -66,7 +66,7 @@ sign-nibble-requires c κs = search rules
 add-s-3 : tie.Need-overflow-add-s-3 invariant-loop decreases-loop
 add-s-3 c =
     let a = c.before.before.before.before.before.args in
-    let d : get_or c.before.before.before.digits_of.result 19 0 ≤ 144 = rw c.before.before.before.digits_of.ensures (last-digit (halves a.high a.low)) in
+    let d : get_or c.before.before.before.digits_of.result 19 0 ≤ 144 = rw c.before.before.before.digits_of.ensures (last_digit (halves a.high a.low)) in
     omega (arith, d, c.sign-nibble.ensures.1)
 
 add-s-4 : tie.Need-overflow-add-s-4 invariant-loop decreases-loop
@@ -85,12 +85,12 @@ returns c =
     let pre = entry.requires in
     let l = c.before.before.loop in
     let x = halves a.high a.low in
-    let all = encodeBcd a.p a.negative x in
+    let all = encode_bcd a.p a.negative x in
     let k : l.j ≡ a.p / 2 = omega (arith, l.invariant.1.0, c.before.loop-test.false) in
     let e = digits_last a.p x pre.1.0 pre.0 a.negative in
     rw (c.before.before.before.digits_of.ensures, c.sign-nibble.ensures.0, e)
-    (sym (copied_all (set l.s (a.at + a.p / 2) (get_or all (a.p / 2) 0)) all a.at (a.p / 2 + 1) (rw length-encode (omega arith)))
-    ∙ copied l.s all a.at (a.p / 2) (rw length-encode (omega arith)) ∙ rw k at l.invariant.1.1)
+    (sym (copied_all (set l.s (a.at + a.p / 2) (get_or all (a.p / 2) 0)) all a.at (a.p / 2 + 1) (rw length_encode (omega arith)))
+    ∙ copied l.s all a.at (a.p / 2) (rw length_encode (omega arith)) ∙ rw k at l.invariant.1.1)
 
 pub encode-numeric-bcd-spec : {M : Type 1} → statement M
 encode-numeric-bcd-spec =

@@ -8,7 +8,7 @@ use lib.ListN.{length, length-set}
 use Rattle.numeric.specs.Decimal.{halves, digits}
 use Rattle.numeric.specs.Packed.{pairs}
 use Rattle.numeric.proofs.Digits.{no-high}
-use Rattle.numeric.proofs.Packing.{length-thirty-nine, Filling, halves-room, fill-nine, fill-long, fill-eight}
+use Rattle.numeric.proofs.Packing.{length_thirty_nine, Filling, halves-room, fill_nine, fill_long, fill_eight}
 use Rattle.numeric.proofs.divided_by.Reads as divided-by-reads
 use Rattle.numeric.proofs.put_eight.Reads as put-eight-reads
 use Rattle.numeric.proofs.put_pairs.Reads as put-pairs-reads
@@ -44,28 +44,28 @@ loop-holds : tie.Need-loop-init invariant-loop decreases-loop
 loop-holds c =
     let a = c.before.before.before.before.before.before.before.before in
     let d = c.before.before.before.before.before.before.divided-by.ensures in
-    rw (c.before.before.put-eight.ensures, a.requires, d.0, d.1) (fill-nine (halves a.args.high a.args.low) (halves-room _ _ a.ranges.high.fits a.ranges.low.fits))
+    rw (c.before.before.put-eight.ensures, a.requires, d.0, d.1) (fill_nine (halves a.args.high a.args.low) (halves-room _ _ a.ranges.high.fits a.ranges.low.fits))
 
 divided-by-requires-2 : tie.Need-divided-by-requires-2 invariant-loop decreases-loop
 divided-by-requires-2 c κs = (lit≤ tt, lit≤ tt)
 
 sub-i : tie.Need-overflow-sub-i invariant-loop decreases-loop
-sub-i c = fill-long c.before.before.loop.invariant (omega (arith, c.before.loop-test.true))
+sub-i c = fill_long c.before.before.loop.invariant (omega (arith, c.before.loop-test.true))
 
 put-eight-requires-2 : tie.Need-put-eight-requires-2 invariant-loop decreases-loop
 put-eight-requires-2 c κs =
-    let k = fill-long c.before.before.before.loop.invariant (omega (arith, c.before.before.loop-test.true)) in
+    let k = fill_long c.before.before.before.loop.invariant (omega (arith, c.before.before.loop-test.true)) in
     let r = c.before.divided-by2.ensures.1 in
     (omega (arith, r), omega (arith, k, c.before.before.before.loop.invariant.fresh.inside))
 
 loop-less : tie.Need-loop-smaller invariant-loop decreases-loop
-loop-less c = let k = fill-long c.before.before.before.before.before.before.loop.invariant (omega (arith, c.before.before.before.before.before.loop-test.true)) in omega (arith, k)
+loop-less c = let k = fill_long c.before.before.before.before.before.before.loop.invariant (omega (arith, c.before.before.before.before.before.loop-test.true)) in omega (arith, k)
 
 loop-again : tie.Need-loop-preserved invariant-loop decreases-loop
 loop-again c =
     let f = c.before.before.before.before.before.before.loop.invariant in
     let d = c.before.before.before.before.divided-by2.ensures in
-    rw (c.before.before.put-eight2.ensures, d.0, d.1) (fill-eight f (fill-long f (omega (arith, c.before.before.before.before.before.loop-test.true))))
+    rw (c.before.before.put-eight2.ensures, d.0, d.1) (fill_eight f (fill_long f (omega (arith, c.before.before.before.before.before.loop-test.true))))
 
 put-pairs-requires : tie.Need-put-pairs-requires invariant-loop decreases-loop
 put-pairs-requires c κs =
@@ -81,7 +81,7 @@ returns c =
 same_length : tie.Need-same-length invariant-loop decreases-loop
 same_length c =
     let entry = c.before.before.before.before.before.before.before.before.before.before.before.before.before.before in
-    ap length (returns c) ∙ length-thirty-nine (halves entry.args.high entry.args.low) ∙ sym (ap length entry.requires)
+    ap length (returns c) ∙ length_thirty_nine (halves entry.args.high entry.args.low) ∙ sym (ap length entry.requires)
 
 pub long-digits-spec : {M : Type 1} → statement M
 long-digits-spec =

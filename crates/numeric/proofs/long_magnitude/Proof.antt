@@ -3,7 +3,7 @@ use lib.ListN.{take, drop}
 use borrow.Author.Rules.{rules}
 use Rattle.numeric.specs.Decimal.{halves}
 use Rattle.numeric.specs.Packed.{nibbles}
-use Rattle.numeric.proofs.Reading.{Reading, reading-start, window_more, window-bad, window-long, long-fits}
+use Rattle.numeric.proofs.Reading.{Reading, reading_start, window_more, window_bad, window_long, long-fits}
 use Rattle.numeric.proofs.long_magnitude.Statement.{statement}
 use Rattle.numeric.proofs.long_magnitude.Tie as tie
 
@@ -14,7 +14,7 @@ abbrev decreases-loop : tie.decreases-loop
 decreases-loop bytes front p high₀ low₀ k₀ high low k = p - k
 
 loop-holds : tie.Need-loop-init invariant-loop decreases-loop
-loop-holds c = (reading-start _, search rules)
+loop-holds c = (reading_start _, search rules)
 
 add-nibble-at : tie.Need-overflow-add-nibble-at invariant-loop decreases-loop
 add-nibble-at c = search rules
@@ -25,7 +25,7 @@ nibble-at-requires c κs = search rules
 returns : tie.Need-returns invariant-loop decreases-loop
 returns c =
     let a = c.before.before.before.before.before.args in
-    window-bad a.bytes.now a.front a.p (search rules) c.before.before.before.loop.invariant.0 c.before.before.loop-test.true c.before.nibble-at.ensures c.if1.true
+    window_bad a.bytes.now a.front a.p (search rules) c.before.before.before.loop.invariant.0 c.before.before.loop-test.true c.before.nibble-at.ensures c.if1.true
 
 with-digit-requires : tie.Need-with-digit-requires invariant-loop decreases-loop
 with-digit-requires c κs =
@@ -50,7 +50,7 @@ returns-2 : tie.Need-returns-2 invariant-loop decreases-loop
 returns-2 c =
     let a = c.before.before.before.args in
     let l = c.before.loop in
-    window-long a.bytes.now a.front a.p (search rules) l.high l.low l.invariant.0 l.invariant.1 c.loop-test.false
+    window_long a.bytes.now a.front a.p (search rules) l.high l.low l.invariant.0 l.invariant.1 c.loop-test.false
 
 pub long-magnitude-spec : {M : Type 1} → statement M
 long-magnitude-spec =

@@ -1,5 +1,5 @@
 use borrow.Author.Rules.{rules}
-use Rattle.numeric.proofs.Reading.{nibble-upper, nibble-lower}
+use Rattle.numeric.proofs.Reading.{nibble_upper, nibble_lower}
 use Rattle.numeric.proofs.nibble_at.Statement.{statement}
 use Rattle.numeric.proofs.nibble_at.Tie as tie
 
@@ -12,12 +12,12 @@ shared-slice-read-result-2 c = search rules
 returns : tie.Need-returns
 returns c =
     let a = c.before.before.args in
-    nibble-upper a.bytes.now a.k (search rules)
+    nibble_upper a.bytes.now a.k (search rules)
 
 returns-2 : tie.Need-returns-2
 returns-2 c =
     let a = c.before.before.args in
-    nibble-lower a.bytes.now a.k (search rules)
+    nibble_lower a.bytes.now a.k (search rules)
 
 pub nibble-at-spec : {M : Type 1} → statement M
 nibble-at-spec =

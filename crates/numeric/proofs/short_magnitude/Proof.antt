@@ -2,7 +2,7 @@ use Prim.Native.Nat.{◌-◌}
 use lib.ListN.{take, drop}
 use borrow.Author.Rules.{rules}
 use Rattle.numeric.specs.Packed.{nibbles}
-use Rattle.numeric.proofs.Reading.{Reading, reading-start, window_more, window-bad, window-short, short-fits}
+use Rattle.numeric.proofs.Reading.{Reading, reading_start, window_more, window_bad, window_short, short-fits}
 use Rattle.numeric.proofs.short_magnitude.Statement.{statement}
 use Rattle.numeric.proofs.short_magnitude.Tie as tie
 
@@ -13,7 +13,7 @@ abbrev decreases-loop : tie.decreases-loop
 decreases-loop bytes front p n₀ k₀ n k = p - k
 
 loop-holds : tie.Need-loop-init invariant-loop decreases-loop
-loop-holds c = reading-start _
+loop-holds c = reading_start _
 
 add-nibble-at : tie.Need-overflow-add-nibble-at invariant-loop decreases-loop
 add-nibble-at c = search rules
@@ -24,7 +24,7 @@ nibble-at-requires c κs = search rules
 returns : tie.Need-returns invariant-loop decreases-loop
 returns c =
     let a = c.before.before.before.before.before.args in
-    window-bad a.bytes.now a.front a.p (search rules) c.before.before.before.loop.invariant c.before.before.loop-test.true c.before.nibble-at.ensures c.if1.true
+    window_bad a.bytes.now a.front a.p (search rules) c.before.before.before.loop.invariant c.before.before.loop-test.true c.before.nibble-at.ensures c.if1.true
 
 mul-n : tie.Need-overflow-mul-n invariant-loop decreases-loop
 mul-n c =
@@ -55,7 +55,7 @@ loop-again c =
 returns-2 : tie.Need-returns-2 invariant-loop decreases-loop
 returns-2 c =
     let a = c.before.before.before.args in
-    window-short a.bytes.now a.front a.p (search rules) c.before.loop.invariant (search rules) c.loop-test.false
+    window_short a.bytes.now a.front a.p (search rules) c.before.loop.invariant (search rules) c.loop-test.false
 
 pub short-magnitude-spec : {M : Type 1} → statement M
 short-magnitude-spec =

@@ -3,7 +3,7 @@ use Prim.Native.Nat.{ℕ, ◌+◌}
 use mathlib.Core.Path.{ap, subst, ◌∙◌}
 use native.Mathlib.Omega.{arith}
 use Rattle.row_layout.specs.InnerRange.{Inside}
-use Rattle.occupation.specs.InnerRead.{momentColumn}
+use Rattle.occupation.specs.InnerRead.{moment_column}
 use Rattle.occupation.proofs.Rows.{good-sort, good_length, read_again}
 use borrow.Author.Rules.{rules}
 use Rattle.occupation.proofs.fields_of.Statement.{statement}
@@ -64,8 +64,8 @@ returns c =
     let p = c.before.before.before.before.arrival-place.ensures in
     let a = c.before.before.before.read-moment in
     let d = c.before.read-moment2 in
-    let ea = a.ensures.0 ∙ ap (λ (at : ℕ). momentColumn 2 at r) p in
-    let ed = d.ensures.0 ∙ ap (λ (at : ℕ). momentColumn 3 (at + 8) r) p in
+    let ea = a.ensures.0 ∙ ap (λ (at : ℕ). moment_column 2 at r) p in
+    let ed = d.ensures.0 ∙ ap (λ (at : ℕ). moment_column 3 (at + 8) r) p in
     rw (← b.is-long.ensures, c.before.before.before.before.before.before.before.Span-of.ensures, c.before.before.before.before.before.span-of2.ensures, c.before.before.count_of.ensures, c.count-of2.ensures, t.0, u.0)
     (read_again k r (subst (Inside r) t.0 t.1) (subst (Inside r) u.0 u.1) a.result d.result ea ed a.ensures.1 d.ensures.1 (good-sort r b.is-long.ensures b.before.before.requires))
 

@@ -5,13 +5,13 @@ use mathlib.Core.Bool.{◌||◌}
 use native.Mathlib.Omega.{arith}
 use lib.ListN.{length, drop}
 use borrow.Author.Rules.{rules}
-use Rattle.occupation.specs.Occupation.{isUnprintable}
+use Rattle.occupation.specs.Occupation.{is_unprintable}
 use Rattle.occupation.proofs.Texts.{seen_next, seen_all}
 use Rattle.occupation.proofs.is_unprintable.Statement.{statement}
 use Rattle.occupation.proofs.is_unprintable.Tie as tie
 
 abbrev invariant-loop : tie.invariant-loop
-invariant-loop text found₀ i₀ found i = (i ≤ length text) × ((found || isUnprintable (drop i text)) ≡ isUnprintable text)
+invariant-loop text found₀ i₀ found i = (i ≤ length text) × ((found || is_unprintable (drop i text)) ≡ is_unprintable text)
 
 abbrev decreases-loop : tie.decreases-loop
 decreases-loop text found₀ i₀ found i = length text - i

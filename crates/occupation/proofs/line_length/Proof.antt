@@ -22,7 +22,7 @@ moment-length-requires c κs = search rules
 add-result : tie.Need-overflow-add-result
 add-result c =
     let l = line-short c.before.before.before.args.f c.before.before.before.requires in
-    record { fits = omega (arith, c.before.before.text-length.ensures, c.before.text-length2.ensures, c.moment-length.ensures) }
+    record { fits = omega (arith, c.before.before.text-length.ensures, c.before.text-length2.ensures, c.moment_length_lem.ensures) }
 
 moment-length-requires-2 : tie.Need-moment-length-requires-2
 moment-length-requires-2 c κs = search rules
@@ -30,17 +30,17 @@ moment-length-requires-2 c κs = search rules
 add-result-2 : tie.Need-overflow-add-result-2
 add-result-2 c =
     let l = line-short c.before.before.before.before.args.f c.before.before.before.before.requires in
-    record { fits = omega (arith, c.before.before.before.text-length.ensures, c.before.before.text-length2.ensures, c.before.moment-length.ensures, c.moment-length2.ensures) }
+    record { fits = omega (arith, c.before.before.before.text-length.ensures, c.before.before.text-length2.ensures, c.before.moment_length_lem.ensures, c.moment-length2.ensures) }
 
 add-result-3 : tie.Need-overflow-add-result-3
 add-result-3 c =
     let l = line-short c.before.before.before.before.args.f c.before.before.before.before.requires in
-    record { fits = omega (arith, c.before.before.before.text-length.ensures, c.before.before.text-length2.ensures, c.before.moment-length.ensures, c.moment-length2.ensures) }
+    record { fits = omega (arith, c.before.before.before.text-length.ensures, c.before.before.text-length2.ensures, c.before.moment_length_lem.ensures, c.moment-length2.ensures) }
 
 returns : tie.Need-returns
 returns c =
     let l = line-short c.before.before.before.before.args.f c.before.before.before.before.requires in
-    (omega (arith, c.before.before.before.text-length.ensures, c.before.before.text-length2.ensures, c.before.moment-length.ensures, c.moment-length2.ensures), omega (arith, c.before.before.before.text-length.ensures, c.before.before.text-length2.ensures, c.before.moment-length.ensures, c.moment-length2.ensures))
+    (omega (arith, c.before.before.before.text-length.ensures, c.before.before.text-length2.ensures, c.before.moment_length_lem.ensures, c.moment-length2.ensures), omega (arith, c.before.before.before.text-length.ensures, c.before.before.text-length2.ensures, c.before.moment_length_lem.ensures, c.moment-length2.ensures))
 
 pub line-length-spec : {M : Type 1} → statement M
 line-length-spec =

@@ -1,6 +1,6 @@
 -- `precedes` meets its contract.
 use mathlib.Core.Path.{sym, ◌∙◌}
-use Rattle.occupation.specs.InnerFields.{fieldsShown}
+use Rattle.occupation.specs.InnerFields.{fields_shown}
 use Rattle.occupation.proofs.Compare.{by_both, moments}
 use borrow.Author.Rules.{rules}
 use Rattle.occupation.proofs.precedes.Statement.{statement}
@@ -19,15 +19,15 @@ enum-told-3 : tie.Need-enum-told-3
 enum-told-3 c = search rules
 
 returns : tie.Need-returns
-returns c = let a = c.before.before.before.before.before.args in by_both (fieldsShown a.a-row.now a.a) (fieldsShown a.b-row.now a.b) (sym c.enum_told.given.1 ∙ c.before.before.compare-platforms.ensures)
+returns c = let a = c.before.before.before.before.before.args in by_both (fields_shown a.a-row.now a.a) (fields_shown a.b-row.now a.b) (sym c.enum_told.given.1 ∙ c.before.before.compare-platforms.ensures)
 
 returns-2 : tie.Need-returns-2
-returns-2 c = let a = c.before.before.before.before.before.args in by_both (fieldsShown a.a-row.now a.a) (fieldsShown a.b-row.now a.b) (sym c.enum-told2.given.1 ∙ c.before.before.compare-platforms.ensures)
+returns-2 c = let a = c.before.before.before.before.before.args in by_both (fields_shown a.a-row.now a.a) (fields_shown a.b-row.now a.b) (sym c.enum-told2.given.1 ∙ c.before.before.compare-platforms.ensures)
 
 returns-3 : tie.Need-returns-3
 returns-3 c =
     let a = c.before.before.before.before.before.before.before.args in
-    moments a.a.arrival a.b.arrival ∙ by_both (fieldsShown a.a-row.now a.a) (fieldsShown a.b-row.now a.b) (sym c.before.before.enum-told3.given.1 ∙ c.before.before.before.before.compare-platforms.ensures)
+    moments a.a.arrival a.b.arrival ∙ by_both (fields_shown a.a-row.now a.a) (fields_shown a.b-row.now a.b) (sym c.before.before.enum-told3.given.1 ∙ c.before.before.before.before.compare-platforms.ensures)
 
 pub precedes-spec : {M : Type 1} → statement M
 precedes-spec =

@@ -1,6 +1,6 @@
 use Prim.Native.Nat.{ℕ}
 use mathlib.Core.Path.{ap, ◌∙◌}
-use Rattle.occupation.specs.InnerRead.{momentColumn}
+use Rattle.occupation.specs.InnerRead.{moment_column}
 use borrow.Author.Rules.{rules}
 use Rattle.occupation.proofs.read_arrival.Statement.{statement}
 use Rattle.occupation.proofs.read_arrival.Tie as tie
@@ -22,12 +22,12 @@ read-departure-requires c κs = let p = c.before.before.before.before.before.bef
 
 returns : tie.Need-returns
 returns c =
-    let e = c.before.before.before.read-moment.ensures.0 ∙ ap (λ (at : ℕ). momentColumn 2 at c.before.before.before.before.before.before.args.row.now) c.before.before.before.before.arrival-place.ensures in
+    let e = c.before.before.before.read-moment.ensures.0 ∙ ap (λ (at : ℕ). moment_column 2 at c.before.before.before.before.before.before.args.row.now) c.before.before.before.before.arrival-place.ensures in
     (rw (← e, c.before.e.given.1), tt)
 
 returns-2 : tie.Need-returns-2
 returns-2 c =
-    let e = c.before.before.before.before.read-moment.ensures.0 ∙ ap (λ (at : ℕ). momentColumn 2 at c.before.before.before.before.before.before.before.args.row.now) c.before.before.before.before.before.arrival-place.ensures in
+    let e = c.before.before.before.before.read-moment.ensures.0 ∙ ap (λ (at : ℕ). moment_column 2 at c.before.before.before.before.before.before.before.args.row.now) c.before.before.before.before.before.arrival-place.ensures in
     (rw (← e, c.before.before.arrival.given.1) c.read-departure.ensures.0, c.read-departure.ensures.1)
 
 pub read-arrival-spec : {M : Type 1} → statement M

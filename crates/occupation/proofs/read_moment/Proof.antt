@@ -5,13 +5,13 @@ use native.Mathlib.Omega.{arith}
 use lib.ListN.{take, drop}
 use mir.Syntax.{w64}
 use mir.Val.{to_z}
-use Rattle.laws.specs.Bytes.{fromLe}
+use Rattle.laws.specs.Bytes.{from_le}
 use Rattle.error.specs.Result.{ok}
 use Rattle.calendar.specs.declared.Moment.TheVariants.{Micros, OutOfRange}
-use Rattle.calendar.specs.InnerMoment.{momentOf}
-use Rattle.calendar.proofs.Since.{moment-lt}
-use Rattle.occupation.specs.InnerFields.{momentFrom}
-use Rattle.occupation.proofs.Reading.{momentRead, moment-null, moment-told}
+use Rattle.calendar.specs.InnerMoment.{moment_of}
+use Rattle.calendar.proofs.Since.{moment_lt}
+use Rattle.occupation.specs.InnerFields.{moment_from}
+use Rattle.occupation.proofs.Reading.{moment_read, moment_null, moment_told}
 use borrow.Author.Rules.{rules}
 use Rattle.occupation.proofs.read_moment.Statement.{statement}
 use Rattle.occupation.proofs.read_moment.Tie as tie
@@ -22,7 +22,7 @@ column-bit-is-set-requires c κs = search rules
 returns : tie.Need-returns
 returns c =
     let a = c.before.before.before.args in
-    (moment-null a.column a.at a.row.now (sym c.before.column-bit-is-set.ensures ∙ c.if1.true), omega arith)
+    (moment_null a.column a.at a.row.now (sym c.before.column-bit-is-set.ensures ∙ c.if1.true), omega arith)
 
 read-u64-requires : tie.Need-read-u64-requires
 read-u64-requires c κs = search rules
@@ -36,10 +36,10 @@ enum-known-micros c = search rules
 add-t9 : tie.Need-overflow-add-t9
 add-t9 c =
     let a = c.before.before.before.before.before.before.before.before.args in
-    let z = to_z w64 (fromLe (take 8 (drop a.at a.row.now))) in
-    let e : momentOf z ≡ Micros c.before.micros.given.0.0 = sym (c.before.before.before.moment-of.ensures ∙ ap (λ (n : ℕ). momentOf (to_z w64 n)) c.before.before.before.before.read_u64.ensures) ∙ c.before.micros.given.1 in
-    let t = moment-told a.column a.at a.row.now (sym c.before.before.before.before.before.before.column-bit-is-set.ensures ∙ c.before.before.before.before.before.if1.false) in
-    let m = moment-lt z c.before.micros.given.0.0 e in
+    let z = to_z w64 (from_le (take 8 (drop a.at a.row.now))) in
+    let e : moment_of z ≡ Micros c.before.micros.given.0.0 = sym (c.before.before.before.moment-of.ensures ∙ ap (λ (n : ℕ). moment_of (to_z w64 n)) c.before.before.before.before.read_u64.ensures) ∙ c.before.micros.given.1 in
+    let t = moment_told a.column a.at a.row.now (sym c.before.before.before.before.before.before.column-bit-is-set.ensures ∙ c.before.before.before.before.before.if1.false) in
+    let m = moment_lt z c.before.micros.given.0.0 e in
     record { fits = omega arith }
 
 enum_told : tie.Need-enum-told
@@ -48,20 +48,20 @@ enum_told c = search rules
 returns-2 : tie.Need-returns-2
 returns-2 c =
     let a = c.before.before.before.before.before.before.before.before.args in
-    let z = to_z w64 (fromLe (take 8 (drop a.at a.row.now))) in
-    let e : momentOf z ≡ Micros c.before.micros.given.0.0 = sym (c.before.before.before.moment-of.ensures ∙ ap (λ (n : ℕ). momentOf (to_z w64 n)) c.before.before.before.before.read_u64.ensures) ∙ c.before.micros.given.1 in
-    let t = moment-told a.column a.at a.row.now (sym c.before.before.before.before.before.before.column-bit-is-set.ensures ∙ c.before.before.before.before.before.if1.false) in
-    let m = moment-lt z c.before.micros.given.0.0 e in
+    let z = to_z w64 (from_le (take 8 (drop a.at a.row.now))) in
+    let e : moment_of z ≡ Micros c.before.micros.given.0.0 = sym (c.before.before.before.moment-of.ensures ∙ ap (λ (n : ℕ). moment_of (to_z w64 n)) c.before.before.before.before.read_u64.ensures) ∙ c.before.micros.given.1 in
+    let t = moment_told a.column a.at a.row.now (sym c.before.before.before.before.before.before.column-bit-is-set.ensures ∙ c.before.before.before.before.before.if1.false) in
+    let m = moment_lt z c.before.micros.given.0.0 e in
     let n : c.before.micros.given.0.0 + 1 ≡ suc c.before.micros.given.0.0 = omega arith in
-    (ap (λ (k : ℕ). ok (momentFrom k)) n ∙ (sym (ap (momentRead a.column) e) ∙ t), omega arith)
+    (ap (λ (k : ℕ). ok (moment_from k)) n ∙ (sym (ap (moment_read a.column) e) ∙ t), omega arith)
 
 returns-3 : tie.Need-returns-3
 returns-3 c =
     let a = c.before.before.before.before.before.before.before.args in
-    let z = to_z w64 (fromLe (take 8 (drop a.at a.row.now))) in
-    let e : momentOf z ≡ OutOfRange = sym (c.before.before.moment-of.ensures ∙ ap (λ (n : ℕ). momentOf (to_z w64 n)) c.before.before.before.read_u64.ensures) ∙ c.enum_told.given.1 in
-    let t = moment-told a.column a.at a.row.now (sym c.before.before.before.before.before.column-bit-is-set.ensures ∙ c.before.before.before.before.if1.false) in
-    (sym (ap (momentRead a.column) e) ∙ t, tt)
+    let z = to_z w64 (from_le (take 8 (drop a.at a.row.now))) in
+    let e : moment_of z ≡ OutOfRange = sym (c.before.before.moment-of.ensures ∙ ap (λ (n : ℕ). moment_of (to_z w64 n)) c.before.before.before.read_u64.ensures) ∙ c.enum_told.given.1 in
+    let t = moment_told a.column a.at a.row.now (sym c.before.before.before.before.before.column-bit-is-set.ensures ∙ c.before.before.before.before.if1.false) in
+    (sym (ap (moment_read a.column) e) ∙ t, tt)
 
 pub read-moment-spec : {M : Type 1} → statement M
 read-moment-spec =

@@ -2,7 +2,7 @@
 use mathlib.Core.Path.{sym, ◌∙◌}
 use native.Mathlib.Omega.{arith}
 use lib.ListN.{length}
-use Rattle.occupation.proofs.Reading.{text-long, text-good, text-bad, text-null, text-outside, text_in, null-in}
+use Rattle.occupation.proofs.Reading.{text-long, text-good, text-bad, text-null, text_outside, text_in_lem, null_in}
 use borrow.Author.Rules.{rules}
 use Rattle.occupation.proofs.read_text.Statement.{statement}
 use Rattle.occupation.proofs.read_text.Tie as tie
@@ -46,17 +46,17 @@ returns-2 c =
     let a = c.before.before.before.before.before.before.before.before.before.args in
     let q = sym c.before.before.before.before.before.start.given.1 ∙ c.before.before.before.before.before.before.before.text-range.ensures.0 in
     let w = rw c.before.before.before.before.before.start.given.1 at c.before.before.before.before.before.before.before.text-range.ensures.1 in
-    (text-good a.is-long a.n a.column a.row.now q w (search rules) (sym c.before.is-valid.ensures ∙ c.if2.true), text_in a.is-long a.n a.column a.row.now q w (search rules))
+    (text-good a.is-long a.n a.column a.row.now q w (search rules) (sym c.before.is-valid.ensures ∙ c.if2.true), text_in_lem a.is-long a.n a.column a.row.now q w (search rules))
 
 returns-3 : tie.Need-returns-3
 returns-3 c =
     let a = c.before.before.before.before.args in
-    (text-null a.is-long a.n a.column a.row.now (sym c.enum_told.given.1 ∙ c.before.before.text-range.ensures.0), null-in (length a.row.now) a.n)
+    (text-null a.is-long a.n a.column a.row.now (sym c.enum_told.given.1 ∙ c.before.before.text-range.ensures.0), null_in (length a.row.now) a.n)
 
 returns-4 : tie.Need-returns-4
 returns-4 c =
     let a = c.before.before.before.before.args in
-    (text-outside a.is-long a.n a.column a.row.now (sym c.enum-told2.given.1 ∙ c.before.before.text-range.ensures.0), tt)
+    (text_outside a.is-long a.n a.column a.row.now (sym c.enum-told2.given.1 ∙ c.before.before.text-range.ensures.0), tt)
 
 returns-5 : tie.Need-returns-5
 returns-5 c =

@@ -5,9 +5,9 @@ use native.Mathlib.Omega.{arith}
 use lib.ListN.{length}
 use lib.Seq.{sets}
 use borrow.Author.Tests.{ne_eqb}
-use Rattle.calendar.specs.Moment.{momentText}
-use Rattle.occupation.specs.Line.{orHyphen}
-use Rattle.occupation.specs.InnerFields.{momentFrom}
+use Rattle.calendar.specs.Moment.{moment_text}
+use Rattle.occupation.specs.Line.{or_hyphen}
+use Rattle.occupation.specs.InnerFields.{moment_from}
 use borrow.Author.Rules.{rules}
 use Rattle.occupation.proofs.write_moment.Statement.{statement}
 use Rattle.occupation.proofs.write_moment.Tie as tie
@@ -52,7 +52,7 @@ returns-2 c =
     let a = c.before.before.before.before.before.before.args in
     let z : a.count ≡ 0 → ⊥ = λ e. search rules in
     let n : a.count ≡ suc (a.count - 1) = omega (arith, z) in
-    let t : momentText (a.count - 1) ≡ orHyphen momentText (momentFrom a.count) = ap (λ (k : ℕ). orHyphen momentText (momentFrom k)) (sym n) in
+    let t : moment_text (a.count - 1) ≡ or_hyphen moment_text (moment_from a.count) = ap (λ (k : ℕ). or_hyphen moment_text (moment_from k)) (sym n) in
     (rw (ne_eqb a.count 0 z), c.before.before.write-moment.ensures ∙ ap (sets a.out.now a.at) t)
 
 pub write-moment-spec : {M : Type 1} → statement M

@@ -2,10 +2,10 @@
 use Prim.Native.Nat.{ℕ}
 use mathlib.Core.List.{List}
 use native.Mathlib.Omega.{arith}
-use Rattle.calendar.specs.Moment.{momentText}
-use Rattle.occupation.specs.Line.{orHyphen}
-use Rattle.occupation.specs.InnerFields.{momentFrom, momentLength}
-use Rattle.occupation.proofs.Lines.{length-count, byte-behind}
+use Rattle.calendar.specs.Moment.{moment_text}
+use Rattle.occupation.specs.Line.{or_hyphen}
+use Rattle.occupation.specs.InnerFields.{moment_from, moment_length}
+use Rattle.occupation.proofs.Lines.{length-count, byte_behind}
 use borrow.Author.Rules.{rules}
 use Rattle.occupation.proofs.write_moment_field.Statement.{statement}
 use Rattle.occupation.proofs.write_moment_field.Tie as tie
@@ -26,8 +26,8 @@ returns : tie.Need-returns
 returns c =
     let a = c.before.before.before.before.before.args in
     let e = c.before.before.write-moment.ensures in
-    let w : List ℕ = orHyphen momentText (momentFrom a.count) in
-    (omega (arith, e.0), rw e.0 (byte-behind a.out.now w a.at (momentLength a.count) a.mark (length-count a.count) e.1))
+    let w : List ℕ = or_hyphen moment_text (moment_from a.count) in
+    (omega (arith, e.0), rw e.0 (byte_behind a.out.now w a.at (moment_length a.count) a.mark (length-count a.count) e.1))
 
 pub write-moment-field-spec : {M : Type 1} → statement M
 write-moment-field-spec =

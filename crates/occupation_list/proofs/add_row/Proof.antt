@@ -1,6 +1,6 @@
 use mathlib.Core.Path.{sym, ap, ◌∙◌}
-use Rattle.occupation.specs.Occupation.{occupationIn}
-use Rattle.occupation.proofs.Lengths.{fields-short}
+use Rattle.occupation.specs.Occupation.{occupation_in}
+use Rattle.occupation.proofs.Lengths.{fields_short}
 use Rattle.occupation_list.proofs.Places.{read_known, read-refused, add_row}
 use borrow.Author.Rules.{rules}
 use Rattle.occupation_list.proofs.add_row.Statement.{statement}
@@ -28,10 +28,10 @@ insert-requires : tie.Need-insert-requires
 insert-requires c κs = search rules
 
 line-length-requires : tie.Need-line-length-requires
-line-length-requires c κs = fields-short (read_known c.before.before.before.before.before.before.before.before.before.before.row_at.result.now c.before.before.before.before.before.before.before.before.before.read.result c.before.before.before.before.before.before.before.f.given.1 c.before.before.before.before.before.before.before.before.before.read.ensures).bounds
+line-length-requires c κs = fields_short (read_known c.before.before.before.before.before.before.before.before.before.before.row_at.result.now c.before.before.before.before.before.before.before.before.before.read.result c.before.before.before.before.before.before.before.f.given.1 c.before.before.before.before.before.before.before.before.before.read.ensures).bounds
 
 returns : tie.Need-returns
-returns c = ap occupationIn (sym c.before.before.before.before.row_at.ensures) ∙ read-refused c.before.before.before.before.row_at.result.now c.before.before.before.read.result c.before.e.given.1 c.before.before.before.read.ensures.0
+returns c = ap occupation_in (sym c.before.before.before.before.row_at.ensures) ∙ read-refused c.before.before.before.before.row_at.result.now c.before.before.before.read.result c.before.e.given.1 c.before.before.before.read.ensures.0
 
 same_length : tie.Need-same-length
 same_length c = search rules

@@ -1,7 +1,7 @@
 use mathlib.Core.Path.{ap, ◌∙◌}
 use Rattle.occupation.specs.Order.{precedes}
-use Rattle.occupation.specs.InnerFields.{fieldsShown}
-use Rattle.occupation_list.proofs.Places.{good-at, known_at, known-fields}
+use Rattle.occupation.specs.InnerFields.{fields_shown}
+use Rattle.occupation_list.proofs.Places.{good-at, known_at, known_fields}
 use borrow.Author.Rules.{rules}
 use Rattle.occupation_list.proofs.precedes_placed.Statement.{statement}
 use Rattle.occupation_list.proofs.precedes_placed.Tie as tie
@@ -16,7 +16,7 @@ precedes-requires : tie.Need-precedes-requires
 precedes-requires c κs = search rules
 
 returns : tie.Need-returns
-returns c = c.precedes.ensures ∙ ap (precedes (fieldsShown c.before.before.before.before.before.args.row.now c.before.before.before.before.before.args.f)) (known_at c.before.before.before.before.before.args.list.now c.before.before.before.before.before.args.at c.before.before.row_at.result.now c.before.before.row_at.ensures (known-fields c.before.before.row_at.result.now c.before.fields-of.ensures))
+returns c = c.precedes.ensures ∙ ap (precedes (fields_shown c.before.before.before.before.before.args.row.now c.before.before.before.before.before.args.f)) (known_at c.before.before.before.before.before.args.list.now c.before.before.before.before.before.args.at c.before.before.row_at.result.now c.before.before.row_at.ensures (known_fields c.before.before.row_at.result.now c.before.fields-of.ensures))
 
 pub precedes-placed-spec : {M : Type 1} → statement M
 precedes-placed-spec =

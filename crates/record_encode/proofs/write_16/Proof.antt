@@ -1,5 +1,5 @@
 use Rattle.laws.proofs.Stores.{sets_then}
-use Rattle.laws.specs.Bytes.{toLe}
+use Rattle.laws.specs.Bytes.{to_le}
 use mathlib.Core.Path.{refl}
 use mathlib.Core.List.{[], ◌∷◌}
 use borrow.Author.Rules.{rules}
@@ -22,7 +22,7 @@ same_length : tie.Need-same-length
 same_length c = search rules
 
 returns : tie.Need-returns
-returns c = let a = c.before.before.before.before.before.before.before.before.before.args in (refl, sets_then a.out.now a.at 1 (a.kind ∷ []) (toLe 2 a.x) refl c.before.before.before.before.before.before.put.ensures c.before.before.write-u16.ensures)
+returns c = let a = c.before.before.before.before.before.before.before.before.before.args in (refl, sets_then a.out.now a.at 1 (a.kind ∷ []) (to_le 2 a.x) refl c.before.before.before.before.before.before.put.ensures c.before.before.write-u16.ensures)
 
 pub write-16-spec : {M : Type 1} → statement M
 write-16-spec =

@@ -1,6 +1,6 @@
 use mathlib.Core.Path.{refl}
 use borrow.Author.Rules.{rules}
-use Rattle.value.specs.Kinds.{longKind}
+use Rattle.value.specs.Kinds.{long_kind}
 use Rattle.record_encode.proofs.Ranges.{range-stored}
 use Rattle.record_encode.proofs.write_long_range.Statement.{statement}
 use Rattle.record_encode.proofs.write_long_range.Tie as tie
@@ -38,7 +38,7 @@ same_length c = search rules
 returns : tie.Need-returns
 returns c =
     let a = c.before.before.before.before.before.before.before.before.before.before.before.before.before.before.before.before.args in
-    (refl, range-stored 4 a.at (longKind a.kind) a.r a.out.now (rw c.before.before.before.before.before.before.before.before.before.before.before.before.before.long-kind.ensures at c.before.before.before.before.before.before.before.before.before.before.before.before.put.ensures) c.before.before.before.before.before.before.before.write-u32.ensures c.before.before.write-u322.ensures)
+    (refl, range-stored 4 a.at (long_kind a.kind) a.r a.out.now (rw c.before.before.before.before.before.before.before.before.before.before.before.before.before.long-kind.ensures at c.before.before.before.before.before.before.before.before.before.before.before.before.put.ensures) c.before.before.before.before.before.before.before.write-u32.ensures c.before.before.write-u322.ensures)
 
 pub write-long-range-spec : {M : Type 1} → statement M
 write-long-range-spec =

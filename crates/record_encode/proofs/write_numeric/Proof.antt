@@ -1,5 +1,5 @@
 use Rattle.laws.proofs.Stores.{sets_then}
-use Rattle.laws.specs.Bytes.{toLe}
+use Rattle.laws.specs.Bytes.{to_le}
 use mir.ValLaws.{to_z-of_z}
 use mir.Val.{of_z, SFits}
 use mir.Syntax.{w64}
@@ -39,8 +39,8 @@ same_length c = search rules
 returns : tie.Need-returns
 returns c =
     let a = c.before.before.before.before.before.before.before.before.before.before.before.before.before.before.before.before.before.before.args in
-    let low = toLe 8 a.n.low in
-    let high = toLe 8 (of_z w64 a.n.high) in
+    let low = to_le 8 a.n.low in
+    let high = to_le 8 (of_z w64 a.n.high) in
     let fits : SFits w64 a.n.high = search rules in
     let one = sets_then a.out.now a.at 1 (6 ∷ []) low refl c.before.before.before.before.before.before.before.before.before.before.before.before.before.before.before.put.ensures c.before.before.before.before.before.before.before.before.before.before.before.write-u64.ensures in
     let two = sets_then a.out.now a.at 9 (6 ∷ low) high refl one (rw (to_z-of_z w64 a.n.high fits) at c.before.before.before.before.before.before.write-i64.ensures) in

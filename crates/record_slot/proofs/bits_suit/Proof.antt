@@ -1,5 +1,5 @@
 use mathlib.Core.Path.{refl}
-use Rattle.record_slot.proofs.Held.{bits-outside, bits-told}
+use Rattle.record_slot.proofs.Held.{bits_outside, bits_told}
 use Rattle.record_slot.proofs.Tests.{start_is, length-is}
 use borrow.Author.Rules.{rules}
 use Rattle.record_slot.proofs.bits_suit.Statement.{statement}
@@ -18,7 +18,7 @@ returns c =
     let entry = c.before.before.before.before in
     let a = entry.args in
     let q = c.before.range_at in
-    rw (← start_is q.ensures.0, ← length-is q.ensures.0) (bits-outside a.n q.result.start q.result.length a.text.now c.if1.true)
+    rw (← start_is q.ensures.0, ← length-is q.ensures.0) (bits_outside a.n q.result.start q.result.length a.text.now c.if1.true)
 
 byte-count-requires : tie.Need-byte-count-requires
 byte-count-requires c κs = search rules
@@ -28,7 +28,7 @@ returns-2 c =
     let entry = c.before.before.before.before.before in
     let a = entry.args in
     let q = c.before.before.range_at in
-    rw (← start_is q.ensures.0, ← length-is q.ensures.0) (bits-told a.n q.result.start q.result.length a.text.now c.before.if1.false c.byte-count.ensures refl)
+    rw (← start_is q.ensures.0, ← length-is q.ensures.0) (bits_told a.n q.result.start q.result.length a.text.now c.before.if1.false c.byte-count.ensures refl)
 
 pub bits-suit-spec : {M : Type 1} → statement M
 bits-suit-spec =

@@ -1,10 +1,10 @@
 use native.Mathlib.Omega.{arith}
 use mathlib.Core.Bool.{false}
 use mathlib.Core.Path.{refl}
-use Rattle.row_format.specs.Places.{offsetWidth}
-use Rattle.value_list.specs.Records.{rangeAt}
-use Rattle.record_slot.proofs.Forms.{text-there}
-use Rattle.record_slot.proofs.Points.{few-points, range-within, filled-points}
+use Rattle.row_format.specs.Places.{offset_width}
+use Rattle.value_list.specs.Records.{range_at}
+use Rattle.record_slot.proofs.Forms.{text_there}
+use Rattle.record_slot.proofs.Points.{few-points, range-within, filled_points}
 use Rattle.record_slot.proofs.Tests.{start_is, length-is}
 use borrow.Author.Rules.{rules}
 use Rattle.record_slot.proofs.char_points.Statement.{statement}
@@ -19,7 +19,7 @@ text-points-requires : tie.Need-text-points-requires
 text-points-requires c κs =
     let entry = c.before.before.before in
     let a = entry.args in
-    (entry.requires.0, text-there false a.n (rangeAt (offsetWidth a.is-long) a.values.now a.body) a.text.now entry.requires.1.1)
+    (entry.requires.0, text_there false a.n (range_at (offset_width a.is-long) a.values.now a.body) a.text.now entry.requires.1.1)
 
 sub-result : tie.Need-overflow-sub-result
 sub-result c =
@@ -40,8 +40,8 @@ returns c =
     let s = rw (← start_is q.ensures.0, ← length-is q.ensures.0) at entry.requires.1.1 in
     let k = rw (← start_is q.ensures.0, ← length-is q.ensures.0) at c.before.text-points.ensures.0 in
     let h = range-within a.n q.result a.text.now s in
-    let f = rw (← k) at (few-points q.result a.text.now (text-there false a.n q.result a.text.now s)) in
-    rw (← start_is q.ensures.0, ← length-is q.ensures.0) (filled-points a.n q.result a.text.now s k refl, omega (arith, f, h))
+    let f = rw (← k) at (few-points q.result a.text.now (text_there false a.n q.result a.text.now s)) in
+    rw (← start_is q.ensures.0, ← length-is q.ensures.0) (filled_points a.n q.result a.text.now s k refl, omega (arith, f, h))
 
 pub char-points-spec : {M : Type 1} → statement M
 char-points-spec =

@@ -2,9 +2,9 @@ use native.Mathlib.Omega.{arith}
 use mathlib.Core.Path.{◌≡◌, ◌∙◌, sym, ap}
 use lib.ListN.{get_or}
 use borrow.Author.Tests.{eqb-true, eqb-false, not-true, not-false}
-use Rattle.value.specs.Kinds.{plainKind}
-use Rattle.record_slot.proofs.Held.{null-plain, body-within}
-use Rattle.record_slot.proofs.Forms.{null-payload, wrong-kind, testable, unsuitable, found-payload, found-short}
+use Rattle.value.specs.Kinds.{plain_kind}
+use Rattle.record_slot.proofs.Held.{null-plain, body_within}
+use Rattle.record_slot.proofs.Forms.{null-payload, wrong_kind, testable, unsuitable, found_payload, found_short}
 use borrow.Author.Rules.{rules}
 use Rattle.record_slot.proofs.payload_at.Statement.{statement}
 use Rattle.record_slot.proofs.payload_at.Tie as tie
@@ -21,7 +21,7 @@ shared-slice-read-given c = search rules
 returns : tie.Need-returns
 returns c =
     let entry = c.before.before.before.before.before in
-    (null-payload entry.requires.0 entry.args.column entry.args.text.now (ap plainKind c.if1.true), omega arith)
+    (null-payload entry.requires.0 entry.args.column entry.args.text.now (ap plain_kind c.if1.true), omega arith)
 
 shared-slice-read-column-kind : tie.Need-shared-slice-read-column-kind
 shared-slice-read-column-kind c = search rules
@@ -36,7 +36,7 @@ returns-2 : tie.Need-returns-2
 returns-2 c =
     let entry = c.before.before.before.before.before.before.before.before.before in
     let other = eqb-false _ _ (sym c.before.is-of-kind.ensures ∙ not-true _ c.if2.true) in
-    (wrong-kind entry.requires.0 entry.args.column entry.args.text.now (λ e. c.before.before.before.before.if1.false (null-plain _ e)) (λ e. other (e ∙ sym c.before.before.held-kind.ensures)), tt)
+    (wrong_kind entry.requires.0 entry.args.column entry.args.text.now (λ e. c.before.before.before.before.if1.false (null-plain _ e)) (λ e. other (e ∙ sym c.before.before.held-kind.ensures)), tt)
 
 is-long-kind-requires : tie.Need-is-long-kind-requires
 is-long-kind-requires c κs = search rules
@@ -52,7 +52,7 @@ suits-at-requires c κs =
     let entry = c.before.before.before.before.before.before.before.before.before.before.before in
     let a = entry.args in
     let d = c.declared-length.ensures in
-    let same : plainKind (get_or c.before.before.before.before.before.before.before.before.before.before.before.args.values.now c.before.before.before.before.before.before.before.before.before.before.before.args.from 0) ≡ c.before.before.before.before.held-kind.result = eqb-true _ _ (sym c.before.before.before.is-of-kind.ensures ∙ not-false _ c.before.before.if2.false) in
+    let same : plain_kind (get_or c.before.before.before.before.before.before.before.before.before.before.before.args.values.now c.before.before.before.before.before.before.before.before.before.before.before.args.from 0) ≡ c.before.before.before.before.held-kind.result = eqb-true _ _ (sym c.before.before.before.is-of-kind.ensures ∙ not-false _ c.before.before.if2.false) in
     rw (sym same, c.before.is-long-kind.ensures) (testable entry.requires.0 a.column a.text.now (λ e. c.before.before.before.before.before.before.if1.false (null-plain _ e)) (same ∙ c.before.before.before.before.held-kind.ensures) d.0 d.1)
 
 add-payload-length : tie.Need-overflow-add-payload-length
@@ -60,27 +60,27 @@ add-payload-length c = search rules
 
 payload-length-requires : tie.Need-payload-length-requires
 payload-length-requires c κs =
-    let same : plainKind (get_or c.before.before.before.before.before.before.before.before.before.before.before.before.before.args.values.now c.before.before.before.before.before.before.before.before.before.before.before.before.before.args.from 0) ≡ c.before.before.before.before.before.before.held-kind.result = eqb-true _ _ (sym c.before.before.before.before.before.is-of-kind.ensures ∙ not-false _ c.before.before.before.before.if2.false) in
-    rw (sym same, c.before.before.before.is-long-kind.ensures) (body-within c.before.before.before.before.before.before.before.before.before.before.before.before.before.requires.0)
+    let same : plain_kind (get_or c.before.before.before.before.before.before.before.before.before.before.before.before.before.args.values.now c.before.before.before.before.before.before.before.before.before.before.before.before.before.args.from 0) ≡ c.before.before.before.before.before.before.held-kind.result = eqb-true _ _ (sym c.before.before.before.before.before.is-of-kind.ensures ∙ not-false _ c.before.before.before.before.if2.false) in
+    rw (sym same, c.before.before.before.is-long-kind.ensures) (body_within c.before.before.before.before.before.before.before.before.before.before.before.before.before.requires.0)
 
 returns-3 : tie.Need-returns-3
 returns-3 c =
     let entry = c.before.before.before.before.before.before.before.before.before.before.before.before.before.before in
     let a = entry.args in
     let p = entry.requires in
-    let same : plainKind (get_or c.before.before.before.before.before.before.before.before.before.before.before.before.before.before.args.values.now c.before.before.before.before.before.before.before.before.before.before.before.before.before.before.args.from 0) ≡ c.before.before.before.before.before.before.before.held-kind.result = eqb-true _ _ (sym c.before.before.before.before.before.before.is-of-kind.ensures ∙ not-false _ c.before.before.before.before.before.if2.false) in
+    let same : plain_kind (get_or c.before.before.before.before.before.before.before.before.before.before.before.before.before.before.args.values.now c.before.before.before.before.before.before.before.before.before.before.before.before.before.before.args.from 0) ≡ c.before.before.before.before.before.before.before.held-kind.result = eqb-true _ _ (sym c.before.before.before.before.before.before.is-of-kind.ensures ∙ not-false _ c.before.before.before.before.before.if2.false) in
     let l = c.before.before.before.before.is-long-kind.ensures in
     let h = same ∙ c.before.before.before.before.before.before.before.held-kind.ensures in
     let d = c.before.before.before.declared-length.ensures.0 in
     let f = rw (sym same, l) at c.before.before.suits-at.ensures in
     rw (c.payload-length.ensures, sym same, l)
-    (found-payload p.0 a.column a.text.now (λ e. c.before.before.before.before.before.before.before.before.before.if1.false (null-plain _ e)) h d f c.before.if3.true, found-short p.0 a.column a.text.now (λ e. c.before.before.before.before.before.before.before.before.before.if1.false (null-plain _ e)) h d f c.before.if3.true p.1)
+    (found_payload p.0 a.column a.text.now (λ e. c.before.before.before.before.before.before.before.before.before.if1.false (null-plain _ e)) h d f c.before.if3.true, found_short p.0 a.column a.text.now (λ e. c.before.before.before.before.before.before.before.before.before.if1.false (null-plain _ e)) h d f c.before.if3.true p.1)
 
 returns-4 : tie.Need-returns-4
 returns-4 c =
     let entry = c.before.before.before.before.before.before.before.before.before.before.before.before.before in
     let a = entry.args in
-    let same : plainKind (get_or c.before.before.before.before.before.before.before.before.before.before.before.before.before.args.values.now c.before.before.before.before.before.before.before.before.before.before.before.before.before.args.from 0) ≡ c.before.before.before.before.before.before.held-kind.result = eqb-true _ _ (sym c.before.before.before.before.before.is-of-kind.ensures ∙ not-false _ c.before.before.before.before.if2.false) in
+    let same : plain_kind (get_or c.before.before.before.before.before.before.before.before.before.before.before.before.before.args.values.now c.before.before.before.before.before.before.before.before.before.before.before.before.before.args.from 0) ≡ c.before.before.before.before.before.before.held-kind.result = eqb-true _ _ (sym c.before.before.before.before.before.is-of-kind.ensures ∙ not-false _ c.before.before.before.before.if2.false) in
     let f = rw (sym same, c.before.before.before.is-long-kind.ensures) at c.before.suits-at.ensures in
     (unsuitable entry.requires.0 a.column a.text.now (λ e. c.before.before.before.before.before.before.before.before.if1.false (null-plain _ e)) (same ∙ c.before.before.before.before.before.before.held-kind.ensures) c.before.before.declared-length.ensures.0 f c.if3.false, tt)
 

@@ -1,14 +1,14 @@
-use Rattle.datatype.specs.Types.{countsPoints}
-use Rattle.datatype.specs.Schema.{columnRecordAt}
-use Rattle.datatype.specs.InnerSteps.{typeIn}
+use Rattle.datatype.specs.Types.{counts_points}
+use Rattle.datatype.specs.Schema.{column_record_at}
+use Rattle.datatype.specs.InnerSteps.{type_in}
 use native.Mathlib.Omega.{arith}
 use mathlib.Core.Path.{sym, ◌∙◌}
 use Prim.Native.Nat.{◌+◌}
 use lib.ListN.{get_or}
-use Rattle.value_list.specs.Records.{rangeAt, rangeWidth}
-use Rattle.record_slot.specs.InnerSteps.{declaredAt}
-use Rattle.record_slot.proofs.Forms.{within-at, text-there}
-use Rattle.record_slot.proofs.Points.{text-ready, char-counted, varchar-counted, none-counted}
+use Rattle.value_list.specs.Records.{range_at, range_width}
+use Rattle.record_slot.specs.InnerSteps.{declared_at}
+use Rattle.record_slot.proofs.Forms.{within-at, text_there}
+use Rattle.record_slot.proofs.Points.{text_ready, char_counted, varchar-counted, none-counted}
 use Rattle.record_slot.proofs.Forms.{given-null, given-value, held_found}
 use borrow.Author.Rules.{rules}
 use Rattle.record_slot.proofs.points_at.Statement.{statement}
@@ -49,7 +49,7 @@ char-points-requires c κs =
     let g = held_found p.0 m c.before.before.before.held-kind.ensures in
     let d = c.declared-length.ensures in
     let k = sym g ∙ c.before.match.keys1 in
-    rw c.before.before.is-long-kind.ensures (within-at p.0 8 k, (d.1, rw d.0 (text-ready p.0 p.1 8 k (omega arith))))
+    rw c.before.before.is-long-kind.ensures (within-at p.0 8 k, (d.1, rw d.0 (text_ready p.0 p.1 8 k (omega arith))))
 
 cast-result : tie.Need-overflow-cast-result
 cast-result c =
@@ -66,7 +66,7 @@ text-points-requires c κs =
     let g = held_found p.0 m c.before.before.held-kind.ensures in
     let k = sym g ∙ c.match.keys2 in
     rw c.before.is-long-kind.ensures
-    (within-at p.0 9 k, text-there (countsPoints (typeIn (columnRecordAt a.schema.now a.at))) (declaredAt a.schema.now a.at) (rangeAt (rangeWidth (get_or a.values.now a.from 0)) a.values.now (a.from + 1)) a.text.now (text-ready p.0 p.1 9 k (omega arith)))
+    (within-at p.0 9 k, text_there (counts_points (type_in (column_record_at a.schema.now a.at))) (declared_at a.schema.now a.at) (range_at (range_width (get_or a.values.now a.from 0)) a.values.now (a.from + 1)) a.text.now (text_ready p.0 p.1 9 k (omega arith)))
 
 cast-result-2 : tie.Need-overflow-cast-result-2
 cast-result-2 c =
@@ -79,7 +79,7 @@ returns-2 c =
     let m = (p.1 (given-value p.0 c.before.before.before.before.before.before.if1.false)).match in
     let g = held_found p.0 m c.before.before.before.before.held-kind.ensures in
     let k = sym g ∙ c.before.before.match.keys1 in
-    rw (c.before.declared-length.ensures.0, c.before.before.before.is-long-kind.ensures) at c.char-points.ensures.0 ∙ char-counted p.0 p.1 k
+    rw (c.before.declared-length.ensures.0, c.before.before.before.is-long-kind.ensures) at c.char-points.ensures.0 ∙ char_counted p.0 p.1 k
 
 returns-3 : tie.Need-returns-3
 returns-3 c =

@@ -1,9 +1,9 @@
 use mathlib.Core.Path.{◌≡◌}
-use Rattle.datatype.specs.Schema.{columnKind}
-use Rattle.record_slot.specs.InnerSteps.{declaredAt, slotSize}
-use Rattle.record_slot.proofs.Forms.{plain_size, slot-bytes}
-use Rattle.datatype.proofs.Plain.{plain-facts, plain-record}
-use Rattle.datatype.specs.InnerSteps.{plainSize, typeIn}
+use Rattle.datatype.specs.Schema.{column_kind}
+use Rattle.record_slot.specs.InnerSteps.{declared_at, slot_size}
+use Rattle.record_slot.proofs.Forms.{plain_size_lem, slot-bytes}
+use Rattle.datatype.proofs.Plain.{plain_facts, plain_record}
+use Rattle.datatype.specs.InnerSteps.{plain_size, type_in}
 use Rattle.datatype.specs.Types.{size_of}
 use Rattle.datatype.specs.declared.Record.{Record}
 use borrow.Author.Tests.{ne_eqb}
@@ -29,8 +29,8 @@ returns : tie.Need-returns
 returns c =
     let a = c.before.before.before.before.args in
     let kind = get_or a.schema.now a.at 0 in
-    let some : plainSize (columnKind kind) ≡ 0 → ⊥ = λ e. c.if1.true (c.before.plain_size.ensures.0 ∙ e) in
-    c.before.plain_size.ensures.0 ∙ sym (ap (λ (x : Record). size_of (typeIn x)) (plain-record a.schema.now a.at some) ∙ (plain-facts kind some).sized)
+    let some : plain_size (column_kind kind) ≡ 0 → ⊥ = λ e. c.if1.true (c.before.plain_size.ensures.0 ∙ e) in
+    c.before.plain_size.ensures.0 ∙ sym (ap (λ (x : Record). size_of (type_in x)) (plain_record a.schema.now a.at some) ∙ (plain_facts kind some).sized)
 
 shared-slice-read-held-kind : tie.Need-shared-slice-read-held-kind
 shared-slice-read-held-kind c = search rules
@@ -59,26 +59,26 @@ body-length-requires c κs = search rules
 returns-2 : tie.Need-returns-2
 returns-2 c =
     let p = c.before.before.before.before.before.before.before.before.requires in
-    ap (λ (k : ℕ). slotSize k c.declared-length.result) (sym c.before.match.keys1) ∙ slot-bytes p c.before.before.held-kind.ensures c.declared-length.ensures.0
+    ap (λ (k : ℕ). slot_size k c.declared-length.result) (sym c.before.match.keys1) ∙ slot-bytes p c.before.before.held-kind.ensures c.declared-length.ensures.0
 
 returns-3 : tie.Need-returns-3
 returns-3 c =
     let p = c.before.before.before.before.before.before.before.before.requires in
-    ap (λ (k : ℕ). slotSize k c.declared-length2.result) (sym c.before.match.keys2) ∙ slot-bytes p c.before.before.held-kind.ensures c.declared-length2.ensures.0
+    ap (λ (k : ℕ). slot_size k c.declared-length2.result) (sym c.before.match.keys2) ∙ slot-bytes p c.before.before.held-kind.ensures c.declared-length2.ensures.0
 
 returns-4 : tie.Need-returns-4
 returns-4 c =
     let entry = c.before.before.before.before.before.before.before in
-    ap (λ (k : ℕ). slotSize k (declaredAt entry.args.schema.now entry.args.at)) (sym c.match.keys3) ∙ slot-bytes entry.requires c.before.held-kind.ensures refl
+    ap (λ (k : ℕ). slot_size k (declared_at entry.args.schema.now entry.args.at)) (sym c.match.keys3) ∙ slot-bytes entry.requires c.before.held-kind.ensures refl
 
 returns-5 : tie.Need-returns-5
-returns-5 c = c.byte-count.ensures ∙ ap (λ (k : ℕ). slotSize k c.before.declared-length3.result) (sym c.before.before.match.keys4) ∙ slot-bytes c.before.before.before.before.before.before.before.before.before.requires c.before.before.before.held-kind.ensures c.before.declared-length3.ensures.0
+returns-5 c = c.byte-count.ensures ∙ ap (λ (k : ℕ). slot_size k c.before.declared-length3.result) (sym c.before.before.match.keys4) ∙ slot-bytes c.before.before.before.before.before.before.before.before.before.requires c.before.before.before.held-kind.ensures c.before.declared-length3.ensures.0
 
 returns-6 : tie.Need-returns-6
 returns-6 c =
     let entry = c.before.before.before.before.before.before.before.before in
     let r = c.before.match.rest in
-    c.body-length.ensures.0 ∙ plain_size _ (declaredAt entry.args.schema.now entry.args.at) r.0.0.0.1 r.0.0.1 (ne_eqb _ 9 r.0.1) r.1
+    c.body-length.ensures.0 ∙ plain_size_lem _ (declared_at entry.args.schema.now entry.args.at) r.0.0.0.1 r.0.0.1 (ne_eqb _ 9 r.0.1) r.1
     ∙ slot-bytes entry.requires c.before.before.held-kind.ensures refl
 
 pub slot-size-spec : {M : Type 1} → statement M

@@ -6,7 +6,7 @@ use borrow.Author.Tests.{ne_eqb}
 use mathlib.Core.Path.{ap, ◌∙◌}
 use mir.Syntax.{w32, w64}
 use Rattle.signed.proofs.Casts.{passed}
-use Rattle.temporal.specs.Ranges.{isDate, isTime, isTimestamp}
+use Rattle.temporal.specs.Ranges.{is_date, is_time, is_timestamp}
 use Rattle.endian.proofs.read_i32.Reads as read-i32-reads
 use Rattle.endian.proofs.read_i64.Reads as read-i64-reads
 use Rattle.record_slot.proofs.bits_suit.Reads as bits-suit-reads
@@ -66,16 +66,16 @@ returns-4 : tie.Need-returns-4
 returns-4 c = rw c.before.match.keys4 c.text-suits2.ensures
 
 returns-5 : tie.Need-returns-5
-returns-5 c = rw c.before.before.match.keys5 (c.is-date.ensures ∙ ap isDate (passed w32 (search rules) c.before.read-i32.ensures))
+returns-5 c = rw c.before.before.match.keys5 (c.is-date.ensures ∙ ap is_date (passed w32 (search rules) c.before.read-i32.ensures))
 
 returns-6 : tie.Need-returns-6
-returns-6 c = rw c.before.before.match.keys6 (c.is-time.ensures ∙ ap isTime (passed w64 (search rules) c.before.read-i64.ensures))
+returns-6 c = rw c.before.before.match.keys6 (c.is-time.ensures ∙ ap is_time (passed w64 (search rules) c.before.read-i64.ensures))
 
 returns-7 : tie.Need-returns-7
 returns-7 c = rw c.before.match.keys7 c.bits-suit.ensures
 
 returns-8 : tie.Need-returns-8
-returns-8 c = rw c.before.before.match.keys8 (c.is-timestamp.ensures ∙ ap isTimestamp (passed w64 (search rules) c.before.read-i642.ensures))
+returns-8 c = rw c.before.before.match.keys8 (c.is-timestamp.ensures ∙ ap is_timestamp (passed w64 (search rules) c.before.read-i642.ensures))
 
 returns-9 : tie.Need-returns-9
 returns-9 c =

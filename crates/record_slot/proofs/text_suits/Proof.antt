@@ -1,4 +1,4 @@
-use Rattle.record_slot.proofs.Held.{text-outside, text-told}
+use Rattle.record_slot.proofs.Held.{text_outside, text-told}
 use Rattle.record_slot.proofs.Tests.{start_is, length-is}
 use borrow.Author.Rules.{rules}
 use Rattle.record_slot.proofs.text_suits.Statement.{statement}
@@ -17,7 +17,7 @@ returns c =
     let entry = c.before.before.before.before in
     let a = entry.args in
     let q = c.before.range_at in
-    rw (← start_is q.ensures.0, ← length-is q.ensures.0) (text-outside a.n q.result.start q.result.length a.text.now a.by-points c.if1.true)
+    rw (← start_is q.ensures.0, ← length-is q.ensures.0) (text_outside a.n q.result.start q.result.length a.text.now a.by-points c.if1.true)
 
 add-is-within : tie.Need-overflow-add-is-within
 add-is-within c = search rules

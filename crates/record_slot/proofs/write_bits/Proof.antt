@@ -1,7 +1,7 @@
 use native.Mathlib.Omega.{arith}
 use mathlib.Core.Path.{◌≡◌}
 use Prim.Native.Nat.{◌+◌, ◌-◌}
-use Rattle.record_slot.proofs.Forms.{bits_inside, bits-within}
+use Rattle.record_slot.proofs.Forms.{bits_inside, bits_within}
 use Rattle.record_slot.proofs.Tests.{start_is, length-is}
 use borrow.Author.Rules.{rules}
 use Rattle.record_slot.proofs.write_bits.Statement.{statement}
@@ -37,7 +37,7 @@ write-bits-requires c κs =
     let s = q.result.start in
     let l = q.result.length in
     let e : s + l - s ≡ l = omega arith in
-    rw e (bits-within a.n q.result a.text.now (rw (← start_is q.ensures.0, ← length-is q.ensures.0) at entry.requires.1.1), entry.requires.1.0)
+    rw e (bits_within a.n q.result a.text.now (rw (← start_is q.ensures.0, ← length-is q.ensures.0) at entry.requires.1.1), entry.requires.1.0)
 
 same_length : tie.Need-same-length
 same_length c = search rules

@@ -7,9 +7,9 @@ use mathlib.Core.Path.{sym, ap, ◌∙◌}
 use lib.Seq.{sets}
 use mir.Syntax.{w16, w32, w64}
 use lib.ListN.{get_or}
-use Rattle.value.specs.Kinds.{plainKind}
-use Rattle.laws.specs.Bytes.{toLe}
-use Rattle.record_slot.proofs.Forms.{held_found, by_bits, within-at, form-at, suits-at, room_at, number-ready, none-stored, body-stored}
+use Rattle.value.specs.Kinds.{plain_kind}
+use Rattle.laws.specs.Bytes.{to_le}
+use Rattle.record_slot.proofs.Forms.{held_found, by_bits, within-at, form-at, suits-at, room_at, number_ready, none-stored, body_stored_lem}
 use Rattle.endian.proofs.read_u16.Reads as read-u16-reads
 use Rattle.endian.proofs.read_u32.Reads as read-u32-reads
 use Rattle.endian.proofs.read_u64.Reads as read-u64-reads
@@ -82,7 +82,7 @@ write-u64-requires-2 c κs =
 write-number-requires : tie.Need-write-number-requires
 write-number-requires c κs =
     let p = c.before.before.before.before.before.before.before.before.before.before.before.requires in
-    rw c.before.before.declared-length.ensures.0 (within-at p.0 6 (sym (held_found c.before.before.before.before.before.before.before.before.before.before.before.requires.0 c.before.before.before.before.before.before.before.before.before.before.before.requires.1.match c.before.before.before.before.held-kind.ensures) ∙ c.before.match.keys6), number-ready p.0 p.1 (sym (held_found c.before.before.before.before.before.before.before.before.before.before.before.requires.0 c.before.before.before.before.before.before.before.before.before.before.before.requires.1.match c.before.before.before.before.held-kind.ensures) ∙ c.before.match.keys6))
+    rw c.before.before.declared-length.ensures.0 (within-at p.0 6 (sym (held_found c.before.before.before.before.before.before.before.before.before.before.before.requires.0 c.before.before.before.before.before.before.before.before.before.before.before.requires.1.match c.before.before.before.before.held-kind.ensures) ∙ c.before.match.keys6), number_ready p.0 p.1 (sym (held_found c.before.before.before.before.before.before.before.before.before.before.before.requires.0 c.before.before.before.before.before.before.before.before.before.before.before.requires.1.match c.before.before.before.before.held-kind.ensures) ∙ c.before.match.keys6))
 
 shared-slice-read-out : tie.Need-shared-slice-read-out
 shared-slice-read-out c = let h = within-at c.before.before.before.before.before.before.before.before.before.before.before.requires.0 7 (sym (held_found c.before.before.before.before.before.before.before.before.before.before.before.requires.0 c.before.before.before.before.before.before.before.before.before.before.before.requires.1.match c.before.before.before.before.held-kind.ensures) ∙ c.before.match.keys7) in omega (arith, h)
@@ -136,7 +136,7 @@ returns c =
     let entry = c.before.before.before.before.before.before.before.before.before.before.before.before.before.before.before in
     let a = entry.args in
     let p = entry.requires in
-    c.before.before.write-u16.ensures ∙ ap (sets a.out.now a.slot) (ap (toLe 2) (by_bits w16 (search rules) c.before.before.before.read-u16.ensures) ∙ form-at p.0 p.1 1 (sym (held_found c.before.before.before.before.before.before.before.before.before.before.before.before.before.before.before.requires.0 c.before.before.before.before.before.before.before.before.before.before.before.before.before.before.before.requires.1.match c.before.before.before.before.before.before.before.before.held-kind.ensures) ∙ c.before.before.before.before.before.match.keys1))
+    c.before.before.write-u16.ensures ∙ ap (sets a.out.now a.slot) (ap (to_le 2) (by_bits w16 (search rules) c.before.before.before.read-u16.ensures) ∙ form-at p.0 p.1 1 (sym (held_found c.before.before.before.before.before.before.before.before.before.before.before.before.before.before.before.requires.0 c.before.before.before.before.before.before.before.before.before.before.before.before.before.before.before.requires.1.match c.before.before.before.before.before.before.before.before.held-kind.ensures) ∙ c.before.before.before.before.before.match.keys1))
 
 same-length-2 : tie.Need-same-length-2
 same-length-2 c = search rules
@@ -146,7 +146,7 @@ returns-2 c =
     let entry = c.before.before.before.before.before.before.before.before.before.before.before.before.before.before.before in
     let a = entry.args in
     let p = entry.requires in
-    c.before.before.write-u32.ensures ∙ ap (sets a.out.now a.slot) (ap (toLe 4) (by_bits w32 (search rules) c.before.before.before.read_u32.ensures) ∙ form-at p.0 p.1 2 (sym (held_found c.before.before.before.before.before.before.before.before.before.before.before.before.before.before.before.requires.0 c.before.before.before.before.before.before.before.before.before.before.before.before.before.before.before.requires.1.match c.before.before.before.before.before.before.before.before.held-kind.ensures) ∙ c.before.before.before.before.before.match.keys2))
+    c.before.before.write-u32.ensures ∙ ap (sets a.out.now a.slot) (ap (to_le 4) (by_bits w32 (search rules) c.before.before.before.read_u32.ensures) ∙ form-at p.0 p.1 2 (sym (held_found c.before.before.before.before.before.before.before.before.before.before.before.before.before.before.before.requires.0 c.before.before.before.before.before.before.before.before.before.before.before.before.before.before.before.requires.1.match c.before.before.before.before.before.before.before.before.held-kind.ensures) ∙ c.before.before.before.before.before.match.keys2))
 
 same-length-3 : tie.Need-same-length-3
 same-length-3 c = search rules
@@ -156,7 +156,7 @@ returns-3 c =
     let entry = c.before.before.before.before.before.before.before.before.before.before.before.before.before.before.before in
     let a = entry.args in
     let p = entry.requires in
-    c.before.before.write-u64.ensures ∙ ap (sets a.out.now a.slot) (ap (toLe 8) (by_bits w64 (search rules) c.before.before.before.read_u64.ensures) ∙ form-at p.0 p.1 3 (sym (held_found c.before.before.before.before.before.before.before.before.before.before.before.before.before.before.before.requires.0 c.before.before.before.before.before.before.before.before.before.before.before.before.before.before.before.requires.1.match c.before.before.before.before.before.before.before.before.held-kind.ensures) ∙ c.before.before.before.before.before.match.keys3))
+    c.before.before.write-u64.ensures ∙ ap (sets a.out.now a.slot) (ap (to_le 8) (by_bits w64 (search rules) c.before.before.before.read_u64.ensures) ∙ form-at p.0 p.1 3 (sym (held_found c.before.before.before.before.before.before.before.before.before.before.before.before.before.before.before.requires.0 c.before.before.before.before.before.before.before.before.before.before.before.before.before.before.before.requires.1.match c.before.before.before.before.before.before.before.before.held-kind.ensures) ∙ c.before.before.before.before.before.match.keys3))
 
 same-length-4 : tie.Need-same-length-4
 same-length-4 c = search rules
@@ -166,7 +166,7 @@ returns-4 c =
     let entry = c.before.before.before.before.before.before.before.before.before.before.before.before.before.before.before in
     let a = entry.args in
     let p = entry.requires in
-    c.before.before.write-u322.ensures ∙ ap (sets a.out.now a.slot) (ap (toLe 4) c.before.before.before.read-u322.ensures ∙ form-at p.0 p.1 4 (sym (held_found c.before.before.before.before.before.before.before.before.before.before.before.before.before.before.before.requires.0 c.before.before.before.before.before.before.before.before.before.before.before.before.before.before.before.requires.1.match c.before.before.before.before.before.before.before.before.held-kind.ensures) ∙ c.before.before.before.before.before.match.keys4))
+    c.before.before.write-u322.ensures ∙ ap (sets a.out.now a.slot) (ap (to_le 4) c.before.before.before.read-u322.ensures ∙ form-at p.0 p.1 4 (sym (held_found c.before.before.before.before.before.before.before.before.before.before.before.before.before.before.before.requires.0 c.before.before.before.before.before.before.before.before.before.before.before.before.before.before.before.requires.1.match c.before.before.before.before.before.before.before.before.held-kind.ensures) ∙ c.before.before.before.before.before.match.keys4))
 
 same-length-5 : tie.Need-same-length-5
 same-length-5 c = search rules
@@ -176,7 +176,7 @@ returns-5 c =
     let entry = c.before.before.before.before.before.before.before.before.before.before.before.before.before.before.before in
     let a = entry.args in
     let p = entry.requires in
-    c.before.before.write-u642.ensures ∙ ap (sets a.out.now a.slot) (ap (toLe 8) c.before.before.before.read-u642.ensures ∙ form-at p.0 p.1 5 (sym (held_found c.before.before.before.before.before.before.before.before.before.before.before.before.before.before.before.requires.0 c.before.before.before.before.before.before.before.before.before.before.before.before.before.before.before.requires.1.match c.before.before.before.before.before.before.before.before.held-kind.ensures) ∙ c.before.before.before.before.before.match.keys5))
+    c.before.before.write-u642.ensures ∙ ap (sets a.out.now a.slot) (ap (to_le 8) c.before.before.before.read-u642.ensures ∙ form-at p.0 p.1 5 (sym (held_found c.before.before.before.before.before.before.before.before.before.before.before.before.before.before.before.requires.0 c.before.before.before.before.before.before.before.before.before.before.before.before.before.before.before.requires.1.match c.before.before.before.before.before.before.before.before.held-kind.ensures) ∙ c.before.before.before.before.before.match.keys5))
 
 same-length-6 : tie.Need-same-length-6
 same-length-6 c = search rules
@@ -214,7 +214,7 @@ returns-9 c =
     let entry = c.before.before.before.before.before.before.before.before.before.before.before.before.before.before.before in
     let a = entry.args in
     let p = entry.requires in
-    c.before.before.write-u323.ensures ∙ ap (sets a.out.now a.slot) (ap (toLe 4) (by_bits w32 (search rules) c.before.before.before.read-u323.ensures) ∙ form-at p.0 p.1 10 (sym (held_found c.before.before.before.before.before.before.before.before.before.before.before.before.before.before.before.requires.0 c.before.before.before.before.before.before.before.before.before.before.before.before.before.before.before.requires.1.match c.before.before.before.before.before.before.before.before.held-kind.ensures) ∙ c.before.before.before.before.before.match.keys9))
+    c.before.before.write-u323.ensures ∙ ap (sets a.out.now a.slot) (ap (to_le 4) (by_bits w32 (search rules) c.before.before.before.read-u323.ensures) ∙ form-at p.0 p.1 10 (sym (held_found c.before.before.before.before.before.before.before.before.before.before.before.before.before.before.before.requires.0 c.before.before.before.before.before.before.before.before.before.before.before.before.before.before.before.requires.1.match c.before.before.before.before.before.before.before.before.held-kind.ensures) ∙ c.before.before.before.before.before.match.keys9))
 
 same-length-10 : tie.Need-same-length-10
 same-length-10 c = search rules
@@ -224,7 +224,7 @@ returns-10 c =
     let entry = c.before.before.before.before.before.before.before.before.before.before.before.before.before.before.before in
     let a = entry.args in
     let p = entry.requires in
-    c.before.before.write-u643.ensures ∙ ap (sets a.out.now a.slot) (ap (toLe 8) (by_bits w64 (search rules) c.before.before.before.read-u643.ensures) ∙ form-at p.0 p.1 11 (sym (held_found c.before.before.before.before.before.before.before.before.before.before.before.before.before.before.before.requires.0 c.before.before.before.before.before.before.before.before.before.before.before.before.before.before.before.requires.1.match c.before.before.before.before.before.before.before.before.held-kind.ensures) ∙ c.before.before.before.before.before.match.keys10))
+    c.before.before.write-u643.ensures ∙ ap (sets a.out.now a.slot) (ap (to_le 8) (by_bits w64 (search rules) c.before.before.before.read-u643.ensures) ∙ form-at p.0 p.1 11 (sym (held_found c.before.before.before.before.before.before.before.before.before.before.before.before.before.before.before.requires.0 c.before.before.before.before.before.before.before.before.before.before.before.before.before.before.before.requires.1.match c.before.before.before.before.before.before.before.before.held-kind.ensures) ∙ c.before.before.before.before.before.match.keys10))
 
 same-length-11 : tie.Need-same-length-11
 same-length-11 c = search rules
@@ -244,7 +244,7 @@ returns-12 c =
     let entry = c.before.before.before.before.before.before.before.before.before.before.before.before.before.before.before in
     let a = entry.args in
     let p = entry.requires in
-    c.before.before.write-u644.ensures ∙ ap (sets a.out.now a.slot) (ap (toLe 8) (by_bits w64 (search rules) c.before.before.before.read-u644.ensures) ∙ form-at p.0 p.1 13 (sym (held_found c.before.before.before.before.before.before.before.before.before.before.before.before.before.before.before.requires.0 c.before.before.before.before.before.before.before.before.before.before.before.before.before.before.before.requires.1.match c.before.before.before.before.before.before.before.before.held-kind.ensures) ∙ c.before.before.before.before.before.match.keys12))
+    c.before.before.write-u644.ensures ∙ ap (sets a.out.now a.slot) (ap (to_le 8) (by_bits w64 (search rules) c.before.before.before.read-u644.ensures) ∙ form-at p.0 p.1 13 (sym (held_found c.before.before.before.before.before.before.before.before.before.before.before.before.before.before.before.requires.0 c.before.before.before.before.before.before.before.before.before.before.before.before.before.before.before.requires.1.match c.before.before.before.before.before.before.before.before.held-kind.ensures) ∙ c.before.before.before.before.before.match.keys12))
 
 returns-13 : tie.Need-returns-13
 returns-13 c =
@@ -254,8 +254,8 @@ returns-13 c =
     let r = c.match.rest in
     let k = held_found c.before.before.before.before.before.before.before.before.before.before.requires.0 c.before.before.before.before.before.before.before.before.before.before.requires.1.match c.before.before.before.held-kind.ensures in
     ap (sets a.out.now a.slot)
-    (none-stored (plainKind (get_or a.values.now a.from 0)) 0 a.values.now (a.from + 1) (λ e. r.0.0.0.0.0.0.0.0.0.0.0.1 (k ∙ e)) (λ e. r.0.0.0.0.0.0.0.0.0.0.1 (k ∙ e)) (λ e. r.0.0.0.0.0.0.0.0.0.1 (k ∙ e)) (λ e. r.0.0.0.0.0.0.0.0.1 (k ∙ e)) (λ e. r.0.0.0.0.0.0.0.1 (k ∙ e)) (λ e. r.0.0.0.0.0.1 (k ∙ e)) (λ e. r.0.0.0.1 (k ∙ e)) (λ e. r.0.0.1 (k ∙ e)) (λ e. r.1 (k ∙ e))
-    ∙ body-stored p.0 p.1 (λ e. r.0.0.0.0.0.0.1 (k ∙ e)) (λ e. r.0.0.0.0.1 (k ∙ e)) (λ e. r.0.1 (k ∙ e)))
+    (none-stored (plain_kind (get_or a.values.now a.from 0)) 0 a.values.now (a.from + 1) (λ e. r.0.0.0.0.0.0.0.0.0.0.0.1 (k ∙ e)) (λ e. r.0.0.0.0.0.0.0.0.0.0.1 (k ∙ e)) (λ e. r.0.0.0.0.0.0.0.0.0.1 (k ∙ e)) (λ e. r.0.0.0.0.0.0.0.0.1 (k ∙ e)) (λ e. r.0.0.0.0.0.0.0.1 (k ∙ e)) (λ e. r.0.0.0.0.0.1 (k ∙ e)) (λ e. r.0.0.0.1 (k ∙ e)) (λ e. r.0.0.1 (k ∙ e)) (λ e. r.1 (k ∙ e))
+    ∙ body_stored_lem p.0 p.1 (λ e. r.0.0.0.0.0.0.1 (k ∙ e)) (λ e. r.0.0.0.0.1 (k ∙ e)) (λ e. r.0.1 (k ∙ e)))
 
 pub write-slot-spec : {M : Type 1} → statement M
 write-slot-spec =

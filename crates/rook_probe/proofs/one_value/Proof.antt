@@ -1,6 +1,6 @@
 use mathlib.Core.Bool.{false}
-use Rattle.rook_probe.proofs.Single.{one_value, none-good}
-use Rattle.value_list.proofs.Sole.{sole-there, sole-good}
+use Rattle.rook_probe.proofs.Single.{one_value_lem, none-good}
+use Rattle.value_list.proofs.Sole.{sole_there, sole_good}
 use mathlib.Core.Path.{sym, ◌∙◌}
 use borrow.Author.Rules.{rules}
 use Rattle.rook_probe.proofs.one_value.Statement.{statement}
@@ -15,7 +15,7 @@ enum_told c = search rules
 value-record-at-requires : tie.Need-value-record-at-requires
 value-record-at-requires c κs =
     let entry = c.before.before.before.before in
-    sole-there false entry.args.area entry.args.list.now (sym c.enum_told.given.1 ∙ c.before.before.check-values.ensures)
+    sole_there false entry.args.area entry.args.list.now (sym c.enum_told.given.1 ∙ c.before.before.check-values.ensures)
 
 enum-known-v : tie.Need-enum-known-v
 enum-known-v c = search rules
@@ -29,12 +29,12 @@ enum-told-3 c = search rules
 returns : tie.Need-returns
 returns c =
     let a = c.before.before.before.before.before.before.before.before.args in
-    one_value a.area a.list.now (sym c.before.before.before.before.enum_told.given.1 ∙ c.before.before.before.before.before.before.check-values.ensures) _ _ (sym c.before.before.before.value-record-at.ensures ∙ c.before.v.given.1)
+    one_value_lem a.area a.list.now (sym c.before.before.before.before.enum_told.given.1 ∙ c.before.before.before.before.before.before.check-values.ensures) _ _ (sym c.before.before.before.value-record-at.ensures ∙ c.before.v.given.1)
 
 returns-2 : tie.Need-returns-2
 returns-2 c =
     let a = c.before.before.before.before.before.before.before.args in
-    absurd (sole-good false a.area a.list.now (sym c.before.before.before.enum_told.given.1 ∙ c.before.before.before.before.before.check-values.ensures) _ (sym c.before.before.value-record-at.ensures ∙ c.enum-told2.given.1))
+    absurd (sole_good false a.area a.list.now (sym c.before.before.before.enum_told.given.1 ∙ c.before.before.before.before.before.check-values.ensures) _ (sym c.before.before.value-record-at.ensures ∙ c.enum-told2.given.1))
 
 returns-3 : tie.Need-returns-3
 returns-3 c =

@@ -1,6 +1,6 @@
 use native.Mathlib.Nat.{zero-add}
-use Rattle.rook_probe.proofs.Single.{read-narrow, slot-size}
-use Rattle.value_list.proofs.Records.{record-short}
+use Rattle.rook_probe.proofs.Single.{read_narrow, slot-size}
+use Rattle.value_list.proofs.Records.{record_short}
 use Rattle.laws.proofs.Tests.{by_tests}
 use native.Mathlib.Omega.{arith}
 use mathlib.Core.Path.{sym, ◌∙◌}
@@ -28,8 +28,8 @@ write-value-record-requires c κs =
     let entry = c.before.before.before.before.before.before.before.before in
     let a = entry.args in
     let p = entry.requires.1.1 in
-    let m = record-short false c.before.before.v.given.0.0 in
-    (omega (arith, c.before.before.before.before.before.if1.false), read-narrow a.start a.bytes.now p.0 p.1 a.ty (sym c.before.before.before.before.from_bytes.ensures ∙ c.before.before.v.given.1))
+    let m = record_short false c.before.before.v.given.0.0 in
+    (omega (arith, c.before.before.before.before.before.if1.false), read_narrow a.start a.bytes.now p.0 p.1 a.ty (sym c.before.before.before.before.from_bytes.ensures ∙ c.before.before.v.given.1))
 
 enum_told : tie.Need-enum-told
 enum_told c = search rules

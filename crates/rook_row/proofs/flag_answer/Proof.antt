@@ -1,7 +1,7 @@
 use borrow.Author.Rules.{rules}
 use Rattle.rook_row.proofs.flag_answer.Statement.{statement}
 use Rattle.rook_row.proofs.flag_answer.Tie as tie
-use Rattle.laws.proofs.Bits.{bool-bit}
+use Rattle.laws.proofs.Bits.{bool_bit}
 
 enum-known-answer : tie.Need-enum-known-answer
 enum-known-answer c = search rules
@@ -19,7 +19,7 @@ place-requires : tie.Need-place-requires
 place-requires c κs = search rules
 
 returns : tie.Need-returns
-returns c = rw (c.before.answer.given.1, bool-bit)
+returns c = rw (c.before.answer.given.1, bool_bit)
 
 returns-2 : tie.Need-returns-2
 returns-2 c = rw (c.before.before.before.answer2.given.1, c.before.number.ensures, c.place.ensures)

@@ -45,13 +45,13 @@ use Rattle.rook_row.specs.contracts.RowAnswer as N
 use Rattle.rook_row.proofs.RowAnswer.TheLaws as N'
 use Rattle.row_handle.specs.declared.RowHandle.{RowHandle}
 use Rattle.rook_row.specs.declared.HandleAnswer.{HandleAnswer}
-use Rattle.row_handle.specs.Handle.{handleSet}
-use Rattle.rook_row.specs.Answers.{handleOutcome}
+use Rattle.row_handle.specs.Handle.{handle_set}
+use Rattle.rook_row.specs.Answers.{handle_outcome}
 use Rattle.row_handle.specs.contracts.RowHandle as T
 use Rattle.row_handle.proofs.RowHandle.TheLaws as T'
 use Rattle.rook_row.specs.contracts.HandleAnswer as E
 use Rattle.rook_row.proofs.HandleAnswer.TheLaws as E'
-use Rattle.rook_row.proofs.Parts.{handleVal, answer_val, answer-is, handle-is}
+use Rattle.rook_row.proofs.Parts.{handle_val, answer_val, answer-is, handle-is}
 use Rattle.rook_row.specs.contracts.handle_value as callee
 use Rattle.rook_row.proofs.handle_value.Symbol as callee-def
 use Rattle.rook_row.proofs.handle_value.Symbol.{name as #callee}
@@ -103,14 +103,14 @@ module _ {M : Type 1} {𝓤 : Ura M} (𝓛 : Logic 𝓤) (at_mem : Memory → SP
 
   -- what the callee says of what it hands back, e, and of the last list, zs
   abbrev Said : HandleAnswer → List ℕ → Type 0
-  Said e zs = (e.answer, (zs, e.handle)) ≡ handleOutcome h.length (handleSet s.now x.now h i v.now t.now)
+  Said e zs = (e.answer, (zs, e.handle)) ≡ handle_outcome h.length (handle_set s.now x.now h i v.now t.now)
 
   -- what the callee's triple binds outside: the slices at their own lifetimes, shares and names
   abbrev passed : Bor (List ℕ) × (Bor (List ℕ) × (RowHandle × (ℕ × (Bor (List ℕ) × (Bor (List ℕ) × Unit {0})))))
   passed = (s, (x, (h, (i, (v, (t, tt))))))
 
   abbrev passed-vals : List Val × (List Val × (List Val × (List Val × (List Val × (List Val × Unit {0})))))
-  passed-vals = (sv s ∷ [], (sv x ∷ [], (handleVal h ∷ [], (vint w64 i ∷ [], (sv v ∷ [], (sv t ∷ [], tt))))))
+  passed-vals = (sv s ∷ [], (sv x ∷ [], (handle_val h ∷ [], (vint w64 i ∷ [], (sv v ∷ [], (sv t ∷ [], tt))))))
 
   abbrev Passed : Fml
   Passed = owns (ShrSlice (named 1) κs u8 ∷ MutSlice (named 2) κb u8 ∷ T.the_row ∷ usize ∷ ShrSlice (named 3) κv u8 ∷ ShrSlice (named 4) κt u8 ∷ []) passed passed-vals
@@ -145,7 +145,7 @@ module _ {M : Type 1} {𝓤 : Ura M} (𝓛 : Logic 𝓤) (at_mem : Memory → SP
         -- the borrow of the handle is opened
         move ! (23 ∷ []) $ fsplit ! $ fsplit3 ! $ drop ! $ move ! (25 ∷ []) $ split ! $ move ! (2 ∷ 3 ∷ 0 ∷ []) $
         opens ! tt T.the_row {h = h} b o (λ vs. spelt ! T.the_row (Is T.the_row) (shows 𝓛 T.the_row) (LL.vals T.the_type T'.the_laws) (LL.tells T.the_type T'.the_laws) full_share h vs b o $
-        move ! (1 ∷ []) $ peeks ! T.the_row (Is T.the_row) (shows 𝓛 T.the_row) h (handleVal h ∷ []) (λ was. move ! (1 ∷ 0 ∷ []) $
+        move ! (1 ∷ []) $ peeks ! T.the_row (Is T.the_row) (shows 𝓛 T.the_row) h (handle_val h ∷ []) (λ was. move ! (1 ∷ 0 ∷ []) $
         -- [the handle's cell; what it owns; the open borrow; obs; auth; the slices' tokens; what schema, buf, column, values and text own; _10; …; _9; …; _8; …; _7; …; _6; …; _5; …; _4; …; _3; …; _2; …; _1; …; room for _0; …]
         assigns ! (of_opd ! (load ! (from ! (hop ! (look ! 25 refl) (stop !))) (look_raw ! 0 refl))) (from ! (stop !)) (init ! 13 refl ((LL.lawful T.the_type T'.the_laws 𝓛).typed h _ was).0) $
         assigns ! (addr ! (from ! (fld ! refl (hop ! (look_in ! 21 (sub ! 0 refl (whole !))) (stop !))))) (from ! (stop !)) (init ! 9 refl (tt, tt)) $
@@ -168,7 +168,7 @@ module _ {M : Type 1} {𝓤 : Ura M} (𝓛 : Logic 𝓤) (at_mem : Memory → SP
         assigns ! (of_opd ! (load ! (from ! (fld ! refl (stop !))) (look_in ! 16 (sub ! 1 refl (whole !))))) (from ! (hop ! (look ! 30 refl) (stop !))) (store_raw ! 7 refl ((LL.lawful T.the_type T'.the_laws 𝓛).typed e.handle _ (handle-is e _ is)).0) $
         assigns ! (of_opd ! (load ! (from ! (fld ! refl (stop !))) (look_in ! 16 (sub ! 0 refl (whole !))))) (from ! (stop !)) (init ! 32 refl ((LL.lawful N.the_type N'.the_laws 𝓛).typed e.answer _ (answer-is e _ is)).0) $
         -- the borrow is closed at the handle that came back
-        move ! (8 ∷ []) $ drop ! $ owned ! T.the_row (Is T.the_row) (LL.makes T.the_type T'.the_plain 𝓛) e.handle _ (handle-is e _ is) $ move ! (8 ∷ 0 ∷ 9 ∷ 10 ∷ 11 ∷ []) $ closes ! tt T.the_row e.handle (handleVal e.handle ∷ []) b o $
+        move ! (8 ∷ []) $ drop ! $ owned ! T.the_row (Is T.the_row) (LL.makes T.the_type T'.the_plain 𝓛) e.handle _ (handle-is e _ is) $ move ! (8 ∷ 0 ∷ 9 ∷ 10 ∷ 11 ∷ []) $ closes ! tt T.the_row e.handle (handle_val e.handle ∷ []) b o $
         returns ! (look ! 30 refl) $ forget ! 10 refl $ forget ! 12 refl $ forget ! 14 refl $ forget ! 16 refl $ forget ! 18 refl $ forget ! 20 refl $ forget ! 22 refl $ forget ! 24 refl $ forget ! 26 refl $ forget ! 28 refl $ forget ! 30 refl $
         move ! (30 ∷ 31 ∷ []) $ free1 ! $ move ! (28 ∷ 29 ∷ []) $ free1 ! $ move ! (26 ∷ 27 ∷ []) $ free1 ! $ move ! (24 ∷ 25 ∷ []) $ free1 ! $ move ! (22 ∷ 23 ∷ []) $ free1 ! $ move ! (20 ∷ 21 ∷ []) $ free1 ! $ move ! (18 ∷ 19 ∷ []) $ free1 ! $ move ! (16 ∷ 17 ∷ []) $ free1 ! $ move ! (14 ∷ 15 ∷ []) $ free1 ! $ move ! (12 ∷ 13 ∷ []) $ free1 ! $ move ! (10 ∷ 11 ∷ []) $ free1 ! $ free0 ! $
         keep ! (0 ∷ 1 ∷ 2 ∷ 4 ∷ 5 ∷ 7 ∷ 8 ∷ 9 ∷ []) $ by ! (exits e zs.1.0 said l (answer-is e _ is)))))))))))))))))))))

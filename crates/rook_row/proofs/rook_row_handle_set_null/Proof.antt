@@ -45,13 +45,13 @@ use Rattle.rook_row.specs.contracts.RowAnswer as N
 use Rattle.rook_row.proofs.RowAnswer.TheLaws as N'
 use Rattle.row_handle.specs.declared.RowHandle.{RowHandle}
 use Rattle.rook_row.specs.declared.HandleAnswer.{HandleAnswer}
-use Rattle.row_handle.specs.Handle.{handleSetNull}
-use Rattle.rook_row.specs.Answers.{handleOutcome}
+use Rattle.row_handle.specs.Handle.{handle_set_null}
+use Rattle.rook_row.specs.Answers.{handle_outcome}
 use Rattle.row_handle.specs.contracts.RowHandle as T
 use Rattle.row_handle.proofs.RowHandle.TheLaws as T'
 use Rattle.rook_row.specs.contracts.HandleAnswer as E
 use Rattle.rook_row.proofs.HandleAnswer.TheLaws as E'
-use Rattle.rook_row.proofs.Parts.{handleVal, answer_val, answer-is, handle-is}
+use Rattle.rook_row.proofs.Parts.{handle_val, answer_val, answer-is, handle-is}
 use Rattle.rook_row.specs.contracts.handle_null as callee
 use Rattle.rook_row.proofs.handle_null.Symbol as callee-def
 use Rattle.rook_row.proofs.handle_null.Symbol.{name as #callee}
@@ -96,14 +96,14 @@ module _ {M : Type 1} {𝓤 : Ura M} (𝓛 : Logic 𝓤) (at_mem : Memory → SP
 
   -- what the callee says of what it hands back, e, and of the last list, zs
   abbrev Said : HandleAnswer → List ℕ → Type 0
-  Said e zs = (e.answer, (zs, e.handle)) ≡ handleOutcome h.length (handleSetNull s.now x.now h i)
+  Said e zs = (e.answer, (zs, e.handle)) ≡ handle_outcome h.length (handle_set_null s.now x.now h i)
 
   -- what the callee's triple binds outside: the slices at their own lifetimes, shares and names
   abbrev passed : Bor (List ℕ) × (Bor (List ℕ) × (RowHandle × (ℕ × Unit {0})))
   passed = (s, (x, (h, (i, tt))))
 
   abbrev passed-vals : List Val × (List Val × (List Val × (List Val × Unit {0})))
-  passed-vals = (sv s ∷ [], (sv x ∷ [], (handleVal h ∷ [], (vint w64 i ∷ [], tt))))
+  passed-vals = (sv s ∷ [], (sv x ∷ [], (handle_val h ∷ [], (vint w64 i ∷ [], tt))))
 
   abbrev Passed : Fml
   Passed = owns (ShrSlice (named 1) κs u8 ∷ MutSlice (named 2) κb u8 ∷ T.the_row ∷ usize ∷ []) passed passed-vals
@@ -136,7 +136,7 @@ module _ {M : Type 1} {𝓤 : Ura M} (𝓛 : Logic 𝓤) (at_mem : Memory → SP
         -- the borrow of the handle is opened
         move ! (19 ∷ []) $ fsplit ! $ fsplit3 ! $ drop ! $ move ! (21 ∷ []) $ split ! $ move ! (2 ∷ 3 ∷ 0 ∷ []) $
         opens ! tt T.the_row {h = h} b o (λ vs. spelt ! T.the_row (Is T.the_row) (shows 𝓛 T.the_row) (LL.vals T.the_type T'.the_laws) (LL.tells T.the_type T'.the_laws) full_share h vs b o $
-        move ! (1 ∷ []) $ peeks ! T.the_row (Is T.the_row) (shows 𝓛 T.the_row) h (handleVal h ∷ []) (λ was. move ! (1 ∷ 0 ∷ []) $
+        move ! (1 ∷ []) $ peeks ! T.the_row (Is T.the_row) (shows 𝓛 T.the_row) h (handle_val h ∷ []) (λ was. move ! (1 ∷ 0 ∷ []) $
         -- [the handle's cell; what it owns; the open borrow; obs; auth; the slices' tokens; what schema, buf and column own; _8; …; _7; …; _6; …; _5; …; _4; …; _3; …; _2; …; _1; …; room for _0; …]
         assigns ! (of_opd ! (load ! (from ! (hop ! (look ! 21 refl) (stop !))) (look_raw ! 0 refl))) (from ! (stop !)) (init ! 13 refl ((LL.lawful T.the_type T'.the_laws 𝓛).typed h _ was).0) $
         assigns ! (addr ! (from ! (fld ! refl (hop ! (look_in ! 17 (sub ! 0 refl (whole !))) (stop !))))) (from ! (stop !)) (init ! 9 refl (tt, tt)) $
@@ -156,7 +156,7 @@ module _ {M : Type 1} {𝓤 : Ura M} (𝓛 : Logic 𝓤) (at_mem : Memory → SP
         assigns ! (of_opd ! (load ! (from ! (fld ! refl (stop !))) (look_in ! 14 (sub ! 1 refl (whole !))))) (from ! (hop ! (look ! 24 refl) (stop !))) (store_raw ! 5 refl ((LL.lawful T.the_type T'.the_laws 𝓛).typed e.handle _ (handle-is e _ is)).0) $
         assigns ! (of_opd ! (load ! (from ! (fld ! refl (stop !))) (look_in ! 14 (sub ! 0 refl (whole !))))) (from ! (stop !)) (init ! 26 refl ((LL.lawful N.the_type N'.the_laws 𝓛).typed e.answer _ (answer-is e _ is)).0) $
         -- the borrow is closed at the handle that came back
-        move ! (6 ∷ []) $ drop ! $ owned ! T.the_row (Is T.the_row) (LL.makes T.the_type T'.the_plain 𝓛) e.handle _ (handle-is e _ is) $ move ! (6 ∷ 0 ∷ 7 ∷ 8 ∷ 9 ∷ []) $ closes ! tt T.the_row e.handle (handleVal e.handle ∷ []) b o $
+        move ! (6 ∷ []) $ drop ! $ owned ! T.the_row (Is T.the_row) (LL.makes T.the_type T'.the_plain 𝓛) e.handle _ (handle-is e _ is) $ move ! (6 ∷ 0 ∷ 7 ∷ 8 ∷ 9 ∷ []) $ closes ! tt T.the_row e.handle (handle_val e.handle ∷ []) b o $
         returns ! (look ! 24 refl) $ forget ! 8 refl $ forget ! 10 refl $ forget ! 12 refl $ forget ! 14 refl $ forget ! 16 refl $ forget ! 18 refl $ forget ! 20 refl $ forget ! 22 refl $ forget ! 24 refl $
         move ! (24 ∷ 25 ∷ []) $ free1 ! $ move ! (22 ∷ 23 ∷ []) $ free1 ! $ move ! (20 ∷ 21 ∷ []) $ free1 ! $ move ! (18 ∷ 19 ∷ []) $ free1 ! $ move ! (16 ∷ 17 ∷ []) $ free1 ! $ move ! (14 ∷ 15 ∷ []) $ free1 ! $ move ! (12 ∷ 13 ∷ []) $ free1 ! $ move ! (10 ∷ 11 ∷ []) $ free1 ! $ move ! (8 ∷ 9 ∷ []) $ free1 ! $ free0 ! $
         keep ! (0 ∷ 1 ∷ 2 ∷ 4 ∷ 5 ∷ 7 ∷ []) $ by ! (exits e zs.1.0 said l (answer-is e _ is)))))))))))))))))))

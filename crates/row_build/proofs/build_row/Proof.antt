@@ -3,12 +3,12 @@ use Rattle.row_build.proofs.build_row.Statement.{statement}
 use Rattle.row_build.proofs.build_row.Tie as tie
 use mathlib.Core.Path.{sym, ◌∙◌}
 use mathlib.Core.Bool.{true}
-use Rattle.row_layout.specs.InnerLayout.{minimumOf}
+use Rattle.row_layout.specs.InnerLayout.{minimum_of}
 use Rattle.datatype.specs.Check.{types_in}
-use Rattle.row_build.specs.Cells.{cellsFrom}
-use Rattle.row_build.specs.InnerSteps.{valuesIn}
+use Rattle.row_build.specs.Cells.{cells_from}
+use Rattle.row_build.specs.InnerSteps.{values_in}
 use Rattle.row_build.proofs.Placing.{build-refused}
-use Rattle.row_build.proofs.Listing.{listed, on_list, on-list-refused}
+use Rattle.row_build.proofs.Listing.{listed, on_list, on_list-refused}
 use Rattle.row_build.proofs.place_row.Reads as place-row-reads
 use Rattle.row_build.proofs.row_length.Reads as row-length-reads
 use Rattle.value_list.proofs.check_values.Reads as check-values-reads
@@ -49,7 +49,7 @@ returns c = c.before.before.before.before.place-row.ensures ∙ on_list (c.befor
 returns-2 : tie.Need-returns-2
 returns-2 c =
     let entry = c.before.before.before.before.before.before.before.before.before.before.before.before.before in
-    on-list-refused entry.requires entry.args.values.now entry.args.text.now c.before.before.before.check-values.ensures _ _ c.before.first.given.1
+    on_list-refused entry.requires entry.args.values.now entry.args.text.now c.before.before.before.check-values.ensures _ _ c.before.first.given.1
 
 returns-3 : tie.Need-returns-3
 returns-3 c =
@@ -57,7 +57,7 @@ returns-3 c =
     let a = entry.args in
     let ts = types_in a.schema.now in
     let b = listed entry.requires a.values.now a.text.now c.before.before.check-values.ensures c.enum_told.given.1 in
-    build-refused ts (cellsFrom 0 ts (valuesIn a.values.now) a.text.now) a.out.now a.counts.now (minimumOf a.layout true) _ (sym c.before.before.before.before.e.given.1 ∙ c.before.before.before.before.before.before.row-length.ensures.good b)
+    build-refused ts (cells_from 0 ts (values_in a.values.now) a.text.now) a.out.now a.counts.now (minimum_of a.layout true) _ (sym c.before.before.before.before.e.given.1 ∙ c.before.before.before.before.before.before.row-length.ensures.good b)
     ∙ on_list b _ _
 
 pub build-row-spec : {M : Type 1} → statement M

@@ -1,7 +1,7 @@
 use borrow.Author.Rules.{rules}
 use Rattle.row_build.proofs.clear_bit.Statement.{statement}
 use Rattle.row_build.proofs.clear_bit.Tie as tie
-use Rattle.row_build.proofs.Bits.{bit-cleared}
+use Rattle.row_build.proofs.Bits.{bit_cleared}
 
 bitmap-offset-requires : tie.Need-bitmap-offset-requires
 bitmap-offset-requires c κs = search rules
@@ -25,7 +25,7 @@ returns : tie.Need-returns
 returns c =
     let b = c.before.before.before.before.before.before in
     let y = c.before.before.clear-null in
-    bit-cleared b.args.out.now b.args.n b.args.i y.result y.new.0
+    bit_cleared b.args.out.now b.args.n b.args.i y.result y.new.0
     c.before.before.before.before.bitmap-offset.ensures b.requires.0 b.requires.1 y.ensures
 
 pub clear-bit-spec : {M : Type 1} → statement M

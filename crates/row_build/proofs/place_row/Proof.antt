@@ -14,19 +14,19 @@ returns : tie.Need-returns
 returns c =
     let entry = c.before.before.before.before.before.before.before in
     let a = entry.args in
-    too_long entry.requires.0 entry.requires.1 a.out.now a.counts.now (rw c.before.row-limit.ensures.0 at c.if1.true)
+    too_long entry.requires.0 entry.requires.1 a.out.now a.counts.now (rw c.before.row_limit_lem.ensures.0 at c.if1.true)
 
 returns-2 : tie.Need-returns-2
 returns-2 c =
     let entry = c.before.before.before.before.before.before.before.before in
     let a = entry.args in
-    no_room entry.requires.0 entry.requires.1 a.out.now a.counts.now (rw c.before.before.row-limit.ensures.0 at c.before.if1.false) c.if2.true
+    no_room entry.requires.0 entry.requires.1 a.out.now a.counts.now (rw c.before.before.row_limit_lem.ensures.0 at c.before.if1.false) c.if2.true
 
 returns-3 : tie.Need-returns-3
 returns-3 c =
     let entry = c.before.before.before.before.before.before.before.before.before.before in
     let a = entry.args in
-    few-counts entry.requires.0 entry.requires.1 a.out.now a.counts.now (rw c.before.before.before.before.row-limit.ensures.0 at c.before.before.before.if1.false) c.before.before.if2.false (omega (arith, c.if3.true))
+    few-counts entry.requires.0 entry.requires.1 a.out.now a.counts.now (rw c.before.before.before.before.row_limit_lem.ensures.0 at c.before.before.before.if1.false) c.before.before.if2.false (omega (arith, c.if3.true))
 
 write-nulls-requires : tie.Need-write-nulls-requires
 write-nulls-requires c κs =
@@ -38,7 +38,7 @@ write-columns-requires c κs =
     let entry = c.before.before.before.before.before.before.before.before.before.before.before.before.before.before.before.before in
     let a = entry.args in
     let b = entry.requires.0 in
-    (fillable b entry.requires.1 a.out.now a.counts.now (rw c.before.before.before.before.before.before.before.before.before.before.row-limit.ensures.0 at c.before.before.before.before.before.before.before.before.before.if1.false) c.before.before.before.before.before.before.before.before.if2.false c.before.before.before.before.write-nulls.ensures, omega (arith, columns-all b.accepted, c.before.before.before.before.before.before.if3.false))
+    (fillable b entry.requires.1 a.out.now a.counts.now (rw c.before.before.before.before.before.before.before.before.before.before.row_limit_lem.ensures.0 at c.before.before.before.before.before.before.before.before.before.if1.false) c.before.before.before.before.before.before.before.before.if2.false c.before.before.before.before.write-nulls.ensures, omega (arith, columns-all b.accepted, c.before.before.before.before.before.before.if3.false))
 
 same_length : tie.Need-same-length
 same_length c = search rules
@@ -51,7 +51,7 @@ returns-4 c =
     let entry = c.before.before.before.before.before.before.before.before.before.before.before.before.before.before.before.before.before.before.before.before.before in
     let a = entry.args in
     let w = c.before.before.before.before.write-columns.ensures in
-    row-placed entry.requires.0 entry.requires.1 a.out.now a.counts.now (rw c.before.before.before.before.before.before.before.before.before.before.before.before.before.before.before.row-limit.ensures.0 at c.before.before.before.before.before.before.before.before.before.before.before.before.before.before.if1.false) c.before.before.before.before.before.before.before.before.before.before.before.before.before.if2.false c.before.before.before.before.before.before.before.before.before.write-nulls.ensures c.before.before.before.before.before.before.before.before.before.before.before.if3.false w.0 w.1
+    row-placed entry.requires.0 entry.requires.1 a.out.now a.counts.now (rw c.before.before.before.before.before.before.before.before.before.before.before.before.before.before.before.row_limit_lem.ensures.0 at c.before.before.before.before.before.before.before.before.before.before.before.before.before.before.if1.false) c.before.before.before.before.before.before.before.before.before.before.before.before.before.if2.false c.before.before.before.before.before.before.before.before.before.write-nulls.ensures c.before.before.before.before.before.before.before.before.before.before.before.if3.false w.0 w.1
 
 pub place-row-spec : {M : Type 1} → statement M
 place-row-spec =

@@ -1,10 +1,10 @@
 use borrow.Author.Rules.{rules}
 use Rattle.row_build.proofs.serialize_nullable_typed_row.Statement.{statement}
 use Rattle.row_build.proofs.serialize_nullable_typed_row.Tie as tie
-use Rattle.datatype.proofs.Accept.{accepted, sort-is, on-good, on-refused}
-use Rattle.datatype.specs.Schema.{schemaOf}
+use Rattle.datatype.proofs.Accept.{accepted, sort-is, on_good, on_refused}
+use Rattle.datatype.specs.Schema.{schema_of}
 use Rattle.datatype.specs.Check.{types_in}
-use Rattle.row_build.specs.Build.{buildRow}
+use Rattle.row_build.specs.Build.{build_row}
 use mathlib.Core.Path.{sym, ap, ◌∙◌}
 use mathlib.Core.Bool.{Bool}
 use Rattle.datatype.proofs.check_schema.Reads as check-schema-reads
@@ -23,7 +23,7 @@ build-row-requires : tie.Need-build-row-requires
 build-row-requires c κs = accepted c.before.before.before.before.before.before.before.before.before.before.before.args.is-long c.before.before.before.before.before.before.before.before.before.before.before.args.schema.now (sym c.before.before.before.before.before.check-schema.ensures.0 ∙ c.before.before.before.layout.given.1) (rw c.before.before.before.layout.given.1 at c.before.before.before.before.before.check-schema.ensures.1).bounded
 
 returns : tie.Need-returns
-returns c = on-refused c.before.before.before.before.before.before.before.before.before.args.is-long (schemaOf c.before.before.before.before.before.before.before.before.before.args.is-long c.before.before.before.before.before.before.before.before.before.args.schema.now) _ _ (sym c.before.before.before.check-schema.ensures.0 ∙ c.before.e.given.1)
+returns c = on_refused c.before.before.before.before.before.before.before.before.before.args.is-long (schema_of c.before.before.before.before.before.before.before.before.before.args.is-long c.before.before.before.before.before.before.before.before.before.args.schema.now) _ _ (sym c.before.before.before.check-schema.ensures.0 ∙ c.before.e.given.1)
 
 same_length : tie.Need-same-length
 same_length c = search rules
@@ -38,7 +38,7 @@ returns-2 c =
     let s = a.schema.now in
     let e = sym c.before.before.before.before.before.before.before.before.before.before.check-schema.ensures.0 ∙ c.before.before.before.before.before.before.before.before.layout.given.1 in
     c.before.before.before.before.build-row.ensures
-    ∙ ap (λ (q : Bool). buildRow q (types_in s) a.values.now a.text.now a.out.now a.counts.now) (sort-is k s e) ∙ on-good k s e _ _
+    ∙ ap (λ (q : Bool). build_row q (types_in s) a.values.now a.text.now a.out.now a.counts.now) (sort-is k s e) ∙ on_good k s e _ _
 
 pub serialize-nullable-typed-row-spec : {M : Type 1} → statement M
 serialize-nullable-typed-row-spec =

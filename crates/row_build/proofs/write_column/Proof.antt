@@ -1,5 +1,5 @@
 use mathlib.Core.Path.{sym, ◌∙◌}
-use Rattle.row_build.proofs.Columns.{slot-ready, slot-stored, payload-ready, varchar-stored}
+use Rattle.row_build.proofs.Columns.{slot_ready, slot-stored, payload_ready, varchar-stored}
 use Rattle.record_slot.proofs.Forms.{given-null, given-value, held_found, within-at}
 use borrow.Author.Rules.{rules}
 use Rattle.row_build.proofs.write_column.Statement.{statement}
@@ -42,7 +42,7 @@ write-varchar-requires c κs =
     let p = c.before.before.before.before.before.before.before.before.before.before.before.before.requires in
     let q = p.1 (given-value p.0 c.before.before.before.before.before.before.if1.false) in
     let g = held_found p.0 q.match c.before.before.before.before.held-kind.ensures in
-    (payload-ready p.0 q (sym g ∙ c.before.before.before.if2.true) (rw c.before.before.is-long-kind.ensures at c.before.range_at.ensures.0), q.bit)
+    (payload_ready p.0 q (sym g ∙ c.before.before.before.if2.true) (rw c.before.before.is-long-kind.ensures at c.before.range_at.ensures.0), q.bit)
 
 same_length : tie.Need-same-length
 same_length c = search rules
@@ -60,7 +60,7 @@ write-fixed-requires c κs =
     let p = c.before.before.before.before.before.before.before.before.before.before.requires in
     let q = p.1 (given-value p.0 c.before.before.before.before.if1.false) in
     let g = held_found p.0 q.match c.before.before.held-kind.ensures in
-    (p.0, (slot-ready p.0 q (λ e. c.before.if2.false (g ∙ e)), q.bit))
+    (p.0, (slot_ready p.0 q (λ e. c.before.if2.false (g ∙ e)), q.bit))
 
 same-length-2 : tie.Need-same-length-2
 same-length-2 c = search rules

@@ -1,11 +1,11 @@
 use Rattle.row_build.proofs.write_columns.Statement.{statement}
 use Rattle.row_build.proofs.Writing.{Writing, write-start, write-size, write-end, write-more, write-room, write-places}
-use Rattle.row_build.proofs.Columns.{storable-suited}
+use Rattle.row_build.proofs.Columns.{storable_suited}
 use Rattle.row_build.proofs.Counting.{Counting, count-start, count-size, count-more, count-end}
 use Rattle.row_build.proofs.Measuring.{left}
 use Rattle.row_build.proofs.Walk.{readable}
-use Rattle.row_format.specs.Places.{offsetWidth}
-use Rattle.record_slot.proofs.Held.{has-type, read_at}
+use Rattle.row_format.specs.Places.{offset_width}
+use Rattle.record_slot.proofs.Held.{has_type, read_at}
 use Rattle.record_slot.proofs.Forms.{entry-bytes}
 use Prim.Native.Nat.{◌-◌}
 use native.Mathlib.Omega.{arith}
@@ -54,7 +54,7 @@ points-at-requires c κs =
     let w = c.before.before.before.before.before.before.loop.invariant.0 in
     let h = left p.given c.before.before.before.before.if1.true in
     let r = readable p.given w.walk h in
-    (r, λ z. storable-suited (write-room p w h (read_at r) z))
+    (r, λ z. storable_suited (write-room p w h (read_at r) z))
 
 mul-counts : tie.Need-overflow-mul-counts invariant-loop decreases-loop
 mul-counts c = search rules
@@ -68,7 +68,7 @@ slice-write-counts c =
 slot-size-requires : tie.Need-slot-size-requires invariant-loop decreases-loop
 slot-size-requires c κs =
     let entry = c.before.before.before.before.before.before.before.before.before.before.before.before.before.before.before.before in
-    has-type (readable entry.requires.0.given c.before.before.before.before.before.before.before.loop.invariant.0.walk (left entry.requires.0.given c.before.before.before.before.before.if1.true))
+    has_type (readable entry.requires.0.given c.before.before.before.before.before.before.before.loop.invariant.0.walk (left entry.requires.0.given c.before.before.before.before.before.if1.true))
 
 add-slot : tie.Need-overflow-add-slot invariant-loop decreases-loop
 add-slot c =
@@ -132,7 +132,7 @@ loop-again c =
     let p = c.before.before.before.before.before.before.before.before.before.before.before.before.before.before.before.before.before.before.before.before.before.before.before.requires.0 in
     let h = left p.given c.before.before.before.before.before.before.before.before.before.before.before.before.if1.true in
     let r = readable p.given c.before.before.before.before.before.before.before.before.before.before.before.before.before.before.loop.invariant.0.walk h in
-    (rw (c.before.before.after-column.ensures, c.body-length.ensures.0, c.before.before.before.before.before.before.slot-size.ensures, entry-bytes r (offsetWidth c.before.before.before.before.before.before.before.before.before.before.before.before.before.before.before.before.before.before.before.before.before.before.before.args.layout.is_long) c.before.before.before.before.held-kind.ensures c.before.before.before.entry-size.ensures.0) (write-more p c.before.before.before.before.before.before.before.before.before.before.before.before.before.before.loop.invariant.0 h (read_at r) c.before.before.before.before.before.before.before.before.before.before.write-column.result _ c.before.before.before.before.before.before.before.before.before.before.write-column.ensures), count-more c.before.before.before.before.before.before.before.before.before.before.before.before.before.before.loop.invariant.1 p c.before.before.before.before.before.before.before.before.before.before.before.before.before.before.loop.invariant.0 h (read_at r) c.before.before.before.before.before.before.before.points-at.result c.before.before.before.before.before.before.before.points-at.ensures)
+    (rw (c.before.before.after-column.ensures, c.body-length.ensures.0, c.before.before.before.before.before.before.slot-size.ensures, entry-bytes r (offset_width c.before.before.before.before.before.before.before.before.before.before.before.before.before.before.before.before.before.before.before.before.before.before.before.args.layout.is_long) c.before.before.before.before.held-kind.ensures c.before.before.before.entry-size.ensures.0) (write-more p c.before.before.before.before.before.before.before.before.before.before.before.before.before.before.loop.invariant.0 h (read_at r) c.before.before.before.before.before.before.before.before.before.before.write-column.result _ c.before.before.before.before.before.before.before.before.before.before.write-column.ensures), count-more c.before.before.before.before.before.before.before.before.before.before.before.before.before.before.loop.invariant.1 p c.before.before.before.before.before.before.before.before.before.before.before.before.before.before.loop.invariant.0 h (read_at r) c.before.before.before.before.before.before.before.points-at.result c.before.before.before.before.before.before.before.points-at.ensures)
 
 same_length : tie.Need-same-length invariant-loop decreases-loop
 same_length c = write-size c.before.before.before.before.before.before.before.before.before.before.before.requires.0 c.before.before.loop.invariant.0

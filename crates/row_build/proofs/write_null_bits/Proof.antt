@@ -1,7 +1,7 @@
 use borrow.Author.Rules.{rules}
 use Rattle.row_build.proofs.write_null_bits.Statement.{statement}
 use Rattle.row_build.proofs.write_null_bits.Tie as tie
-use Rattle.row_build.proofs.Nulls.{last_fits, bits-whole, bits-more}
+use Rattle.row_build.proofs.Nulls.{last_fits, bits_whole, bits_more}
 use native.Mathlib.Omega.{arith}
 use Prim.Native.Nat.{◌%◌}
 
@@ -29,7 +29,7 @@ same_length c = search rules
 returns : tie.Need-returns
 returns c =
     let entry = c.before.before.before.before.before.before in
-    bits-more entry.args.out.now entry.args.at entry.args.n c.before.before.before.fill.ensures c.if1.true
+    bits_more entry.args.out.now entry.args.at entry.args.n c.before.before.before.fill.ensures c.if1.true
 
 same-length-2 : tie.Need-same-length-2
 same-length-2 c = search rules
@@ -37,7 +37,7 @@ same-length-2 c = search rules
 returns-2 : tie.Need-returns-2
 returns-2 c =
     let entry = c.before.before.before.before.before.before in
-    bits-whole entry.args.out.now entry.args.at entry.args.n c.before.before.before.fill.ensures c.if1.false
+    bits_whole entry.args.out.now entry.args.at entry.args.n c.before.before.before.fill.ensures c.if1.false
 
 pub write-null-bits-spec : {M : Type 1} → statement M
 write-null-bits-spec =

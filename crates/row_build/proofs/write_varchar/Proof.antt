@@ -1,7 +1,7 @@
 use native.Mathlib.Omega.{arith}
 use mathlib.Core.Path.{◌≡◌, refl}
 use Prim.Native.Nat.{◌+◌, ◌-◌}
-use Rattle.row_format.proofs.Sorts.{fits-limit}
+use Rattle.row_format.proofs.Sorts.{fits_limit}
 use borrow.Author.Rules.{rules}
 use Rattle.row_build.proofs.write_varchar.Statement.{statement}
 use Rattle.row_build.proofs.write_varchar.Tie as tie
@@ -13,7 +13,7 @@ write-offset-requires : tie.Need-write-offset-requires
 write-offset-requires c κs =
     let entry = c.before.before.before in
     let p = entry.requires.0 in
-    (p.entry_in, fits-limit entry.args.is-long (omega (arith, p.small)))
+    (p.entry_in, fits_limit entry.args.is-long (omega (arith, p.small)))
 
 add-copy : tie.Need-overflow-add-copy
 add-copy c = search rules

@@ -1,6 +1,6 @@
 use mathlib.Core.Path.{sym, ◌∙◌}
-use Rattle.datatype.specs.Schema.{schemaOf}
-use Rattle.datatype.proofs.Accept.{accepted, on-good, on-refused, sort-again}
+use Rattle.datatype.specs.Schema.{schema_of}
+use Rattle.datatype.proofs.Accept.{accepted, on_good, on_refused, sort_again}
 use borrow.Author.Rules.{rules}
 use Rattle.row_decode.proofs.decode.Statement.{statement}
 use Rattle.row_decode.proofs.decode.Tie as tie
@@ -29,14 +29,14 @@ decode-row-requires c κs =
     let schema = b.before.before.before.before.before.before.before.args.schema.now in
     let e = c.before.before.before.before.layout.given.1 in
     let good = sym b.check-schema.ensures.0 ∙ e in
-    rw (c.before.before.of-sort.ensures, sort-again k schema good) (accepted k schema good (rw e at b.check-schema.ensures.1).bounded)
+    rw (c.before.before.of-sort.ensures, sort_again k schema good) (accepted k schema good (rw e at b.check-schema.ensures.1).bounded)
 
 returns : tie.Need-returns
 returns c =
     let b = c.before.before.before in
     let k = b.before.is-long.result in
     let schema = b.before.before.before.before.before.before.before.args.schema.now in
-    rw (← b.before.is-long.ensures) (on-refused k (schemaOf k schema) _ _ (sym b.check-schema.ensures.0 ∙ c.before.e.given.1))
+    rw (← b.before.is-long.ensures) (on_refused k (schema_of k schema) _ _ (sym b.check-schema.ensures.0 ∙ c.before.e.given.1))
 
 same_length : tie.Need-same-length
 same_length c = search rules
@@ -51,7 +51,7 @@ returns-2 c =
     let k = b.before.is-long.result in
     let schema = b.before.before.before.before.before.before.before.args.schema.now in
     let good = sym b.check-schema.ensures.0 ∙ a.before.before.layout.given.1 in
-    rw (← b.before.is-long.ensures) (rw a.of-sort.ensures at c.before.before.before.before.decode-row.ensures ∙ on-good k schema good _ _)
+    rw (← b.before.is-long.ensures) (rw a.of-sort.ensures at c.before.before.before.before.decode-row.ensures ∙ on_good k schema good _ _)
 
 pub decode-spec : {M : Type 1} → statement M
 decode-spec =

@@ -1,10 +1,10 @@
 use mathlib.Core.Path.{◌∙◌}
-use Rattle.row_decode.proofs.Handing.{filled-held, filled-out}
+use Rattle.row_decode.proofs.Handing.{filled_held, filled_out}
 use lib.ListN.{replicate}
 use Rattle.datatype.specs.Check.{types_in}
-use Rattle.row_decode.specs.InnerWalk.{walkedRead}
-use Rattle.row_decode.specs.InnerMarks.{isMarked}
-use Rattle.row_layout.specs.InnerLayout.{noColumns}
+use Rattle.row_decode.specs.InnerWalk.{walked_read}
+use Rattle.row_decode.specs.InnerMarks.{is_marked}
+use Rattle.row_layout.specs.InnerLayout.{no_columns}
 use borrow.Author.Rules.{rules}
 use Rattle.row_decode.proofs.decode_long.Statement.{statement}
 use Rattle.row_decode.proofs.decode_long.Tie as tie
@@ -29,8 +29,8 @@ slice-aggregate-hand-out-2 c = search rules
 hand-out-requires : tie.Need-hand-out-requires
 hand-out-requires c κs =
     let a = c.before.before.before.before.before.before.before.before.before.before.before.before.before.before.args in
-    filled-held a.layout.is_long a.row.now a.layout.num_columns (replicate 4608 0) (replicate 256 0) _ _ c.before.before.before.before.before.before.decode-columns.result
-    (walkedRead a.layout a.packed (isMarked a.marks.now) a.row.now noColumns (types_in a.schema.now)) c.before.before.before.before.before.before.decode-columns.ensures
+    filled_held a.layout.is_long a.row.now a.layout.num_columns (replicate 4608 0) (replicate 256 0) _ _ c.before.before.before.before.before.before.decode-columns.result
+    (walked_read a.layout a.packed (is_marked a.marks.now) a.row.now no_columns (types_in a.schema.now)) c.before.before.before.before.before.before.decode-columns.ensures
 
 same_length : tie.Need-same-length
 same_length c = search rules
@@ -42,8 +42,8 @@ returns : tie.Need-returns
 returns c =
     let a = c.before.before.before.before.before.before.before.before.before.before.before.before.before.before.before.before.before.before.before.args in
     c.before.before.before.before.hand-out.ensures
-    ∙ filled-out a.layout.is_long a.row.now a.layout.num_columns (replicate 4608 0) (replicate 256 0) _ _ c.before.before.before.before.before.before.before.before.before.before.before.decode-columns.result
-    (walkedRead a.layout a.packed (isMarked a.marks.now) a.row.now noColumns (types_in a.schema.now)) c.before.before.before.before.before.before.before.before.before.before.before.decode-columns.ensures a.out.now a.counts.now
+    ∙ filled_out a.layout.is_long a.row.now a.layout.num_columns (replicate 4608 0) (replicate 256 0) _ _ c.before.before.before.before.before.before.before.before.before.before.before.decode-columns.result
+    (walked_read a.layout a.packed (is_marked a.marks.now) a.row.now no_columns (types_in a.schema.now)) c.before.before.before.before.before.before.before.before.before.before.before.decode-columns.ensures a.out.now a.counts.now
 
 pub decode-long-spec : {M : Type 1} → statement M
 decode-long-spec =

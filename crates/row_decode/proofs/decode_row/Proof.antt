@@ -1,10 +1,10 @@
 use mathlib.Core.Path.{sym, ap, ◌∙◌}
 use Rattle.row_column.proofs.Framing.{framed, frame_refused, frame-good}
-use Rattle.row_format.specs.Places.{offsetWidth}
-use Rattle.row_decode.specs.Read.{isWanted, readFrom, handOut}
+use Rattle.row_format.specs.Places.{offset_width}
+use Rattle.row_decode.specs.Read.{is_wanted, read_from, hand_out}
 use lib.ListN.{length}
-use Rattle.row_decode.proofs.Walk.{read-walked}
-use Rattle.error.specs.Answer.{unchangedBoth}
+use Rattle.row_decode.proofs.Walk.{read_walked}
+use Rattle.error.specs.Answer.{unchanged_both}
 use Rattle.datatype.specs.Check.{types_in}
 use borrow.Author.Rules.{rules}
 use Rattle.row_decode.proofs.decode_row.Statement.{statement}
@@ -29,7 +29,7 @@ returns c =
     let entry = c.before.before.before.before.before.before.before.before.before in
     let a = entry.args in
     frame_refused (types_in a.schema.now) a.row.now
-    entry.requires.layout (unchangedBoth a.out.now a.counts.now) _
+    entry.requires.layout (unchanged_both a.out.now a.counts.now) _
     (sym c.before.before.before.check-frame.ensures ∙ c.before.e.given.1)
 
 same_length : tie.Need-same-length
@@ -45,9 +45,9 @@ returns-2 c =
     let ts = types_in a.schema.now in
     let known = entry.requires.layout in
     c.before.before.before.before.decode-values.ensures
-    ∙ ap (handOut a.layout.is_long a.out.now a.counts.now a.row.now) (read-walked a.layout.is_long _ ts (isWanted a.wanted.now) a.row.now known)
-    ∙ frame-good ts a.row.now known (unchangedBoth a.out.now a.counts.now)
-    (λ p. handOut a.layout.is_long a.out.now a.counts.now a.row.now (readFrom (offsetWidth a.layout.is_long) p ts (isWanted a.wanted.now) a.row.now 0
+    ∙ ap (hand_out a.layout.is_long a.out.now a.counts.now a.row.now) (read_walked a.layout.is_long _ ts (is_wanted a.wanted.now) a.row.now known)
+    ∙ frame-good ts a.row.now known (unchanged_both a.out.now a.counts.now)
+    (λ p. hand_out a.layout.is_long a.out.now a.counts.now a.row.now (read_from (offset_width a.layout.is_long) p ts (is_wanted a.wanted.now) a.row.now 0
     (length ts))) (sym c.before.before.before.before.before.before.before.before.before.before.check-frame.ensures ∙ c.before.before.before.before.before.before.before.before.packed.given.1)
 
 pub decode-row-spec : {M : Type 1} → statement M

@@ -4,7 +4,7 @@ use Rattle.row_edit.proofs.null_column.Tie as tie
 use mathlib.Core.Path.{sym}
 use lib.Seq.{length-take-le}
 use Rattle.row_edit.proofs.Ready.{reaches}
-use Rattle.row_edit.proofs.Stored.{fixed-ready, fixed-null, null-ready, varlen-null}
+use Rattle.row_edit.proofs.Stored.{fixed_ready, fixed-null, null_ready, varlen_null}
 
 column-at-requires : tie.Need-column-at-requires
 column-at-requires c κs = (c.before.before.requires.accepted.schema, c.before.before.requires.column)
@@ -24,16 +24,16 @@ range-at-requires c κs =
     (r.whole, (r.rank (rw c.before.before.is-variable-length.ensures at c.before.if1.true), r.table))
 
 write-null-requires : tie.Need-write-null-requires
-write-null-requires c κs = null-ready c.before.before.before.before.before.before.before.before.before.requires c.before.before.before.before.before.before.column-at.ensures (rw c.before.before.before.before.is-variable-length.ensures at c.before.before.before.if1.true) c.before.range_at.ensures
+write-null-requires c κs = null_ready c.before.before.before.before.before.before.before.before.before.requires c.before.before.before.before.before.before.column-at.ensures (rw c.before.before.before.before.is-variable-length.ensures at c.before.before.before.if1.true) c.before.range_at.ensures
 
 same_length : tie.Need-same-length
 same_length c = search rules
 
 returns : tie.Need-returns
-returns c = varlen-null c.before.before.before.before.before.before.before.before.before.before.before.before.requires c.before.before.before.before.before.before.before.before.before.column-at.ensures (rw c.before.before.before.before.before.before.before.is-variable-length.ensures at c.before.before.before.before.before.before.if1.true) c.before.before.before.before.range_at.ensures c.before.before.write-null.ensures
+returns c = varlen_null c.before.before.before.before.before.before.before.before.before.before.before.before.requires c.before.before.before.before.before.before.before.before.before.column-at.ensures (rw c.before.before.before.before.before.before.before.is-variable-length.ensures at c.before.before.before.before.before.before.if1.true) c.before.before.before.before.range_at.ensures c.before.before.write-null.ensures
 
 write-null-requires-2 : tie.Need-write-null-requires-2
-write-null-requires-2 c κs = fixed-ready c.before.before.before.before.before.before.before.requires c.before.before.before.before.column-at.ensures (rw c.before.before.is-variable-length.ensures at c.before.if1.false) 0
+write-null-requires-2 c κs = fixed_ready c.before.before.before.before.before.before.before.requires c.before.before.before.before.column-at.ensures (rw c.before.before.is-variable-length.ensures at c.before.if1.false) 0
 
 same-length-2 : tie.Need-same-length-2
 same-length-2 c = search rules

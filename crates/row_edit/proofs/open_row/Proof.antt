@@ -6,12 +6,12 @@ use native.Mathlib.Omega.{arith}
 use lib.Seq.{length-take-le}
 use Rattle.datatype.specs.Check.{types_in}
 use Rattle.datatype.proofs.Again.{columns-all}
-use Rattle.row_edit.proofs.Opening.{open-short, open-unsound, open_none, open-good}
+use Rattle.row_edit.proofs.Opening.{open_short, open_unsound, open_none, open_good}
 
 returns : tie.Need-returns
 returns c =
     let a = c.before.before.before.args in
-    open-short a.layout.is_long (types_in a.schema.now) a.buf.now a.n a.column c.if1.true
+    open_short a.layout.is_long (types_in a.schema.now) a.buf.now a.n a.column c.if1.true
 
 slice-aggregate-check-sound : tie.Need-slice-aggregate-check-sound
 slice-aggregate-check-sound c = sym (length-take-le _ _ c.before.if1.false)
@@ -34,13 +34,13 @@ returns-2 c =
 returns-3 : tie.Need-returns-3
 returns-3 c =
     let a = c.before.before.before.before.before.before.before.args in
-    open-unsound a.layout.is_long (types_in a.schema.now) a.buf.now a.n a.column c.before.before.before.before.if1.false (sym c.before.before.check_sound.ensures ∙ c.enum_told.given.1)
+    open_unsound a.layout.is_long (types_in a.schema.now) a.buf.now a.n a.column c.before.before.before.before.if1.false (sym c.before.before.check_sound.ensures ∙ c.enum_told.given.1)
 
 returns-4 : tie.Need-returns-4
 returns-4 c =
     let entry = c.before.before.before.before.before.before.before.before.before.before in
     let a = entry.args in
-    open-good a.layout.is_long (types_in a.schema.now) a.buf.now a.n a.column c.before.before.before.before.before.before.before.if1.false (sym c.before.before.before.before.before.check_sound.ensures ∙ c.before.before.before.packed.given.1) (omega (arith, columns-all entry.requires, c.if2.false))
+    open_good a.layout.is_long (types_in a.schema.now) a.buf.now a.n a.column c.before.before.before.before.before.before.before.if1.false (sym c.before.before.before.before.before.check_sound.ensures ∙ c.before.before.before.packed.given.1) (omega (arith, columns-all entry.requires, c.if2.false))
 
 pub open-row-spec : {M : Type 1} → statement M
 open-row-spec =

@@ -4,7 +4,7 @@ use Rattle.row_edit.proofs.range_at.Tie as tie
 use Rattle.row_edit.proofs.Ready.{own-start, end-start}
 use mathlib.Core.Path.{sym, ◌∙◌}
 use lib.ListN.{length}
-use Rattle.row_format.specs.Places.{tableStart}
+use Rattle.row_format.specs.Places.{table_start}
 use Rattle.row_format.proofs.Sorts.{entry_in}
 
 varlen-table-offset-requires : tie.Need-varlen-table-offset-requires
@@ -17,7 +17,7 @@ offset-at-requires : tie.Need-offset-at-requires
 offset-at-requires c κs =
     let entry = c.before.before.before in
     let a = entry.args in
-    rw c.before.varlen-table-offset.ensures (entry_in a.layout.is_long (tableStart a.layout.num_columns) a.layout.num_varlen_cols a.before.num_varlen_cols (length a.row.now) entry.requires.1.0 entry.requires.1.1)
+    rw c.before.varlen-table-offset.ensures (entry_in a.layout.is_long (table_start a.layout.num_columns) a.layout.num_varlen_cols a.before.num_varlen_cols (length a.row.now) entry.requires.1.0 entry.requires.1.1)
 
 returns : tie.Need-returns
 returns c =

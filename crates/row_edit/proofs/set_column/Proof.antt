@@ -4,9 +4,9 @@ use Rattle.row_edit.proofs.set_column.Tie as tie
 use mathlib.Core.Path.{sym, ap, ◌∙◌}
 use Rattle.datatype.specs.declared.DataType.{DataType}
 use Rattle.datatype.specs.Check.{types_in}
-use Rattle.record_slot.specs.Stored.{storedIn}
+use Rattle.record_slot.specs.Stored.{stored_in}
 use Rattle.row_edit.specs.Edit.{written}
-use Rattle.row_edit.proofs.Opening.{kind-bad, suit-bad, suit-good}
+use Rattle.row_edit.proofs.Opening.{kind-bad, suit_bad, suit_good}
 
 column-at-requires : tie.Need-column-at-requires
 column-at-requires c κs =
@@ -28,21 +28,21 @@ same_length c = search rules
 returns : tie.Need-returns
 returns c =
     let a = c.before.before.before.before.before.before.before.before.before.before.before.before.args in
-    let is = ap (λ (t : DataType). storedIn a.column t a.value a.area.now) c.before.before.before.before.before.before.before.before.column-at.ensures.type-is in
-    let g = suit-good a.column c.before.before.before.before.before.before.before.before.column-at.result.ty a.value a.area.now (sym c.before.before.before.before.before.before.before.data-value-matches-type.ensures ∙ c.before.before.before.before.before.before.if1.true) (sym c.before.before.before.before.before.suits.ensures ∙ c.before.before.before.before.if2.true) in
+    let is = ap (λ (t : DataType). stored_in a.column t a.value a.area.now) c.before.before.before.before.before.before.before.before.column-at.ensures.type_is in
+    let g = suit_good a.column c.before.before.before.before.before.before.before.before.column-at.result.ty a.value a.area.now (sym c.before.before.before.before.before.before.before.data-value-matches-type.ensures ∙ c.before.before.before.before.before.before.if1.true) (sym c.before.before.before.before.before.suits.ensures ∙ c.before.before.before.before.if2.true) in
     c.before.before.set-suited.ensures ∙ ap (written a.layout.is_long (types_in a.schema.now) a.packed a.buf.now a.n a.column) (sym g ∙ is)
 
 returns-2 : tie.Need-returns-2
 returns-2 c =
     let a = c.before.before.before.before.before.before.before.before.args in
-    let is = ap (λ (t : DataType). storedIn a.column t a.value a.area.now) c.before.before.before.before.column-at.ensures.type-is in
-    let g = suit-bad a.column c.before.before.before.before.column-at.result.ty a.value a.area.now (sym c.before.before.before.data-value-matches-type.ensures ∙ c.before.before.if1.true) (sym c.before.suits.ensures ∙ c.if2.false) in
+    let is = ap (λ (t : DataType). stored_in a.column t a.value a.area.now) c.before.before.before.before.column-at.ensures.type_is in
+    let g = suit_bad a.column c.before.before.before.before.column-at.result.ty a.value a.area.now (sym c.before.before.before.data-value-matches-type.ensures ∙ c.before.before.if1.true) (sym c.before.suits.ensures ∙ c.if2.false) in
     ap (written a.layout.is_long (types_in a.schema.now) a.packed a.buf.now a.n a.column) (sym g ∙ is)
 
 returns-3 : tie.Need-returns-3
 returns-3 c =
     let a = c.before.before.before.before.before.before.args in
-    let is = ap (λ (t : DataType). storedIn a.column t a.value a.area.now) c.before.before.column-at.ensures.type-is in
+    let is = ap (λ (t : DataType). stored_in a.column t a.value a.area.now) c.before.before.column-at.ensures.type_is in
     let g = kind-bad a.column c.before.before.column-at.result.ty a.value a.area.now (sym c.before.data-value-matches-type.ensures ∙ c.if1.false) in
     ap (written a.layout.is_long (types_in a.schema.now) a.packed a.buf.now a.n a.column) (sym g ∙ is)
 

@@ -1,9 +1,9 @@
 use borrow.Author.Rules.{rules}
 use Rattle.row_edit.proofs.set_null.Statement.{statement}
 use Rattle.row_edit.proofs.set_null.Tie as tie
-use Rattle.datatype.proofs.Accept.{accepted, on-good, on-refused, sort-is}
-use Rattle.datatype.specs.Schema.{schemaOf}
-use Rattle.row_format.specs.Header.{sortIn}
+use Rattle.datatype.proofs.Accept.{accepted, on_good, on_refused, sort-is}
+use Rattle.datatype.specs.Schema.{schema_of}
+use Rattle.row_format.specs.Header.{sort_in}
 use mathlib.Core.Path.{sym, ◌∙◌}
 
 sort-in-requires : tie.Need-sort-in-requires
@@ -27,8 +27,8 @@ same_length c = search rules
 returns : tie.Need-returns
 returns c =
     let a = c.before.before.before.before.before.before.before.before.args in
-    let sort = sortIn a.buf.now a.row-length in
-    on-refused sort (schemaOf sort a.schema.now) _ _ (sym (rw c.before.before.before.before.sort-in.ensures at c.before.before.before.check-schema.ensures.0) ∙ c.before.e.given.1)
+    let sort = sort_in a.buf.now a.row-length in
+    on_refused sort (schema_of sort a.schema.now) _ _ (sym (rw c.before.before.before.before.sort-in.ensures at c.before.before.before.check-schema.ensures.0) ∙ c.before.e.given.1)
 
 same-length-2 : tie.Need-same-length-2
 same-length-2 c = search rules
@@ -36,9 +36,9 @@ same-length-2 c = search rules
 returns-2 : tie.Need-returns-2
 returns-2 c =
     let a = c.before.before.before.before.before.before.before.before.before.before.before.before.args in
-    let sort = sortIn a.buf.now a.row-length in
+    let sort = sort_in a.buf.now a.row-length in
     let good = sym (rw c.before.before.before.before.before.before.before.before.sort-in.ensures at c.before.before.before.before.before.before.before.check-schema.ensures.0) ∙ c.before.before.before.before.before.layout.given.1 in
-    rw (sort-is sort a.schema.now good) at c.before.before.null-checked.ensures ∙ on-good sort a.schema.now good _ _
+    rw (sort-is sort a.schema.now good) at c.before.before.null-checked.ensures ∙ on_good sort a.schema.now good _ _
 
 pub set-null-spec : {M : Type 1} → statement M
 set-null-spec =

@@ -14,7 +14,7 @@ same_length : tie.Need-same-length
 same_length c = search rules
 
 returns : tie.Need-returns
-returns c = c.before.before.set-varlen.ensures
+returns c = c.before.before.set_varlen.ensures
 
 set-fixed-requires : tie.Need-set-fixed-requires
 set-fixed-requires c κs =

@@ -4,10 +4,10 @@ use Rattle.row_edit.proofs.set_varlen.Tie as tie
 use mathlib.Core.Path.{sym}
 use native.Mathlib.Omega.{arith}
 use lib.Seq.{length-take-le}
-use Rattle.row_format.proofs.Sorts.{limit-le}
+use Rattle.row_format.proofs.Sorts.{limit_le}
 use Rattle.value.specs.Ranges.{range_of}
 use Rattle.row_edit.proofs.Ready.{reaches}
-use Rattle.row_edit.proofs.Stored.{range-within, kept-limit, varlen-ready, varlen-done, varlen-long, varlen-room}
+use Rattle.row_edit.proofs.Stored.{range-within, kept_limit, varlen_ready, varlen_done, varlen_long, varlen_room}
 
 slice-reshare-prefix-range-at : tie.Need-slice-reshare-prefix-range-at
 slice-reshare-prefix-range-at c = search rules
@@ -29,7 +29,7 @@ sub-kept c =
 add_kept : tie.Need-overflow-add-kept
 add_kept c =
     let entry = c.before.before.before.before.before.before in
-    omega (arith, limit-le entry.args.layout.is_long, kept-limit entry.requires.0 entry.requires.1.0 entry.requires.1.1.0 c.range_at.ensures)
+    omega (arith, limit_le entry.args.layout.is_long, kept_limit entry.requires.0 entry.requires.1.0 entry.requires.1.1.0 c.range_at.ensures)
 
 range-requires : tie.Need-range-requires
 range-requires c κs = search rules
@@ -40,7 +40,7 @@ row-limit-requires c κs = search rules
 sub-if1 : tie.Need-overflow-sub-if1
 sub-if1 c =
     let entry = c.before.before.before.before.before.before.before.before in
-    rw c.row-limit.ensures.0 (kept-limit entry.requires.0 entry.requires.1.0 entry.requires.1.1.0 c.before.before.range_at.ensures)
+    rw c.row_limit_lem.ensures.0 (kept_limit entry.requires.0 entry.requires.1.0 entry.requires.1.1.0 c.before.before.range_at.ensures)
 
 same_length : tie.Need-same-length
 same_length c = search rules
@@ -48,12 +48,12 @@ same_length c = search rules
 returns : tie.Need-returns
 returns c =
     let entry = c.before.before.before.before.before.before.before.before.before.before in
-    varlen-long entry.requires.0 entry.requires.1.0 entry.requires.1.1.0 c.before.before.before.before.range_at.ensures entry.requires.1.1.1 (rw (c.before.before.before.range.ensures, c.before.before.row-limit.ensures.0) at c.if1.true)
+    varlen_long entry.requires.0 entry.requires.1.0 entry.requires.1.1.0 c.before.before.before.before.range_at.ensures entry.requires.1.1.1 (rw (c.before.before.before.range.ensures, c.before.before.row_limit_lem.ensures.0) at c.if1.true)
 
 add-if2 : tie.Need-overflow-add-if2
 add-if2 c =
     let entry = c.before.before.before.before.before.before.before.before.before.before.before in
-    omega (arith, limit-le entry.args.layout.is_long, kept-limit entry.requires.0 entry.requires.1.0 entry.requires.1.1.0 c.before.before.before.before.before.range_at.ensures, rw c.before.before.before.row-limit.ensures.0 at c.before.if1.false)
+    omega (arith, limit_le entry.args.layout.is_long, kept_limit entry.requires.0 entry.requires.1.0 entry.requires.1.1.0 c.before.before.before.before.before.range_at.ensures, rw c.before.before.before.row_limit_lem.ensures.0 at c.before.if1.false)
 
 same-length-2 : tie.Need-same-length-2
 same-length-2 c = search rules
@@ -61,12 +61,12 @@ same-length-2 c = search rules
 returns-2 : tie.Need-returns-2
 returns-2 c =
     let entry = c.before.before.before.before.before.before.before.before.before.before.before.before in
-    varlen-room entry.requires.0 entry.requires.1.0 entry.requires.1.1.0 c.before.before.before.before.before.before.range_at.ensures entry.requires.1.1.1 (rw (c.before.before.before.before.before.range.ensures, c.before.before.before.before.row-limit.ensures.0) at c.before.before.if1.false) (rw c.before.before.before.before.before.range.ensures at c.if2.true)
+    varlen_room entry.requires.0 entry.requires.1.0 entry.requires.1.1.0 c.before.before.before.before.before.before.range_at.ensures entry.requires.1.1.1 (rw (c.before.before.before.before.before.range.ensures, c.before.before.before.before.row_limit_lem.ensures.0) at c.before.before.if1.false) (rw c.before.before.before.before.before.range.ensures at c.if2.true)
 
 write-value-requires : tie.Need-write-value-requires
 write-value-requires c κs =
     let entry = c.before.before.before.before.before.before.before.before.before.before.before.before.before in
-    (varlen-ready entry.requires.0 entry.requires.1.0 entry.requires.1.1.0 c.before.before.before.before.before.before.before.range_at.ensures (range_of entry.args.value).length (rw (c.before.before.before.before.before.before.range.ensures, c.before.before.before.before.before.row-limit.ensures.0) at c.before.before.before.if1.false) (rw c.before.before.before.before.before.before.range.ensures at c.before.if2.false), entry.requires.1.1.1)
+    (varlen_ready entry.requires.0 entry.requires.1.0 entry.requires.1.1.0 c.before.before.before.before.before.before.before.range_at.ensures (range_of entry.args.value).length (rw (c.before.before.before.before.before.before.range.ensures, c.before.before.before.before.before.row_limit_lem.ensures.0) at c.before.before.before.if1.false) (rw c.before.before.before.before.before.before.range.ensures at c.before.if2.false), entry.requires.1.1.1)
 
 same-length-3 : tie.Need-same-length-3
 same-length-3 c = search rules
@@ -74,7 +74,7 @@ same-length-3 c = search rules
 returns-3 : tie.Need-returns-3
 returns-3 c =
     let entry = c.before.before.before.before.before.before.before.before.before.before.before.before.before.before.before.before in
-    varlen-done entry.requires.0 entry.requires.1.0 entry.requires.1.1.0 c.before.before.before.before.before.before.before.before.before.before.range_at.ensures entry.requires.1.1.1 c.before.before.write-value.ensures (rw (c.before.before.before.before.before.before.before.before.before.range.ensures, c.before.before.before.before.before.before.before.before.row-limit.ensures.0) at c.before.before.before.before.before.before.if1.false) (rw c.before.before.before.before.before.before.before.before.before.range.ensures at c.before.before.before.before.if2.false)
+    varlen_done entry.requires.0 entry.requires.1.0 entry.requires.1.1.0 c.before.before.before.before.before.before.before.before.before.before.range_at.ensures entry.requires.1.1.1 c.before.before.write-value.ensures (rw (c.before.before.before.before.before.before.before.before.before.range.ensures, c.before.before.before.before.before.before.before.before.row_limit_lem.ensures.0) at c.before.before.before.before.before.before.if1.false) (rw c.before.before.before.before.before.before.before.before.before.range.ensures at c.before.before.before.before.if2.false)
 
 pub set-varlen-spec : {M : Type 1} → statement M
 set-varlen-spec =

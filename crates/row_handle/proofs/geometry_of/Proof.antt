@@ -1,7 +1,7 @@
 use borrow.Author.Rules.{rules}
 use Rattle.row_handle.proofs.geometry_of.Statement.{statement}
 use Rattle.row_handle.proofs.geometry_of.Tie as tie
-use Rattle.laws.proofs.Bits.{bool-bit}
+use Rattle.laws.proofs.Bits.{bool_bit}
 
 fixed-size-requires : tie.Need-fixed-size-requires
 fixed-size-requires c κs = search rules
@@ -15,7 +15,7 @@ cast-t5 c = search rules
 returns : tie.Need-returns
 returns c =
     let a = c.before.before.args in
-    rw (c.before.fixed-size.ensures, bool-bit a.packed, bool-bit a.layout.is_long)
+    rw (c.before.fixed-size.ensures, bool_bit a.packed, bool_bit a.layout.is_long)
 
 pub geometry-of-spec : {M : Type 1} → statement M
 geometry-of-spec = tie.close (tie.spec fixed-size-requires cast-t4 cast-t5 returns)

@@ -1,9 +1,9 @@
 use borrow.Author.Rules.{rules}
 use Rattle.row_handle.proofs.with_value.Statement.{statement}
 use mathlib.Core.Path.{sym, ap, ◌∙◌}
-use Rattle.row_format.specs.Header.{sortIn}
-use Rattle.datatype.specs.Schema.{schemaOf}
-use Rattle.datatype.proofs.Accept.{accepted, on-good, on-refused, sort-is}
+use Rattle.row_format.specs.Header.{sort_in}
+use Rattle.datatype.specs.Schema.{schema_of}
+use Rattle.datatype.proofs.Accept.{accepted, on_good, on_refused, sort-is}
 use Rattle.row_handle.specs.Handle.{handled}
 use Rattle.row_handle.proofs.Handling.{handled-good}
 use Rattle.row_handle.proofs.with_value.Tie as tie
@@ -32,8 +32,8 @@ same_length c = search rules
 returns : tie.Need-returns
 returns c =
     let a = c.before.before.before.before.before.before.before.before.before.before.args in
-    let sort = sortIn a.buf.now a.handle.length in
-    ap (handled sort a.schema.now a.handle) (on-refused sort (schemaOf sort a.schema.now) _ _ (sym (rw c.before.before.before.before.sort-in.ensures at c.before.before.before.check-schema.ensures.0) ∙ c.before.e.given.1))
+    let sort = sort_in a.buf.now a.handle.length in
+    ap (handled sort a.schema.now a.handle) (on_refused sort (schema_of sort a.schema.now) _ _ (sym (rw c.before.before.before.before.sort-in.ensures at c.before.before.before.check-schema.ensures.0) ∙ c.before.e.given.1))
 
 same-length-2 : tie.Need-same-length-2
 same-length-2 c = search rules
@@ -42,10 +42,10 @@ returns-2 : tie.Need-returns-2
 returns-2 c =
     let a = c.before.before.before.before.before.before.before.before.before.before.before.before.before.before.before.before.args in
     let schema = a.schema.now in
-    let sort = sortIn a.buf.now a.handle.length in
+    let sort = sort_in a.buf.now a.handle.length in
     let good = sym (rw c.before.before.before.before.before.before.before.before.before.before.sort-in.ensures at c.before.before.before.before.before.before.before.before.before.check-schema.ensures.0) ∙ c.before.before.before.before.before.before.before.layout.given.1 in
     let long = sort-is sort schema good in
-    handled-good sort schema a.handle long (accepted sort schema good (rw c.before.before.before.before.before.before.before.layout.given.1 at c.before.before.before.before.before.before.before.before.before.check-schema.ensures.1).bounded) (rw long at c.before.before.before.before.set-checked.ensures ∙ on-good sort schema good _ _) c.handle-after.ensures
+    handled-good sort schema a.handle long (accepted sort schema good (rw c.before.before.before.before.before.before.before.layout.given.1 at c.before.before.before.before.before.before.before.before.before.check-schema.ensures.1).bounded) (rw long at c.before.before.before.before.set-checked.ensures ∙ on_good sort schema good _ _) c.handle-after.ensures
 
 pub with-value-spec : {M : Type 1} → statement M
 with-value-spec =

@@ -3,7 +3,7 @@ use mathlib.Core.Path.{◌≡◌}
 use native.Mathlib.Omega.{arith}
 use lib.ListN.{drop}
 use lib.Seq.{drop-drop}
-use Rattle.row_list.specs.Rows.{firstSize}
+use Rattle.row_list.specs.Rows.{first_size}
 use borrow.Author.Rules.{rules}
 use Rattle.row_list.proofs.row_at.Statement.{statement}
 use Rattle.row_list.proofs.row_at.Tie as tie
@@ -26,7 +26,7 @@ part-result-end c = search rules
 returns : tie.Need-returns
 returns c =
     let a = c.before.before.before.args in
-    let e : c.before.row-end.result - (a.at + 2) ≡ firstSize (drop a.at a.list.now) = omega arith in
+    let e : c.before.row-end.result - (a.at + 2) ≡ first_size (drop a.at a.list.now) = omega arith in
     rw (e, drop-drop)
 
 pub row-at-spec : {M : Type 1} → statement M

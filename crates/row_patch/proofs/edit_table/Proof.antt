@@ -1,6 +1,6 @@
 use borrow.Author.Rules.{rules}
 use Rattle.row_format.proofs.Sorts.{entry_in}
-use Rattle.row_format.specs.Places.{offsetWidth}
+use Rattle.row_format.specs.Places.{offset_width}
 use Rattle.row_patch.proofs.edit_table.Statement.{statement}
 use Rattle.row_patch.proofs.edit_table.Tie as tie
 use Rattle.row_patch.proofs.Offsets.{table-edited}
@@ -25,7 +25,7 @@ returns c =
     let entry = c.before.before.before.before.before.before.before.before.before in
     let a = entry.args in
     let h = entry.requires.0 in
-    table-edited (offsetWidth a.is-long) a.table a.varlens a.rank a.own a.end a.new-end a.row.now c.before.before.before.before.before.before.before.before.slice-known.given h.ranked h.inside _ _ c.before.before.before.before.before.before.move-offsets.ensures c.before.before.put-offset.ensures
+    table-edited (offset_width a.is-long) a.table a.varlens a.rank a.own a.end a.new-end a.row.now c.before.before.before.before.before.before.before.before.slice-known.given h.ranked h.inside _ _ c.before.before.before.before.before.before.move-offsets.ensures c.before.before.put-offset.ensures
 
 pub edit-table-spec : {M : Type 1} → statement M
 edit-table-spec =

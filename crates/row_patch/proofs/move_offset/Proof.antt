@@ -1,6 +1,6 @@
 use borrow.Author.Rules.{rules}
 use Rattle.row_format.proofs.Sorts.{offset-le}
-use Rattle.row_format.specs.Places.{offsetWidth}
+use Rattle.row_format.specs.Places.{offset_width}
 use Rattle.row_patch.proofs.move_offset.Statement.{statement}
 use Rattle.row_patch.proofs.move_offset.Tie as tie
 use native.Mathlib.Omega.{arith}
@@ -32,7 +32,7 @@ returns : tie.Need-returns
 returns c =
     let a = c.before.before.before.before.before.before.before.before.args in
     let o = c.before.before.before.before.before.offset_at in
-    offset-moved (offsetWidth a.is-long) a.table a.rank a.end a.new-end o.result a.row.now o.ensures.0 _ c.before.before.before.before.if1.true c.before.before.put-offset.ensures
+    offset-moved (offset_width a.is-long) a.table a.rank a.end a.new-end o.result a.row.now o.ensures.0 _ c.before.before.before.before.if1.true c.before.before.put-offset.ensures
 
 same-length-2 : tie.Need-same-length-2
 same-length-2 c = search rules
@@ -42,7 +42,7 @@ returns-2 c =
     let entry = c.before.before.before.before in
     let a = entry.args in
     let o = c.before.offset_at in
-    offset-kept (offsetWidth a.is-long) a.table a.rank a.end a.new-end o.result a.row.now o.ensures.0 c.before.before.before.slice-known.given entry.requires.0 c.if1.false
+    offset-kept (offset_width a.is-long) a.table a.rank a.end a.new-end o.result a.row.now o.ensures.0 c.before.before.before.slice-known.given entry.requires.0 c.if1.false
 
 pub move-offset-spec : {M : Type 1} → statement M
 move-offset-spec =

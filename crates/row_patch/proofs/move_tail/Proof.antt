@@ -1,7 +1,7 @@
 use borrow.Author.Rules.{rules}
 use Rattle.row_patch.proofs.move_tail.Statement.{statement}
 use Rattle.row_patch.proofs.move_tail.Tie as tie
-use Rattle.row_patch.proofs.Held.{tail-moved}
+use Rattle.row_patch.proofs.Held.{tail_moved}
 
 sub-move-within : tie.Need-overflow-sub-move-within
 sub-move-within c = search rules
@@ -25,7 +25,7 @@ same_length : tie.Need-same-length
 same_length c = search rules
 
 returns : tie.Need-returns
-returns c = tail-moved c.before.before.before.before.before.requires _ c.before.before.move-within.ensures
+returns c = tail_moved c.before.before.before.before.before.requires _ c.before.before.move-within.ensures
 
 pub move_tail_spec : {M : Type 1} → statement M
 move_tail_spec =

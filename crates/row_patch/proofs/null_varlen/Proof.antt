@@ -1,12 +1,12 @@
 use borrow.Author.Rules.{rules}
-use Rattle.row_format.proofs.Sorts.{fits-limit}
+use Rattle.row_format.proofs.Sorts.{fits_limit}
 use Rattle.row_patch.proofs.null_varlen.Statement.{statement}
 use Rattle.row_patch.proofs.null_varlen.Tie as tie
 use native.Mathlib.Omega.{arith}
 use mathlib.Core.Path.{refl}
 use mathlib.Core.Option.{none}
 use native.Mathlib.Nat.{add-zero}
-use Rattle.row_patch.proofs.Ranges.{lent_length, table-ready, table_done}
+use Rattle.row_patch.proofs.Ranges.{lent_length, table_ready, table_done}
 use Prim.Native.Nat.{◌+◌, ◌-◌}
 
 remove-requires : tie.Need-remove-requires
@@ -31,7 +31,7 @@ edit-table-requires : tie.Need-edit-table-requires
 edit-table-requires c κs =
     let entry = c.before.before.before.before.before.before in
     let a = entry.args in
-    (table-ready entry.requires none refl (a.start + (a.n - a.end)) a.start (rw add-zero) (rw add-zero) _ c.before.before.before.remove.ensures, fits-limit a.is-long (omega arith))
+    (table_ready entry.requires none refl (a.start + (a.n - a.end)) a.start (rw add-zero) (rw add-zero) _ c.before.before.before.remove.ensures, fits_limit a.is-long (omega arith))
 
 same_length : tie.Need-same-length
 same_length c = search rules

@@ -1,5 +1,5 @@
 use borrow.Author.Rules.{rules}
-use Rattle.row_format.proofs.Sorts.{fits-limit}
+use Rattle.row_format.proofs.Sorts.{fits_limit}
 use Rattle.row_patch.proofs.store_varlen.Statement.{statement}
 use Rattle.row_patch.proofs.store_varlen.Tie as tie
 use native.Mathlib.Omega.{arith}
@@ -8,7 +8,7 @@ use mathlib.Core.Path.{refl}
 use mathlib.Core.Option.{some}
 use lib.ListN.{length}
 use Rattle.row_patch.specs.InnerStores.{form_of}
-use Rattle.row_patch.proofs.Ranges.{length-text, lent_length, table-ready, table_done}
+use Rattle.row_patch.proofs.Ranges.{length-text, lent_length, table_ready, table_done}
 
 range-requires : tie.Need-range-requires
 range-requires c κs = search rules
@@ -62,7 +62,7 @@ edit-table-requires c κs =
     let e = c.before.before.before.before.before.range.ensures in
     let g = rw (← e) at p.0 in
     let size = c.before.before.before.before.before.range.result.length in
-    (table-ready g (some (form_of a.ty a.value a.area.now)) (rw e (length-text p.1.0 p.1.1)) (a.start + size + (a.n - a.end)) (a.start + size) refl refl _ c.before.before.before.replace.ensures, fits-limit a.is-long (omega (arith, g.short)))
+    (table_ready g (some (form_of a.ty a.value a.area.now)) (rw e (length-text p.1.0 p.1.1)) (a.start + size + (a.n - a.end)) (a.start + size) refl refl _ c.before.before.before.replace.ensures, fits_limit a.is-long (omega (arith, g.short)))
 
 same_length : tie.Need-same-length
 same_length c = search rules

@@ -1,7 +1,7 @@
 use borrow.Author.Rules.{rules}
 use Rattle.row_patch.proofs.write_null.Statement.{statement}
 use Rattle.row_patch.proofs.write_null.Tie as tie
-use Rattle.row_patch.proofs.Columns.{sized-null, bit-room, bit-part, bit-ready, bit-done}
+use Rattle.row_patch.proofs.Columns.{sized-null, bit-room, bit-part, bit_ready, bit-done}
 
 store-null-requires : tie.Need-store-null-requires
 store-null-requires c κs = search rules
@@ -20,7 +20,7 @@ slice-aggregate-put-bit c =
 put-bit-requires : tie.Need-put-bit-requires
 put-bit-requires c κs =
     let entry = c.before.before.before.before.before.before in
-    bit-ready entry.requires (sized-null entry.args.ty) _ _ c.before.before.before.store-null.ensures
+    bit_ready entry.requires (sized-null entry.args.ty) _ _ c.before.before.before.store-null.ensures
 
 same_length : tie.Need-same-length
 same_length c = search rules

@@ -1,7 +1,7 @@
 use borrow.Author.Rules.{rules}
 use Rattle.row_patch.proofs.write_value.Statement.{statement}
 use Rattle.row_patch.proofs.write_value.Tie as tie
-use Rattle.row_patch.proofs.Columns.{sized-value, bit-room, bit-part, bit-ready, bit-done}
+use Rattle.row_patch.proofs.Columns.{sized-value, bit-room, bit-part, bit_ready, bit-done}
 
 store-column-requires : tie.Need-store-column-requires
 store-column-requires c κs = search rules
@@ -20,7 +20,7 @@ slice-aggregate-put-bit c =
 put-bit-requires : tie.Need-put-bit-requires
 put-bit-requires c κs =
     let p = c.before.before.before.before.before.before.before.requires in
-    bit-ready p.0 (sized-value p.1) _ _ c.before.before.before.store-column.ensures
+    bit_ready p.0 (sized-value p.1) _ _ c.before.before.before.store-column.ensures
 
 same_length : tie.Need-same-length
 same_length c = search rules

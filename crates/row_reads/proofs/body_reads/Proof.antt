@@ -1,15 +1,15 @@
 use borrow.Author.Rules.{rules}
 use Rattle.row_reads.proofs.body_reads.Statement.{statement}
 use Rattle.row_reads.proofs.body_reads.Tie as tie
-use Rattle.row_sound.proofs.ByKind.{bodyType, bodily, body_typed, typed-as, varchar-typed, body-fixed}
-use Rattle.row_sound.proofs.Slots.{value-if, any-sound, slot-told, as-char}
+use Rattle.row_sound.proofs.ByKind.{body_type, bodily, body_typed, typed_as, varchar-typed, body_fixed}
+use Rattle.row_sound.proofs.Slots.{value_if_lem, any-sound, slot-told, as_char}
 use native.Mathlib.Omega.{arith}
 use lib.Dec.{eqb}
 use mathlib.Core.Path.{refl, sym, ap, ◌∙◌}
-use Rattle.row_format.specs.Places.{tableStart, offsetWidth}
-use Rattle.row_layout.specs.Range.{varlenRange}
-use Rattle.datatype.specs.Types.{isVarlen}
-use Rattle.datatype.specs.Schema.{columnKind}
+use Rattle.row_format.specs.Places.{table_start, offset_width}
+use Rattle.row_layout.specs.Range.{varlen_range}
+use Rattle.datatype.specs.Types.{is_varlen}
+use Rattle.datatype.specs.Schema.{column_kind}
 use Rattle.datatype.specs.declared.DataType.TheVariants.{Char, Character}
 use Rattle.row_reads.proofs.Reading.{sound-reads, range-reads}
 
@@ -59,12 +59,12 @@ returns-2 c =
     )
     (rw c.before.varlen-table-offset.ensures at c.range-reads.ensures
     ∙ range-reads (eqb a.kind 16) n.result a.before.num_columns a.row.now
-    (varlenRange (offsetWidth l.is_long) (tableStart l.num_columns) l.num_varlen_cols a.before.num_varlen_cols a.row.now))
+    (varlen_range (offset_width l.is_long) (table_start l.num_columns) l.num_varlen_cols a.before.num_varlen_cols a.row.now))
 
 char-sound-requires : tie.Need-char-sound-requires
 char-sound-requires c κs =
     let p = c.before.before.before.before.before.before.before.before.requires in
-    let k = rw (typed-as (bodily p.0 p.1.0 p.1.1.0) c.match.keys1) at p.1.1.1 in
+    let k = rw (typed_as (bodily p.0 p.1.0 p.1.1.0) c.match.keys1) at p.1.1.1 in
     rw c.before.before.before.before.before.read-u16.ensures k
 
 char-sound-requires-2 : tie.Need-char-sound-requires-2
@@ -72,8 +72,8 @@ char-sound-requires-2 c κs =
     let entry = c.before.before.before.before.before.before.before.before in
     let a = entry.args in
     let p = entry.requires in
-    let k = rw (typed-as (bodily p.0 p.1.0 p.1.1.0) c.match.keys2) at p.1.1.1 in
-    rw c.before.before.before.before.before.read-u16.ensures (as-char a.layout a.packed a.before a.row.now k)
+    let k = rw (typed_as (bodily p.0 p.1.0 p.1.1.0) c.match.keys2) at p.1.1.1 in
+    rw c.before.before.before.before.before.read-u16.ensures (as_char a.layout a.packed a.before a.row.now k)
 
 record-sound-requires : tie.Need-record-sound-requires
 record-sound-requires c κs =
@@ -81,8 +81,8 @@ record-sound-requires c κs =
     let a = entry.args in
     let p = entry.requires in
     let no = sym c.before.before.is-varchar.ensures ∙ c.before.if2.false in
-    let fixed = body-fixed a.schema.now a.at a.kind no in
-    (p.1.1.0, (p.1.1.1, ap isVarlen (body_typed (bodily p.0 p.1.0 p.1.1.0)) ∙ fixed))
+    let fixed = body_fixed a.schema.now a.at a.kind no in
+    (p.1.1.0, (p.1.1.1, ap is_varlen (body_typed (bodily p.0 p.1.0 p.1.1.0)) ∙ fixed))
 
 returns-3 : tie.Need-returns-3
 returns-3 c =
@@ -91,9 +91,9 @@ returns-3 c =
     let p = m.before.before.before.requires in
     let t = Char m.read-u16.result in
     let clear = sym c.before.before.before.before.before.column-bit-is-set.ensures ∙ c.before.before.before.before.if1.false in
-    rw (typed-as (bodily p.0 p.1.0 p.1.1.0) c.before.match.keys1, ← m.read-u16.ensures)
+    rw (typed_as (bodily p.0 p.1.0 p.1.1.0) c.before.match.keys1, ← m.read-u16.ensures)
     (slot-told a.layout a.packed a.before a.row.now t refl refl clear refl
-    (c.char-sound.ensures ∙ value-if _ _)
+    (c.char-sound.ensures ∙ value_if_lem _ _)
     ∙ sound-reads a.layout a.packed a.before t a.row.now refl)
 
 returns-4 : tie.Need-returns-4
@@ -103,9 +103,9 @@ returns-4 c =
     let p = m.before.before.before.requires in
     let t = Character m.read-u16.result in
     let clear = sym c.before.before.before.before.before.column-bit-is-set.ensures ∙ c.before.before.before.before.if1.false in
-    rw (typed-as (bodily p.0 p.1.0 p.1.1.0) c.before.match.keys2, ← m.read-u16.ensures)
+    rw (typed_as (bodily p.0 p.1.0 p.1.1.0) c.before.match.keys2, ← m.read-u16.ensures)
     (slot-told a.layout a.packed a.before a.row.now t refl refl clear refl
-    (c.char-sound2.ensures ∙ value-if _ _)
+    (c.char-sound2.ensures ∙ value_if_lem _ _)
     ∙ sound-reads a.layout a.packed a.before t a.row.now refl)
 
 returns-5 : tie.Need-returns-5
@@ -113,8 +113,8 @@ returns-5 c =
     let entry = c.before.before.before.before.before.before.before.before in
     let a = entry.args in
     let p = entry.requires in
-    let t = bodyType a.schema.now a.at (columnKind 14) in
-    rw (typed-as (bodily p.0 p.1.0 p.1.1.0) c.match.keys3)
+    let t = body_type a.schema.now a.at (column_kind 14) in
+    rw (typed_as (bodily p.0 p.1.0 p.1.1.0) c.match.keys3)
     (any-sound a.layout a.packed a.before a.row.now t refl (λ i bs. refl)
     ∙ sound-reads a.layout a.packed a.before t a.row.now refl)
 
@@ -124,10 +124,10 @@ returns-6 c =
     let a = entry.args in
     let p = entry.requires in
     let no = sym c.before.before.before.is-varchar.ensures ∙ c.before.before.if2.false in
-    let fixed = body-fixed a.schema.now a.at a.kind no in
+    let fixed = body_fixed a.schema.now a.at a.kind no in
     c.record-sound.ensures
     ∙ sound-reads a.layout a.packed a.before _ a.row.now
-    (ap isVarlen (body_typed (bodily p.0 p.1.0 p.1.1.0)) ∙ fixed)
+    (ap is_varlen (body_typed (bodily p.0 p.1.0 p.1.1.0)) ∙ fixed)
 
 pub body-reads-spec : {M : Type 1} → statement M
 body-reads-spec =

@@ -5,7 +5,7 @@ use native.Mathlib.Omega.{arith}
 use mathlib.Core.Path.{sym, ◌∙◌}
 use Prim.Native.Nat.{◌-◌}
 use borrow.Author.Tests.{not-true, not-false}
-use Rattle.datatype.proofs.Again.{ahead-few, ahead-passable, step-column}
+use Rattle.datatype.proofs.Again.{ahead-few, ahead_passable, step_column}
 use Rattle.row_column.proofs.Reach.{reach-next}
 use Rattle.row_sound.proofs.ByKind.{recorded}
 use Rattle.row_reads.proofs.Reading.{Reading, read-start, read-end, read-bad, read_more}
@@ -44,13 +44,13 @@ next-column-requires : tie.Need-next-column-requires invariant-loop decreases-lo
 next-column-requires c κs =
     let w = c.before.before.before.loop.invariant.walk in
     let h = c.before.before.loop-test.true in
-    (ahead-passable w h, (ahead-few w h, w.bounded))
+    (ahead_passable w h, (ahead-few w h, w.bounded))
 
 loop-less : tie.Need-loop-smaller invariant-loop decreases-loop
 loop-less c =
     let w = c.before.before.before.before.before.loop.invariant.walk in
     let h = c.before.before.before.before.loop-test.true in
-    omega (arith, ahead-few w h, step-column w h c.before.next-column.ensures.0)
+    omega (arith, ahead-few w h, step_column w h c.before.next-column.ensures.0)
 
 loop-again : tie.Need-loop-preserved invariant-loop decreases-loop
 loop-again c =

@@ -5,10 +5,10 @@ use native.Mathlib.Omega.{arith}
 use lib.ListN.{get_or}
 use mathlib.Core.Path.{◌≡◌, sym, ap, ◌∙◌, subst}
 use Rattle.datatype.specs.declared.DataType.{DataType}
-use Rattle.datatype.specs.Schema.{columnKind}
-use Rattle.datatype.specs.InnerSteps.{plainSize, typeIn}
-use Rattle.datatype.proofs.Plain.{plain-record, plain-facts}
-use Rattle.row_column.specs.InnerWalk.{walkedColumn, Reachable}
+use Rattle.datatype.specs.Schema.{column_kind}
+use Rattle.datatype.specs.InnerSteps.{plain_size, type_in}
+use Rattle.datatype.proofs.Plain.{plain_record, plain_facts}
+use Rattle.row_column.specs.InnerWalk.{walked_column, Reachable}
 use Rattle.row_sound.specs.Sound.{reads}
 use Rattle.row_reads.proofs.Reading.{sound-reads}
 
@@ -23,7 +23,7 @@ plain-sound-requires c κs =
     let entry = c.before.before.before.before.before in
     let a = entry.args in
     let z = c.before.plain_size.ensures in
-    let e = ap typeIn (plain-record a.schema.now a.at (λ f. c.if1.true (z.0 ∙ f))) in
+    let e = ap type_in (plain_record a.schema.now a.at (λ f. c.if1.true (z.0 ∙ f))) in
     let reach =
     subst (λ (t : DataType). Reachable a.layout a.packed a.before t a.row.now) e entry.requires.1 in
     (z.0, (omega (arith, c.if1.true), (z.1, reach)))
@@ -33,11 +33,11 @@ returns c =
     let a = c.before.before.before.before.before.before.args in
     let z = c.before.before.plain_size.ensures in
     let kind = get_or a.schema.now a.at 0 in
-    let some : plainSize (columnKind kind) ≡ 0 → ⊥ = λ f. c.before.if1.true (z.0 ∙ f) in
-    let e = ap typeIn (plain-record a.schema.now a.at some) in
+    let some : plain_size (column_kind kind) ≡ 0 → ⊥ = λ f. c.before.if1.true (z.0 ∙ f) in
+    let e = ap type_in (plain_record a.schema.now a.at some) in
     c.plain-sound.ensures
-    ∙ sound-reads a.layout a.packed a.before _ a.row.now (plain-facts kind some).fixed
-    ∙ ap (λ (t : DataType). reads (walkedColumn a.layout a.packed a.before t a.row.now)) (sym e)
+    ∙ sound-reads a.layout a.packed a.before _ a.row.now (plain_facts kind some).fixed
+    ∙ ap (λ (t : DataType). reads (walked_column a.layout a.packed a.before t a.row.now)) (sym e)
 
 body-reads-requires : tie.Need-body-reads-requires
 body-reads-requires c κs = search rules

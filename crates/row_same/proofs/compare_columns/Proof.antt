@@ -6,12 +6,12 @@ use native.Mathlib.Omega.{arith}
 use mathlib.Core.Path.{sym, ap, ◌∙◌}
 use borrow.Author.Tests.{not-true, not-false}
 use Rattle.error.specs.declared.Flag.TheVariants.{Is}
-use Rattle.datatype.proofs.Again.{ahead-few, ahead-passable, ahead_step, step-column}
+use Rattle.datatype.proofs.Again.{ahead-few, ahead_passable, ahead_step, step_column}
 use Rattle.row_column.proofs.Reach.{reach-next}
 use Rattle.row_sound.proofs.ByKind.{recorded}
-use Rattle.row_reads.proofs.Reading.{ahead-walk}
-use Rattle.row_same.proofs.Comparing.{Comparing, compare-start, compare-end}
-use Rattle.row_same.proofs.Comparing.{compare-bad, compare-other, compare-more, compare-beside, compare-stored}
+use Rattle.row_reads.proofs.Reading.{ahead_walk}
+use Rattle.row_same.proofs.Comparing.{Comparing, compare_start, compare_end}
+use Rattle.row_same.proofs.Comparing.{compare_bad, compare_other, compare_more, compare_beside, compare_stored}
 
 abbrev invariant-loop : tie.invariant-loop
 invariant-loop schema layout p a other q b before₀ at₀ before at = Comparing schema layout p a other q b before at
@@ -23,19 +23,19 @@ new-requires : tie.Need-new-requires invariant-loop decreases-loop
 new-requires c κs = search rules
 
 loop-holds : tie.Need-loop-init invariant-loop decreases-loop
-loop-holds c = let p = c.before.before.before.before.requires in rw c.new.ensures (compare-start p.0 p.1.1)
+loop-holds c = let p = c.before.before.before.before.requires in rw c.new.ensures (compare_start p.0 p.1.1)
 
 next-column-requires : tie.Need-next-column-requires invariant-loop decreases-loop
 next-column-requires c κs =
     let w = c.before.loop.invariant.walk in
-    (ahead-passable w c.loop-test.true, (ahead-few w c.loop-test.true, w.bounded))
+    (ahead_passable w c.loop-test.true, (ahead-few w c.loop-test.true, w.bounded))
 
 same-stored-requires : tie.Need-same-stored-requires invariant-loop decreases-loop
 same-stored-requires c κs =
     let m = c.before.before.before in
     let p = m.before.before.before.before.before.requires in
     let y = c.before.next-column.ensures in
-    compare-beside m.loop.invariant c.before.before.loop-test.true y.0 p.0 p.1.0
+    compare_beside m.loop.invariant c.before.before.loop-test.true y.0 p.0 p.1.0
 
 compare-column-requires : tie.Need-compare-column-requires invariant-loop decreases-loop
 compare-column-requires c κs =
@@ -52,7 +52,7 @@ enum-known-e c = search rules
 returns : tie.Need-returns invariant-loop decreases-loop
 returns c =
     let m = c.before.before.before.before.before.before.before.before in
-    compare-bad m.before.loop.invariant m.loop-test.true
+    compare_bad m.before.loop.invariant m.loop-test.true
     (sym c.before.before.before.compare-column.ensures ∙ c.before.e.given.1)
 
 enum-known-same : tie.Need-enum-known-same invariant-loop decreases-loop
@@ -64,7 +64,7 @@ check-columns-requires c κs =
     let y = m.next-column.ensures in
     let w = m.before.before.loop.invariant.walk in
     let p = m.before.before.before.before.before.before.before.requires in
-    (p.1.0, ahead-walk (ahead_step w m.before.loop-test.true y.0 y.1))
+    (p.1.0, ahead_walk (ahead_step w m.before.loop-test.true y.0 y.1))
 
 returns-2 : tie.Need-returns-2 invariant-loop decreases-loop
 returns-2 c =
@@ -72,7 +72,7 @@ returns-2 c =
     let n = c.before.before.before in
     let other = ap Is (not-true _ c.before.if2.true) in
     c.check-columns.ensures
-    ∙ compare-other m.before.before.loop.invariant m.before.loop-test.true m.next-column.ensures.0
+    ∙ compare_other m.before.before.loop.invariant m.before.loop-test.true m.next-column.ensures.0
     (sym n.before.before.compare-column.ensures ∙ n.same.given.1 ∙ other)
 
 loop-less : tie.Need-loop-smaller invariant-loop decreases-loop
@@ -80,14 +80,14 @@ loop-less c =
     let m = c.before.before.before.before.before.before.before.before in
     let w = m.before.before.loop.invariant.walk in
     let h = m.before.loop-test.true in
-    omega (arith, ahead-few w h, step-column w h m.next-column.ensures.0)
+    omega (arith, ahead-few w h, step_column w h m.next-column.ensures.0)
 
 loop-again : tie.Need-loop-preserved invariant-loop decreases-loop
 loop-again c =
     let m = c.before.before.before.before.before.before.before.before in
     let y = m.next-column.ensures in
     let same = ap Is (not-false _ c.if2.false) in
-    compare-more m.before.before.loop.invariant m.before.loop-test.true y.0 y.1
+    compare_more m.before.before.loop.invariant m.before.loop-test.true y.0 y.1
     (sym c.before.before.before.before.compare-column.ensures ∙ c.before.before.same.given.1 ∙ same)
 
 loop-less-2 : tie.Need-loop-smaller-2 invariant-loop decreases-loop
@@ -95,7 +95,7 @@ loop-less-2 c =
     let m = c.before.before.before in
     let w = m.before.before.loop.invariant.walk in
     let h = m.before.loop-test.true in
-    omega (arith, ahead-few w h, step-column w h m.next-column.ensures.0)
+    omega (arith, ahead-few w h, step_column w h m.next-column.ensures.0)
 
 loop-again-2 : tie.Need-loop-preserved-2 invariant-loop decreases-loop
 loop-again-2 c =
@@ -104,11 +104,11 @@ loop-again-2 c =
     let h = m.before.loop-test.true in
     let y = m.next-column.ensures in
     let p = m.before.before.before.before.before.before.before.requires in
-    compare-more k h y.0 y.1
-    (compare-stored k h y.0 p.0 p.1.0 (sym c.before.same-stored.ensures ∙ not-false _ c.if1.false))
+    compare_more k h y.0 y.1
+    (compare_stored k h y.0 p.0 p.1.0 (sym c.before.same-stored.ensures ∙ not-false _ c.if1.false))
 
 returns-3 : tie.Need-returns-3 invariant-loop decreases-loop
-returns-3 c = compare-end c.before.loop.invariant c.loop-test.false
+returns-3 c = compare_end c.before.loop.invariant c.loop-test.false
 
 pub compare-columns-spec : {M : Type 1} → statement M
 compare-columns-spec =

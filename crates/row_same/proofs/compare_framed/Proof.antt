@@ -4,7 +4,7 @@ use Rattle.row_same.proofs.compare_framed.Tie as tie
 use mathlib.Core.Path.{sym, ◌∙◌}
 use Rattle.datatype.specs.Check.{types_in}
 use Rattle.row_column.proofs.Framing.{framed}
-use Rattle.row_same.specs.InnerWalk.{walkedAll}
+use Rattle.row_same.specs.InnerWalk.{walked_all}
 use Rattle.row_same.proofs.Compared.{second-refused}
 
 check-frame-requires : tie.Need-check-frame-requires
@@ -29,7 +29,7 @@ returns c =
     let e = c.before.e.given in
     rw (← c.before.before.before.check-frame.ensures, e.1)
     (second-refused (types_in a.schema.now) a.a.now a.b.now
-    (walkedAll (types_in a.schema.now) a.layout a.a.now a.p) e.0.0 m.requires.1.1)
+    (walked_all (types_in a.schema.now) a.layout a.a.now a.p) e.0.0 m.requires.1.1)
 
 returns-2 : tie.Need-returns-2
 returns-2 c =

@@ -3,7 +3,7 @@ use Rattle.row_same.proofs.compare_second.Statement.{statement}
 use Rattle.row_same.proofs.compare_second.Tie as tie
 use mathlib.Core.Path.{◌∙◌}
 use Rattle.datatype.specs.Check.{types_in}
-use Rattle.row_same.specs.InnerWalk.{walkedAll}
+use Rattle.row_same.specs.InnerWalk.{walked_all}
 use Rattle.row_same.proofs.Compared.{second-refused}
 
 finish-requires : tie.Need-finish-requires
@@ -25,7 +25,7 @@ returns c =
     let e = c.before.e.given in
     rw (← c.before.before.before.finish.ensures.0, e.1)
     (second-refused (types_in a.schema.now) a.a.now a.b.now
-    (walkedAll (types_in a.schema.now) a.layout a.a.now a.p) e.0.0 m.requires.1.1)
+    (walked_all (types_in a.schema.now) a.layout a.a.now a.p) e.0.0 m.requires.1.1)
 
 returns-2 : tie.Need-returns-2
 returns-2 c =

@@ -3,7 +3,7 @@ use Rattle.row_same.proofs.compare_values.Statement.{statement}
 use Rattle.row_same.proofs.compare_values.Tie as tie
 use mathlib.Core.Path.{sym, ◌∙◌, subst}
 use Rattle.row_same.specs.InnerWalk.{Stands}
-use Rattle.row_same.proofs.Stand.{column-stands}
+use Rattle.row_same.proofs.Stand.{column_stands}
 
 read-column-requires : tie.Need-read-column-requires
 read-column-requires c κs = search rules
@@ -21,8 +21,8 @@ compare-requires : tie.Need-compare-requires
 compare-requires c κs =
     let m = c.before.before.before.before.before.before.before in
     let v = sym c.before.before.before.before.read-column.ensures.0 ∙ c.before.before.v.given.1 in (
-      subst (Stands m.args.ty m.args.a.now) v (column-stands m.requires.0),
-      rw c.read-column2.ensures.0 (column-stands m.requires.1),
+      subst (Stands m.args.ty m.args.a.now) v (column_stands m.requires.0),
+      rw c.read-column2.ensures.0 (column_stands m.requires.1),
     )
 
 returns : tie.Need-returns

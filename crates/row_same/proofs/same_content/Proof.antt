@@ -2,9 +2,9 @@ use borrow.Author.Rules.{rules}
 use Rattle.row_same.proofs.same_content.Statement.{statement}
 use Rattle.row_same.proofs.same_content.Tie as tie
 use mathlib.Core.Path.{sym, ◌∙◌}
-use Rattle.row_format.specs.Header.{isLong}
+use Rattle.row_format.specs.Header.{is_long}
 use Rattle.datatype.proofs.Accept.{accepted}
-use Rattle.row_same.proofs.Compared.{accepted-sort, both-walked, schema-refused}
+use Rattle.row_same.proofs.Compared.{accepted-sort, both_walked, schema-refused}
 
 is-long-requires : tie.Need-is-long-requires
 is-long-requires c κs = search rules
@@ -33,7 +33,7 @@ compare-rows-requires c κs =
     let a = m.before.before.before.before.before.args in
     let e = c.before.before.before.before.layout.given.1 in
     let good = sym (rw m.before.is-long.ensures at m.check-schema.ensures.0) ∙ e in
-    let all = accepted (isLong a.a.now) a.schema.now good (rw e at m.check-schema.ensures.1).bounded in
+    let all = accepted (is_long a.a.now) a.schema.now good (rw e at m.check-schema.ensures.1).bounded in
     rw (c.of-sort2.ensures, c.before.of-sort.ensures) (accepted-sort _ all, accepted-sort _ all)
 
 returns : tie.Need-returns
@@ -55,7 +55,7 @@ returns-2 c =
       c.before.before.before.is-long2.ensures,
       m.before.is-long.ensures,
     ) at c.compare-rows.ensures
-    ∙ both-walked a.schema.now a.a.now a.b.now good (rw e at m.check-schema.ensures.1).bounded
+    ∙ both_walked a.schema.now a.a.now a.b.now good (rw e at m.check-schema.ensures.1).bounded
 
 pub same-content-spec : {M : Type 1} → statement M
 same-content-spec =

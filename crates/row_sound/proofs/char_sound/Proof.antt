@@ -1,6 +1,6 @@
 use borrow.Author.Rules.{rules}
 use Rattle.row_sound.proofs.char_sound.Statement.{statement}
-use Rattle.row_sound.proofs.Slots.{so-many}
+use Rattle.row_sound.proofs.Slots.{so_many}
 use mathlib.Core.Path.{refl}
 use Prim.Native.Nat.{◌+◌}
 use Rattle.row_sound.proofs.char_sound.Tie as tie
@@ -30,7 +30,7 @@ is-valid-requires : tie.Need-is-valid-requires
 is-valid-requires c κs = search rules
 
 returns : tie.Need-returns
-returns c = rw (← c.before.before.slot-start.ensures, ← c.before.before.before.fixed-data-start.ensures.0) (rw (so-many (c.before.before.before.fixed-data-start.result + c.before.before.slot-start.result) c.before.before.before.before.before.args.n) at c.is-valid.ensures)
+returns c = rw (← c.before.before.slot-start.ensures, ← c.before.before.before.fixed-data-start.ensures.0) (rw (so_many (c.before.before.before.fixed-data-start.result + c.before.before.slot-start.result) c.before.before.before.before.before.args.n) at c.is-valid.ensures)
 
 pub char-sound-spec : {M : Type 1} → statement M
 char-sound-spec =

@@ -2,12 +2,12 @@ use borrow.Author.Rules.{rules}
 use Rattle.row_sound.proofs.check_sound.Statement.{statement}
 use Rattle.row_sound.proofs.check_sound.Tie as tie
 use mathlib.Core.Path.{sym, ◌∙◌}
-use Rattle.row_format.specs.Places.{offsetWidth}
+use Rattle.row_format.specs.Places.{offset_width}
 use Rattle.datatype.specs.Check.{types_in}
 use Rattle.row_column.proofs.Framing.{framed, frame_refused, frame-good}
 use Rattle.row_sound.specs.declared.Soundness.TheVariants.{NotSound}
-use Rattle.row_sound.specs.Sound.{soundIn}
-use Rattle.row_sound.proofs.Walk.{soundness-walked}
+use Rattle.row_sound.specs.Sound.{sound_in}
+use Rattle.row_sound.proofs.Walk.{soundness_walked}
 
 check-frame-requires : tie.Need-check-frame-requires
 check-frame-requires c κs = search rules
@@ -35,8 +35,8 @@ returns-2 c =
     let a = entry.args in
     let ts = types_in a.schema.now in
     let known = entry.requires.layout in
-    c.row-sound.ensures ∙ soundness-walked _ ts a.row.now known
-    ∙ frame-good ts a.row.now known (λ e. NotSound) (λ p. soundIn (offsetWidth a.layout.is_long) p ts a.row.now)
+    c.row-sound.ensures ∙ soundness_walked _ ts a.row.now known
+    ∙ frame-good ts a.row.now known (λ e. NotSound) (λ p. sound_in (offset_width a.layout.is_long) p ts a.row.now)
     (sym c.before.before.before.before.check-frame.ensures ∙ c.before.before.packed.given.1)
 
 pub check-sound-spec : {M : Type 1} → statement M

@@ -3,10 +3,10 @@ use native.Mathlib.Omega.{arith}
 use mathlib.Core.Path.{sym, ◌∙◌}
 use Prim.Native.Nat.{◌-◌}
 use borrow.Author.Tests.{not-true, not-false}
-use Rattle.datatype.proofs.Again.{ahead-few, ahead-passable, step-column}
+use Rattle.datatype.proofs.Again.{ahead-few, ahead_passable, step_column}
 use Rattle.row_column.proofs.Reach.{reach-next}
 use Rattle.row_sound.proofs.ByKind.{recorded}
-use Rattle.row_sound.proofs.Checking.{Checking, check-start, check-end, check-next, check-bad}
+use Rattle.row_sound.proofs.Checking.{Checking, check_start, check_end, check_next, check_bad}
 use borrow.Author.Rules.{rules}
 use Rattle.row_sound.proofs.columns_sound.Tie as tie
 use Rattle.datatype.proofs.next_column.Reads as next-column-reads
@@ -22,7 +22,7 @@ new-requires : tie.Need-new-requires invariant-loop decreases-loop
 new-requires c κs = search rules
 
 loop-holds : tie.Need-loop-init invariant-loop decreases-loop
-loop-holds c = rw c.new.ensures (check-start c.before.before.before.requires)
+loop-holds c = rw c.new.ensures (check_start c.before.before.before.requires)
 
 kind-sound-requires : tie.Need-kind-sound-requires invariant-loop decreases-loop
 kind-sound-requires c κs =
@@ -33,25 +33,25 @@ kind-sound-requires c κs =
 returns : tie.Need-returns invariant-loop decreases-loop
 returns c =
     let k = c.before.before.before.loop.invariant in
-    check-bad k c.before.before.loop-test.true (recorded k.walk c.before.before.loop-test.true).is (sym c.before.kind-sound.ensures ∙ not-true _ c.if1.true)
+    check_bad k c.before.before.loop-test.true (recorded k.walk c.before.before.loop-test.true).is (sym c.before.kind-sound.ensures ∙ not-true _ c.if1.true)
 
 next-column-requires : tie.Need-next-column-requires invariant-loop decreases-loop
 next-column-requires c κs =
     let w = c.before.before.before.loop.invariant.walk in
     let h = c.before.before.loop-test.true in
-    (ahead-passable w h, (ahead-few w h, w.bounded))
+    (ahead_passable w h, (ahead-few w h, w.bounded))
 
 loop-less : tie.Need-loop-smaller invariant-loop decreases-loop
 loop-less c =
     let w = c.before.before.before.before.before.loop.invariant.walk in
     let f = ahead-few w c.before.before.before.before.loop-test.true in
-    omega (arith, f, step-column w c.before.before.before.before.loop-test.true c.before.next-column.ensures.0)
+    omega (arith, f, step_column w c.before.before.before.before.loop-test.true c.before.next-column.ensures.0)
 
 loop-again : tie.Need-loop-preserved invariant-loop decreases-loop
-loop-again c = check-next c.before.before.before.before.before.loop.invariant c.before.before.before.before.loop-test.true (sym c.before.before.before.kind-sound.ensures ∙ not-false _ c.before.before.if1.false) c.before.next-column.ensures.0 c.before.next-column.ensures.1
+loop-again c = check_next c.before.before.before.before.before.loop.invariant c.before.before.before.before.loop-test.true (sym c.before.before.before.kind-sound.ensures ∙ not-false _ c.before.before.if1.false) c.before.next-column.ensures.0 c.before.next-column.ensures.1
 
 returns-2 : tie.Need-returns-2 invariant-loop decreases-loop
-returns-2 c = check-end c.before.loop.invariant c.loop-test.false
+returns-2 c = check_end c.before.loop.invariant c.loop-test.false
 
 pub columns-sound-spec : {M : Type 1} → statement M
 columns-sound-spec =

@@ -3,10 +3,10 @@ use Rattle.row_sound.proofs.kind_sound.Statement.{statement}
 use native.Mathlib.Omega.{arith}
 use mathlib.Core.Path.{sym, ap, ◌∙◌, subst}
 use Rattle.datatype.specs.declared.DataType.{DataType}
-use Rattle.datatype.specs.InnerSteps.{typeIn}
-use Rattle.datatype.proofs.Plain.{plain-record}
+use Rattle.datatype.specs.InnerSteps.{type_in}
+use Rattle.datatype.proofs.Plain.{plain_record}
 use Rattle.row_column.specs.InnerWalk.{Reachable}
-use Rattle.row_sound.specs.InnerWalk.{walkedSound}
+use Rattle.row_sound.specs.InnerWalk.{walked_sound}
 use Rattle.row_sound.proofs.kind_sound.Tie as tie
 use Rattle.datatype.proofs.plain_size.Reads as plain-size-reads
 use Rattle.row_sound.proofs.body_sound.Reads as body-sound-reads
@@ -23,14 +23,14 @@ plain-sound-requires c κs =
     let entry = c.before.before.before.before.before in
     let a = entry.args in
     let z = c.before.plain_size.ensures in
-    let e = ap typeIn (plain-record a.schema.now a.at (λ f. c.if1.true (z.0 ∙ f))) in
+    let e = ap type_in (plain_record a.schema.now a.at (λ f. c.if1.true (z.0 ∙ f))) in
     (z.0, (omega (arith, c.if1.true), (z.1, subst (λ (t : DataType). Reachable a.layout a.packed a.before t a.row.now) e entry.requires.1)))
 
 returns : tie.Need-returns
 returns c =
     let a = c.before.before.before.before.before.before.args in
-    let e = ap typeIn (plain-record a.schema.now a.at (λ f. c.before.if1.true (c.before.before.plain_size.ensures.0 ∙ f))) in
-    c.plain-sound.ensures ∙ ap (λ (t : DataType). walkedSound a.layout a.packed a.before t a.row.now) (sym e)
+    let e = ap type_in (plain_record a.schema.now a.at (λ f. c.before.if1.true (c.before.before.plain_size.ensures.0 ∙ f))) in
+    c.plain-sound.ensures ∙ ap (λ (t : DataType). walked_sound a.layout a.packed a.before t a.row.now) (sym e)
 
 body-sound-requires : tie.Need-body-sound-requires
 body-sound-requires c κs = search rules

@@ -3,7 +3,7 @@ use Rattle.row_sound.proofs.slot_sound.Statement.{statement}
 use Rattle.signed.proofs.Casts.{passed}
 use mir.Syntax.{w32, w64}
 use Rattle.row_sound.proofs.ByKind.{any-bytes}
-use Rattle.row_sound.proofs.Slots.{value-if}
+use Rattle.row_sound.proofs.Slots.{value_if_lem}
 use mathlib.Core.Path.{◌∙◌}
 use Rattle.row_sound.proofs.slot_sound.Tie as tie
 
@@ -23,13 +23,13 @@ is-timestamp-requires : tie.Need-is-timestamp-requires
 is-timestamp-requires c κs = search rules
 
 returns : tie.Need-returns
-returns c = rw (c.before.before.match.keys1, ← passed w32 (search rules) c.before.read-i32.ensures) (c.is-date.ensures ∙ value-if _ _)
+returns c = rw (c.before.before.match.keys1, ← passed w32 (search rules) c.before.read-i32.ensures) (c.is-date.ensures ∙ value_if_lem _ _)
 
 returns-2 : tie.Need-returns-2
 returns-2 c = rw c.before.match.keys2 c.time-sound.ensures
 
 returns-3 : tie.Need-returns-3
-returns-3 c = rw (c.before.before.match.keys3, ← passed w64 (search rules) c.before.read-i64.ensures) (c.is-timestamp.ensures ∙ value-if _ _)
+returns-3 c = rw (c.before.before.match.keys3, ← passed w64 (search rules) c.before.read-i64.ensures) (c.is-timestamp.ensures ∙ value_if_lem _ _)
 
 returns-4 : tie.Need-returns-4
 returns-4 c =

@@ -2,7 +2,7 @@ use borrow.Author.Rules.{rules}
 use Rattle.row_sound.proofs.varchar_sound.Statement.{statement}
 use Rattle.row_sound.proofs.Slots.{varchar-told}
 use lib.ListN.{length}
-use Rattle.row_format.specs.Places.{tableStart}
+use Rattle.row_format.specs.Places.{table_start}
 use Rattle.row_format.proofs.Sorts.{entry_in}
 use mathlib.Core.Path.{refl}
 use Rattle.row_sound.proofs.varchar_sound.Tie as tie
@@ -17,7 +17,7 @@ offset-at-requires : tie.Need-offset-at-requires
 offset-at-requires c κs =
     let entry = c.before.before.before.before in
     let a = entry.args in
-    rw c.before.before.varlen-table-offset.ensures (entry_in a.layout.is_long (tableStart a.layout.num_columns) a.layout.num_varlen_cols a.before.num_varlen_cols (length a.row.now) (entry.requires.rank refl) entry.requires.table)
+    rw c.before.before.varlen-table-offset.ensures (entry_in a.layout.is_long (table_start a.layout.num_columns) a.layout.num_varlen_cols a.before.num_varlen_cols (length a.row.now) (entry.requires.rank refl) entry.requires.table)
 
 returns : tie.Need-returns
 returns c =

@@ -23,10 +23,10 @@ text_in-row-requires c κs =
     (entry.requires, (omega (arith, columns-all entry.requires, c.before.before.before.if1.false), c.before.before.column-at.ensures))
 
 returns-2 : tie.Need-returns-2
-returns-2 c = (c.text_in-row.ensures.0 ∙ rw (← c.before.before.before.column-at.ensures.type-is, ← c.before.before.Holds-text.ensures, ← columns-all c.before.before.before.before.before.before.before.before.requires) (search by_tests), c.text_in-row.ensures.1)
+returns-2 c = (c.text_in-row.ensures.0 ∙ rw (← c.before.before.before.column-at.ensures.type_is, ← c.before.before.Holds-text.ensures, ← columns-all c.before.before.before.before.before.before.before.before.requires) (search by_tests), c.text_in-row.ensures.1)
 
 returns-3 : tie.Need-returns-3
-returns-3 c = (rw (← c.before.before.column-at.ensures.type-is, ← c.before.Holds-text.ensures, ← columns-all c.before.before.before.before.before.before.before.requires) (search by_tests), tt)
+returns-3 c = (rw (← c.before.before.column-at.ensures.type_is, ← c.before.Holds-text.ensures, ← columns-all c.before.before.before.before.before.before.before.requires) (search by_tests), tt)
 
 pub text-of-column-spec : {M : Type 1} → statement M
 text-of-column-spec =

@@ -1,6 +1,6 @@
 use borrow.Author.Rules.{rules}
 use mir.Syntax.{w32}
-use Rattle.signed.proofs.Casts.{upper_fits, upper-signed}
+use Rattle.signed.proofs.Casts.{upper_fits, upper_signed}
 use Rattle.signed.proofs.cast_signed_32.Statement.{statement}
 use Rattle.signed.proofs.cast_signed_32.Tie as tie
 
@@ -20,7 +20,7 @@ sub-result-2 : tie.Need-overflow-sub-result-2
 sub-result-2 c = upper_fits w32 c.before.args.x c.before.ranges.x c.if1.false
 
 returns-2 : tie.Need-returns-2
-returns-2 c = upper-signed w32 c.before.args.x c.before.ranges.x c.if1.false
+returns-2 c = upper_signed w32 c.before.args.x c.before.ranges.x c.if1.false
 
 pub cast-signed-32-spec : {M : Type 1} → statement M
 cast-signed-32-spec =

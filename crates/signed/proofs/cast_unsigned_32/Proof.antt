@@ -1,25 +1,25 @@
 use mir.Syntax.{w32}
-use Rattle.signed.proofs.Casts.{flip-fits, flip-cast, flip-most, flip_bits, plain-cast, plain-bits}
+use Rattle.signed.proofs.Casts.{flip_fits, flip_cast, flip_most, flip_bits, plain_cast, plain_bits}
 use Rattle.signed.proofs.cast_unsigned_32.Statement.{statement}
 use Rattle.signed.proofs.cast_unsigned_32.Tie as tie
 
 sub-result : tie.Need-overflow-sub-result
-sub-result c = flip-fits w32 c.before.args.x c.before.ranges.x c.if1.true
+sub-result c = flip_fits w32 c.before.args.x c.before.ranges.x c.if1.true
 
 cast-result : tie.Need-overflow-cast-result
-cast-result c = flip-cast w32 c.before.args.x c.before.ranges.x c.if1.true
+cast-result c = flip_cast w32 c.before.args.x c.before.ranges.x c.if1.true
 
 sub-result-2 : tie.Need-overflow-sub-result-2
-sub-result-2 c = flip-most w32 c.before.args.x c.before.ranges.x c.if1.true
+sub-result-2 c = flip_most w32 c.before.args.x c.before.ranges.x c.if1.true
 
 returns : tie.Need-returns
 returns c = flip_bits w32 c.before.args.x c.before.ranges.x c.if1.true
 
 cast-result-2 : tie.Need-overflow-cast-result-2
-cast-result-2 c = plain-cast w32 c.before.args.x c.before.ranges.x c.if1.false
+cast-result-2 c = plain_cast w32 c.before.args.x c.before.ranges.x c.if1.false
 
 returns-2 : tie.Need-returns-2
-returns-2 c = plain-bits w32 c.before.args.x c.before.ranges.x c.if1.false
+returns-2 c = plain_bits w32 c.before.args.x c.before.ranges.x c.if1.false
 
 pub cast-unsigned-32-spec : {M : Type 1} → statement M
 cast-unsigned-32-spec =

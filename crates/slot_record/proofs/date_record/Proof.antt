@@ -4,7 +4,7 @@ use mathlib.Core.Path.{sym, ap, ◌∙◌}
 use mir.Syntax.{w32}
 use mir.Val.{to_z}
 use Rattle.signed.proofs.Casts.{passed}
-use Rattle.temporal.specs.Ranges.{isDate}
+use Rattle.temporal.specs.Ranges.{is_date}
 use Rattle.slot_record.proofs.Numbers.{slot-taken, signed}
 use Rattle.slot_record.proofs.date_record.Tie as tie
 use Rattle.endian.proofs.read_i32.Reads as read-i32-reads
@@ -31,14 +31,14 @@ returns : tie.Need-returns
 returns c = λ k.
     let entry = c.before.before.before.before.before.before.before.before.before.before in
     let bs = entry.args.bytes.now in
-    let read = ap isDate (sym (passed w32 (search rules) (c.before.before.before.before.before.before.before.read-i32.ensures ∙ ap (to_z w32) (slot-taken 4 bs entry.requires.0)))) ∙ sym c.before.before.before.before.before.before.is-date.ensures ∙ c.before.before.before.before.before.if1.true in
+    let read = ap is_date (sym (passed w32 (search rules) (c.before.before.before.before.before.before.before.read-i32.ensures ∙ ap (to_z w32) (slot-taken 4 bs entry.requires.0)))) ∙ sym c.before.before.before.before.before.before.is-date.ensures ∙ c.before.before.before.before.before.if1.true in
     rw read (signed entry.args.out.now entry.args.at 10 4 c.before.before.write-32.ensures.0 c.before.before.write-32.ensures.1 w32 (search rules) (c.before.before.before.read_u32.ensures ∙ slot-taken 4 bs entry.requires.0))
 
 returns-2 : tie.Need-returns-2
 returns-2 c = λ k.
     let entry = c.before.before.before.before.before in
     let bs = entry.args.bytes.now in
-    let read = ap isDate (sym (passed w32 (search rules) (c.before.before.read-i32.ensures ∙ ap (to_z w32) (slot-taken 4 bs entry.requires.0)))) ∙ sym c.before.is-date.ensures ∙ c.if1.false in
+    let read = ap is_date (sym (passed w32 (search rules) (c.before.before.read-i32.ensures ∙ ap (to_z w32) (slot-taken 4 bs entry.requires.0)))) ∙ sym c.before.is-date.ensures ∙ c.if1.false in
     rw read
 
 pub date-record-spec : {M : Type 1} → statement M

@@ -3,7 +3,7 @@ use Rattle.slot_record.proofs.plain_record.Statement.{statement}
 use native.Mathlib.Omega.{arith}
 use mathlib.Core.Path.{◌∙◌}
 use mir.Syntax.{w16, w32, w64}
-use Rattle.datatype.proofs.KindTable.{last-plain}
+use Rattle.datatype.proofs.KindTable.{last_plain}
 use Rattle.slot_record.proofs.Numbers.{slot-taken, signed, unsigned}
 use Rattle.slot_record.proofs.plain_record.Tie as tie
 use Rattle.endian.proofs.read_u16.Reads as read-u16-reads
@@ -68,7 +68,7 @@ timestamp-record-requires c κs =
     let r = c.before.match.rest in
     let b = c.before.before.before.before in
     let e =
-    last-plain b.args.kind r.0.0.0.0.0.0.0.1 r.0.0.0.0.0.0.1 r.0.0.0.0.0.1
+    last_plain b.args.kind r.0.0.0.0.0.0.0.1 r.0.0.0.0.0.0.1 r.0.0.0.0.0.1
     r.0.0.0.0.1 r.0.0.0.1 r.0.0.1 r.0.1 r.1 b.requires.0
     in
     (rw e at entry.requires.1.0, entry.requires.1.1)
@@ -154,7 +154,7 @@ returns-9 c = λ k start.
     let r = c.before.before.before.before.match.rest in
     let b = c.before.before.before.before.before.before.before in
     let e =
-    last-plain b.args.kind r.0.0.0.0.0.0.0.1 r.0.0.0.0.0.0.1 r.0.0.0.0.0.1
+    last_plain b.args.kind r.0.0.0.0.0.0.0.1 r.0.0.0.0.0.0.1 r.0.0.0.0.0.1
     r.0.0.0.0.1 r.0.0.0.1 r.0.0.1 r.0.1 r.1 b.requires.0
     in
     rw e (c.before.before.timestamp-record.ensures k)

@@ -3,13 +3,13 @@ use Prim.Native.Nat.{◌-◌}
 use lib.ListN.{take, drop}
 use mathlib.Core.Path.{sym, ◌∙◌}
 use native.Mathlib.Omega.{arith}
-use Rattle.row_format.proofs.Sorts.{width-le, limit-le, limit-fits}
+use Rattle.row_format.proofs.Sorts.{width-le, limit_le, limit_fits}
 use Rattle.value_list.proofs.Records.{length-range}
 use Rattle.slot_record.proofs.Numbers.{part_length}
-use Rattle.text_limit.proofs.Limits.{told-false}
-use Rattle.text_limit.specs.Limit.{fitsText}
+use Rattle.text_limit.proofs.Limits.{told_false}
+use Rattle.text_limit.specs.Limit.{fits_text}
 use Rattle.text.specs.Check.{points}
-use Rattle.slot_record.proofs.Texts.{check-fits, check-points, check-le}
+use Rattle.slot_record.proofs.Texts.{check_fits, check_points, check_le}
 use Rattle.slot_record.proofs.text_record.Statement.{statement}
 use Rattle.slot_record.proofs.text_record.Tie as tie
 use Rattle.record_encode.proofs.write_range.Reads as write-range-reads
@@ -41,7 +41,7 @@ write-range-requires c κs =
     let entry = c.before.before.before.before.before.before.before.before in
     let a = entry.args in (
       omega (arith, length-range a.is-long a.kind (record { start = a.start; length = a.end - a.start }), width-le a.is-long, entry.requires.1.1.1),
-      record { start = omega (arith, limit-fits a.is-long, entry.requires); size = omega (arith, limit-fits a.is-long, entry.requires) },
+      record { start = omega (arith, limit_fits a.is-long, entry.requires); size = omega (arith, limit_fits a.is-long, entry.requires) },
     )
 
 cast-t24 : tie.Need-overflow-cast-t24
@@ -51,14 +51,14 @@ cast-t24 c =
     let part = take (a.end - a.start) (drop a.start a.row.now) in
     let said = sym c.before.before.before.before.before.before.before.check-within.ensures ∙ c.before.before.before.before.before.points.given.1 in
     record {
-      fits = omega (arith, check-le a.by-points a.n part said, part_length a.row.now a.start a.end entry.requires.0 entry.requires.1.0, limit-le a.is-long, entry.requires.1);
+      fits = omega (arith, check_le a.by-points a.n part said, part_length a.row.now a.start a.end entry.requires.0 entry.requires.1.0, limit_le a.is-long, entry.requires.1);
     }
 
 returns : tie.Need-returns
 returns c =
     let a = c.before.before.before.before.before.before.args in
     let part = take (a.end - a.start) (drop a.start a.row.now) in
-    rw (← told-false (fitsText a.by-points a.n part) (points part) (sym c.before.before.check-within.ensures ∙ c.enum_told.given.1))
+    rw (← told_false (fits_text a.by-points a.n part) (points part) (sym c.before.before.check-within.ensures ∙ c.enum_told.given.1))
 
 same_length : tie.Need-same-length
 same_length c = search rules
@@ -69,7 +69,7 @@ returns-2 c =
     let a = entry.args in
     let part = take (a.end - a.start) (drop a.start a.row.now) in
     let said = sym c.before.before.before.before.before.before.before.check-within.ensures ∙ c.before.before.before.before.before.points.given.1 in
-    rw (check-fits a.by-points a.n part said, ← check-points a.by-points a.n part said, c.before.before.write-range.ensures.0, c.before.before.write-range.ensures.1, part_length a.row.now a.start a.end entry.requires.0 entry.requires.1.0)
+    rw (check_fits a.by-points a.n part said, ← check_points a.by-points a.n part said, c.before.before.write-range.ensures.0, c.before.before.write-range.ensures.1, part_length a.row.now a.start a.end entry.requires.0 entry.requires.1.0)
 
 pub text-record-spec : {M : Type 1} → statement M
 text-record-spec =

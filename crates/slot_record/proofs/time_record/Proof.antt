@@ -4,7 +4,7 @@ use mathlib.Core.Path.{sym, ap, ◌∙◌}
 use mir.Syntax.{w64}
 use mir.Val.{to_z, of_z}
 use Rattle.signed.proofs.Casts.{passed, handed}
-use Rattle.temporal.specs.Time.{timeOf}
+use Rattle.temporal.specs.Time.{time_of}
 use Rattle.slot_record.proofs.Numbers.{slot-taken}
 use Rattle.slot_record.proofs.time_record.Tie as tie
 use Rattle.endian.proofs.read_i64.Reads as read-i64-reads
@@ -38,7 +38,7 @@ returns c = λ k.
     let entry = c.before.before.before.before.before.before.before.before.before.before.before.before in
     let bs = entry.args.bytes.now in
     let m = c.before.before.before.before.before.before.micros.given in
-    let read = ap timeOf (sym (passed w64 (search rules) (c.before.before.before.before.before.before.before.before.before.read-i64.ensures ∙ ap (to_z w64) (slot-taken 8 bs entry.requires.0)))) ∙ sym c.before.before.before.before.before.before.before.before.time-of.ensures ∙ m.1 in
+    let read = ap time_of (sym (passed w64 (search rules) (c.before.before.before.before.before.before.before.before.before.read-i64.ensures ∙ ap (to_z w64) (slot-taken 8 bs entry.requires.0)))) ∙ sym c.before.before.before.before.before.before.before.before.time-of.ensures ∙ m.1 in
     let bits = handed w64 (of_z w64) m.0.0 (search rules) c.before.before.before.cast-unsigned-64.ensures in
     rw (read, c.before.before.write-64.ensures.0, c.before.before.write-64.ensures.1, bits)
 
@@ -46,7 +46,7 @@ returns-2 : tie.Need-returns-2
 returns-2 c = λ k.
     let entry = c.before.before.before.before.before.before in
     let bs = entry.args.bytes.now in
-    let read = ap timeOf (sym (passed w64 (search rules) (c.before.before.before.read-i64.ensures ∙ ap (to_z w64) (slot-taken 8 bs entry.requires.0)))) ∙ sym c.before.before.time-of.ensures ∙ c.enum_told.given.1 in
+    let read = ap time_of (sym (passed w64 (search rules) (c.before.before.before.read-i64.ensures ∙ ap (to_z w64) (slot-taken 8 bs entry.requires.0)))) ∙ sym c.before.before.time-of.ensures ∙ c.enum_told.given.1 in
     rw read
 
 pub time-record-spec : {M : Type 1} → statement M

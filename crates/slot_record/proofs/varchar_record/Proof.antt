@@ -1,5 +1,5 @@
 use Rattle.text.specs.Check.{points}
-use Rattle.text_limit.specs.Limit.{fitsText}
+use Rattle.text_limit.specs.Limit.{fits_text}
 use borrow.Author.Rules.{rules}
 use Prim.Native.Nat.{◌-◌}
 use lib.ListN.{take, drop}
@@ -20,7 +20,7 @@ returns c =
     let a = c.before.before.before.before.before.before.args in
     let part = take (a.end - a.start) (drop a.start a.row.now) in
     c.before.before.text-record.ensures
-    ∙ varchar-text a.is-long part a.out.now a.at a.i a.start (points part) (fitsText a.by-points a.n part)
+    ∙ varchar-text a.is-long part a.out.now a.at a.i a.start (points part) (fits_text a.by-points a.n part)
 
 pub varchar-record-spec : {M : Type 1} → statement M
 varchar-record-spec = tie.close (tie.spec text-record-requires same_length returns)

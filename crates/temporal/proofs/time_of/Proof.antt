@@ -1,19 +1,19 @@
 use borrow.Author.Rules.{rules}
 use native.Mathlib.Omega.{arith}
-use Rattle.temporal.proofs.Counts.{quot-asked, rest_read, seconds-read, negative-rest, late, rest-cast, count_fits, count-signed, in-day}
+use Rattle.temporal.proofs.Counts.{quot_asked, rest_read, seconds-read, negative_rest, late, rest_cast, count_fits, count-signed, in_day}
 use Rattle.temporal.proofs.time_of.Statement.{statement}
 use Rattle.temporal.proofs.time_of.Tie as tie
 
 rem-rest : tie.Need-nonzero-rem-rest
-rem-rest c = (omega arith, quot-asked c.args.micros c.ranges.micros)
+rem-rest c = (omega arith, quot_asked c.args.micros c.ranges.micros)
 
 returns : tie.Need-returns
 returns c =
     let k = c.before in
-    negative-rest k.args.micros k.ranges.micros _ (rest_read k.args.micros k.ranges.micros) c.if1.true
+    negative_rest k.args.micros k.ranges.micros _ (rest_read k.args.micros k.ranges.micros) c.if1.true
 
 div-low-32 : tie.Need-nonzero-div-low-32
-div-low-32 c = (omega arith, quot-asked c.before.args.micros c.before.ranges.micros)
+div-low-32 c = (omega arith, quot_asked c.before.args.micros c.before.ranges.micros)
 
 low-32-requires : tie.Need-low-32-requires
 low-32-requires c κs = search rules
@@ -32,7 +32,7 @@ mul-count c = search rules
 cast-count-2 : tie.Need-overflow-cast-count-2
 cast-count-2 c =
     let k = c.before.before.before in
-    rest-cast k.args.micros k.ranges.micros _ (rest_read k.args.micros k.ranges.micros) c.before.before.if1.false
+    rest_cast k.args.micros k.ranges.micros _ (rest_read k.args.micros k.ranges.micros) c.before.before.if1.false
 
 add-count : tie.Need-overflow-add-count
 add-count c =
@@ -47,7 +47,7 @@ cast-t6 c =
 returns-3 : tie.Need-returns-3
 returns-3 c =
     let k = c.before.before.before in
-    in-day k.args.micros k.ranges.micros _ (rest_read k.args.micros k.ranges.micros) c.before.before.if1.false c.before.low-32.result (seconds-read k.args.micros k.ranges.micros c.before.low-32.ensures) c.if2.false
+    in_day k.args.micros k.ranges.micros _ (rest_read k.args.micros k.ranges.micros) c.before.before.if1.false c.before.low-32.result (seconds-read k.args.micros k.ranges.micros c.before.low-32.ensures) c.if2.false
 
 pub time-of-spec : {M : Type 1} → statement M
 time-of-spec =

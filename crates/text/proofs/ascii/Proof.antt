@@ -5,14 +5,14 @@ use mathlib.Core.Logic.{◌↔◌}
 use mathlib.Core.Path.{◌≡◌}
 use native.Mathlib.Omega.{arith}
 use Rattle.text.specs.InnerEach.{Each}
-use Rattle.text.specs.InnerRuns.{isAscii}
+use Rattle.text.specs.InnerRuns.{is_ascii}
 use Rattle.text.proofs.Laws.{each_none, each_more}
 use borrow.Author.Rules.{rules}
 use Rattle.text.proofs.ascii.Statement.{statement}
 use Rattle.text.proofs.ascii.Tie as tie
 
 abbrev invariant-loop : tie.invariant-loop
-invariant-loop s first n ok₀ k₀ ok k = (k ≤ n) × ((ok ≡ true) ↔ Each (isAscii s) first (first + k))
+invariant-loop s first n ok₀ k₀ ok k = (k ≤ n) × ((ok ≡ true) ↔ Each (is_ascii s) first (first + k))
 
 abbrev decreases-loop : tie.decreases-loop
 decreases-loop s first n ok₀ k₀ ok k = n - k
@@ -37,7 +37,7 @@ loop-less c = search rules
 
 loop-again : tie.Need-loop-preserved invariant-loop decreases-loop
 loop-again c =
-    (search rules, each_more c.before.before.before.loop.invariant.1 c.utf8-1.ensures (omega arith) (omega arith))
+    (search rules, each_more c.before.before.before.loop.invariant.1 c.utf8_1.ensures (omega arith) (omega arith))
 
 returns : tie.Need-returns invariant-loop decreases-loop
 returns c =

@@ -4,7 +4,7 @@ use native.Mathlib.Omega.{arith}
 use lib.ListN.{length}
 use borrow.Author.Tests.{not-false}
 use Rattle.text.specs.InnerRuns.{Ascii}
-use Rattle.text.proofs.Runs.{ascii-none, ascii-join}
+use Rattle.text.proofs.Runs.{ascii-none, ascii_join}
 use borrow.Author.Rules.{rules}
 use Rattle.text.proofs.ascii_blocks.Statement.{statement}
 use Rattle.text.proofs.ascii_blocks.Tie as tie
@@ -36,7 +36,7 @@ loop-less c = search rules
 loop-again : tie.Need-loop-preserved invariant-loop decreases-loop
 loop-again c =
     let f = c.before.ascii.ensures.0 (not-false _ c.if1.false) in
-    ascii-join c.before.before.before.loop.invariant f (omega arith) (omega arith) (omega arith) (omega arith)
+    ascii_join c.before.before.before.loop.invariant f (omega arith) (omega arith) (omega arith) (omega arith)
 
 returns-2 : tie.Need-returns-2 invariant-loop decreases-loop
 returns-2 c = c.before.loop.invariant

@@ -30,7 +30,7 @@ returns c =
     record {
       ascii = l.invariant.1;
       below = omega arith;
-      over = λ m. sym c.before.utf8-1.ensures ∙ not-true _ c.if1.true;
+      over = λ m. sym c.before.utf8_1.ensures ∙ not-true _ c.if1.true;
     }
 
 add-i : tie.Need-overflow-add-i invariant-loop decreases-loop
@@ -42,7 +42,7 @@ loop-less c = search rules
 loop-again : tie.Need-loop-preserved invariant-loop decreases-loop
 loop-again c =
     let l = c.before.before.before.before.loop in
-    (search rules, ascii_more l.invariant.1 (sym c.before.utf8-1.ensures ∙ not-false _ c.if1.false) (omega arith))
+    (search rules, ascii_more l.invariant.1 (sym c.before.utf8_1.ensures ∙ not-false _ c.if1.false) (omega arith))
 
 returns-2 : tie.Need-returns-2 invariant-loop decreases-loop
 returns-2 c =

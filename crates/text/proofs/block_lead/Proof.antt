@@ -1,6 +1,6 @@
 -- `block_lead` meets its contract.
 use native.Mathlib.Omega.{arith}
-use Rattle.text.proofs.Runs.{ascii-join}
+use Rattle.text.proofs.Runs.{ascii_join}
 use borrow.Author.Rules.{rules}
 use Rattle.text.proofs.block_lead.Statement.{statement}
 use Rattle.text.proofs.block_lead.Tie as tie
@@ -21,7 +21,7 @@ returns : tie.Need-returns
 returns c =
     let f = c.before.ascii.ensures.0 c.if2.true in
     let g = c.before.before.before.ascii-blocks.ensures in
-    ascii-join g f (omega arith) (omega arith) (omega arith) (omega arith)
+    ascii_join g f (omega arith) (omega arith) (omega arith) (omega arith)
 
 returns-2 : tie.Need-returns-2
 returns-2 c = search rules

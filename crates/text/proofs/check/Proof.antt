@@ -1,6 +1,6 @@
 -- `check` meets its contract.
 use native.Mathlib.Omega.{arith}
-use Rattle.text.proofs.Runs.{reached-lead, valid}
+use Rattle.text.proofs.Runs.{reached_lead, valid}
 use borrow.Author.Rules.{rules}
 use Rattle.text.proofs.check.Statement.{statement}
 use Rattle.text.proofs.check.Tie as tie
@@ -9,7 +9,7 @@ ascii-lead-requires : tie.Need-ascii-lead-requires
 ascii-lead-requires c κs = search rules
 
 returns : tie.Need-returns
-returns c = valid (reached-lead c.before.ascii-lead.ensures) (omega arith)
+returns c = valid (reached_lead c.before.ascii-lead.ensures) (omega arith)
 
 check-from-requires : tie.Need-check-from-requires
 check-from-requires c κs = search rules

@@ -4,7 +4,7 @@ use mathlib.Core.Logic.{⊎_elim}
 use mathlib.Core.Path.{sym, ◌∙◌}
 use native.Mathlib.Omega.{arith}
 use lib.ListN.{length}
-use Rattle.text.proofs.Runs.{Reached, reached-lead, two-reached, two-less, stuck-low, four-reached, four-less, stuck, valid}
+use Rattle.text.proofs.Runs.{Reached, reached_lead, two_reached, two_less, stuck_low, four_reached, four_less, stuck, valid}
 use borrow.Author.Rules.{rules}
 use Rattle.text.proofs.check_from.Statement.{statement}
 use Rattle.text.proofs.check_from.Tie as tie
@@ -16,7 +16,7 @@ abbrev decreases-loop : tie.decreases-loop
 decreases-loop s first i₀ count₀ i count = length s - i
 
 loop-holds : tie.Need-loop-init invariant-loop decreases-loop
-loop-holds c = reached-lead c.before.requires
+loop-holds c = reached_lead c.before.requires
 
 past-ones-requires : tie.Need-past-ones-requires invariant-loop decreases-loop
 past-ones-requires c κs = search rules
@@ -59,7 +59,7 @@ add-count-4 c =
     let l = c.before.before.before.before.before.before.before.loop in
     let one = c.before.before.before.before.before.past_ones.ensures in
     let two = c.before.before.before.before.past-twos.ensures in
-    let k = four-reached l.invariant one two c.before.past-threes.ensures c.past-fours.ensures in
+    let k = four_reached l.invariant one two c.before.past-threes.ensures c.past-fours.ensures in
     search rules
 
 returns : tie.Need-returns invariant-loop decreases-loop
@@ -70,7 +70,7 @@ returns c =
     ⊎_elim
     (λ w. stuck l.invariant one two w.1.ensures w.2.ensures (sym w.4 ∙ c.if2.true) (omega arith))
     (λ w.
-    stuck-low l.invariant one two (sym c.before.before.is-high.ensures ∙ w.0.left) (sym w.2 ∙ c.if2.true)
+    stuck_low l.invariant one two (sym c.before.before.is-high.ensures ∙ w.0.left) (sym w.2 ∙ c.if2.true)
     (omega arith))
     c.before.if1.branch
 
@@ -80,8 +80,8 @@ loop-less c =
     let one = c.before.before.before.before.past_ones.ensures in
     let two = c.before.before.before.past-twos.ensures in
     ⊎_elim
-    (λ w. rw w.4 (four-less l.invariant one two w.1.ensures w.2.ensures (λ e. c.if2.false (w.4 ∙ e))))
-    (λ w. rw w.2 (two-less l.invariant one two (λ e. c.if2.false (w.2 ∙ e))))
+    (λ w. rw w.4 (four_less l.invariant one two w.1.ensures w.2.ensures (λ e. c.if2.false (w.4 ∙ e))))
+    (λ w. rw w.2 (two_less l.invariant one two (λ e. c.if2.false (w.2 ∙ e))))
     c.before.if1.branch
 
 loop-again : tie.Need-loop-preserved invariant-loop decreases-loop
@@ -90,8 +90,8 @@ loop-again c =
     let one = c.before.before.before.before.past_ones.ensures in
     let two = c.before.before.before.past-twos.ensures in
     ⊎_elim
-    (λ w. rw (w.3, w.4) (four-reached l.invariant one two w.1.ensures w.2.ensures))
-    (λ w. rw (w.1, w.2) (two-reached l.invariant one two))
+    (λ w. rw (w.3, w.4) (four_reached l.invariant one two w.1.ensures w.2.ensures))
+    (λ w. rw (w.1, w.2) (two_reached l.invariant one two))
     c.before.if1.branch
 
 returns-2 : tie.Need-returns-2 invariant-loop decreases-loop

@@ -1,7 +1,7 @@
 -- `is_valid` meets its contract.
 use mathlib.Core.Path.{sym, ap, ◌∙◌}
-use Rattle.text.specs.Rfc3629.{isGiven}
-use Rattle.text.proofs.Points.{answered-valid, answered-invalid}
+use Rattle.text.specs.Rfc3629.{is_given}
+use Rattle.text.proofs.Points.{answered-valid, answered_invalid}
 use borrow.Author.Rules.{rules}
 use Rattle.text.proofs.is_valid.Statement.{statement}
 use Rattle.text.proofs.is_valid.Tie as tie
@@ -19,12 +19,12 @@ returns : tie.Need-returns
 returns c =
     let s = c.before.before.before.before.args.s.now in
     let e = answered-valid s (sym c.before.before.check.ensures ∙ c.enum_told.given.1) in
-    sym (ap isGiven e)
+    sym (ap is_given e)
 
 returns-2 : tie.Need-returns-2
 returns-2 c =
     let s = c.before.before.before.before.args.s.now in
-    sym (answered-invalid s (sym c.before.before.check.ensures ∙ c.enum-told2.given.1))
+    sym (answered_invalid s (sym c.before.before.check.ensures ∙ c.enum-told2.given.1))
 
 pub is-valid-spec : {M : Type 1} → statement M
 is-valid-spec = tie.close (tie.spec check-requires enum_told enum-told-2 returns returns-2)

@@ -1,5 +1,5 @@
 -- `past_ones` meets its contract.
-use Rattle.text.proofs.Runs.{ascii-then, ascii-done}
+use Rattle.text.proofs.Runs.{ascii_then, ascii-done}
 use borrow.Author.Rules.{rules}
 use Rattle.text.proofs.past_ones.Statement.{statement}
 use Rattle.text.proofs.past_ones.Tie as tie
@@ -39,9 +39,9 @@ ascii-bytes-requires-3 c κs = search rules
 returns-3 : tie.Need-returns-3
 returns-3 c =
     let near = c.before.before.before.before.ascii-bytes2.ensures.ascii in
-    let far = ascii-then c.before.before.ascii-blocks.ensures c.before.ascii-blocks2.ensures in
+    let far = ascii_then c.before.before.ascii-blocks.ensures c.before.ascii-blocks2.ensures in
     let a = c.ascii-bytes3.ensures in
-    ascii-done _ _ (ascii-then near (ascii-then far a.ascii)) a.over
+    ascii-done _ _ (ascii_then near (ascii_then far a.ascii)) a.over
 
 pub past-ones-spec : {M : Type 1} → statement M
 past-ones-spec =

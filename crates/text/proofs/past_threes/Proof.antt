@@ -4,7 +4,7 @@ use native.Mathlib.Omega.{arith}
 use lib.ListN.{length}
 use borrow.Author.Tests.{not-true, not-false}
 use Rattle.text.specs.InnerRuns.{Going}
-use Rattle.text.proofs.Runs.{start, run_more, run-over, run_short, bytes-3}
+use Rattle.text.proofs.Runs.{start, run_more, run-over, run_short, bytes_3}
 use borrow.Author.Rules.{rules}
 use Rattle.text.proofs.past_threes.Statement.{statement}
 use Rattle.text.proofs.past_threes.Tie as tie
@@ -42,7 +42,7 @@ utf8-3-requires c κs = search rules
 returns : tie.Need-returns invariant-loop decreases-loop
 returns c =
     let l = c.before.before.before.before.before.before.loop in
-    run-over l.invariant (bytes-3 _ l.i (omega arith)) c.before.utf8-3.ensures (not-true _ c.if1.true)
+    run-over l.invariant (bytes_3 _ l.i (omega arith)) c.before.utf8_3.ensures (not-true _ c.if1.true)
 
 add-i : tie.Need-overflow-add-i invariant-loop decreases-loop
 add-i c = search rules
@@ -53,7 +53,7 @@ loop-less c = search rules
 loop-again : tie.Need-loop-preserved invariant-loop decreases-loop
 loop-again c =
     let l = c.before.before.before.before.before.before.loop in
-    run_more l.invariant (bytes-3 _ l.i (omega arith)) c.before.utf8-3.ensures (not-false _ c.if1.false)
+    run_more l.invariant (bytes_3 _ l.i (omega arith)) c.before.utf8_3.ensures (not-false _ c.if1.false)
     (omega arith)
 
 returns-2 : tie.Need-returns-2 invariant-loop decreases-loop

@@ -36,7 +36,7 @@ utf8-2-requires c κs = search rules
 returns : tie.Need-returns invariant-loop decreases-loop
 returns c =
     let l = c.before.before.before.before.before.loop in
-    run-over l.invariant (bytes_2 _ l.i (omega arith)) c.before.utf8-2.ensures (not-true _ c.if1.true)
+    run-over l.invariant (bytes_2 _ l.i (omega arith)) c.before.utf8_2.ensures (not-true _ c.if1.true)
 
 add-i : tie.Need-overflow-add-i invariant-loop decreases-loop
 add-i c = search rules
@@ -47,7 +47,7 @@ loop-less c = search rules
 loop-again : tie.Need-loop-preserved invariant-loop decreases-loop
 loop-again c =
     let l = c.before.before.before.before.before.loop in
-    run_more l.invariant (bytes_2 _ l.i (omega arith)) c.before.utf8-2.ensures (not-false _ c.if1.false)
+    run_more l.invariant (bytes_2 _ l.i (omega arith)) c.before.utf8_2.ensures (not-false _ c.if1.false)
     (omega arith)
 
 returns-2 : tie.Need-returns-2 invariant-loop decreases-loop

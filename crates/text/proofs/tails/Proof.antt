@@ -2,20 +2,20 @@
 use Prim.Native.Nat.{◌≤◌, ◌-◌}
 use mathlib.Core.Path.{◌≡◌, sym}
 use native.Mathlib.Omega.{arith}
-use Rattle.text.specs.InnerTails.{tailsOf}
-use Rattle.text.proofs.Counts.{byte_fits, tails-none, tails-more, tails-le}
+use Rattle.text.specs.InnerTails.{tails_of}
+use Rattle.text.proofs.Counts.{byte_fits, tails_none, tails_more, tails_le}
 use borrow.Author.Rules.{rules}
 use Rattle.text.proofs.tails.Statement.{statement}
 use Rattle.text.proofs.tails.Tie as tie
 
 abbrev invariant-loop : tie.invariant-loop
-invariant-loop s first n count₀ k₀ count k = (k ≤ n) × (count ≡ tailsOf s first k)
+invariant-loop s first n count₀ k₀ count k = (k ≤ n) × (count ≡ tails_of s first k)
 
 abbrev decreases-loop : tie.decreases-loop
 decreases-loop s first n count₀ k₀ count k = n - k
 
 loop-holds : tie.Need-loop-init invariant-loop decreases-loop
-loop-holds c = let a = c.before.args in (search rules, sym (tails-none a.s.now a.first))
+loop-holds c = let a = c.before.args in (search rules, sym (tails_none a.s.now a.first))
 
 add-is-tail : tie.Need-overflow-add-is-tail invariant-loop decreases-loop
 add-is-tail c = search rules
@@ -32,8 +32,8 @@ cast-count c = search rules
 add-count : tie.Need-overflow-add-count invariant-loop decreases-loop
 add-count c =
     let a = c.before.before.before.before.before.args in
-    let h = tails-le a.s.now a.first c.before.before.before.loop.k in
-    byte_fits c.is-tail.result (omega arith)
+    let h = tails_le a.s.now a.first c.before.before.before.loop.k in
+    byte_fits c.is_tail.result (omega arith)
 
 add-k : tie.Need-overflow-add-k invariant-loop decreases-loop
 add-k c = search rules
@@ -45,12 +45,12 @@ loop-again : tie.Need-loop-preserved invariant-loop decreases-loop
 loop-again c =
     let l = c.before.before.before.loop in
     let a = c.before.before.before.before.before.args in
-    (search rules, rw (l.invariant.1, c.is-tail.ensures, tails-more a.s.now a.first l.k))
+    (search rules, rw (l.invariant.1, c.is_tail.ensures, tails_more a.s.now a.first l.k))
 
 cast-result : tie.Need-overflow-cast-result invariant-loop decreases-loop
 cast-result c =
     let a = c.before.before.before.args in
-    let h = tails-le a.s.now a.first c.before.loop.k in
+    let h = tails_le a.s.now a.first c.before.loop.k in
     search rules
 
 returns : tie.Need-returns invariant-loop decreases-loop

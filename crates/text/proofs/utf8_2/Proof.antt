@@ -16,7 +16,7 @@ returns : tie.Need-returns
 returns c =
     let a = c.before.before.before.args in
     let v : within (0xC2 to 0xDF) a.a ≡ true = sym c.before.before.within.ensures ∙ c.before.if1.true in
-    rw (v, c.is-tail.ensures, and-true, or-false)
+    rw (v, c.is_tail.ensures, and-true, or-false)
 
 returns-2 : tie.Need-returns-2
 returns-2 c =

@@ -2,8 +2,8 @@
 use mathlib.Core.Path.{◌≡◌, refl, sym, ◌∙◌}
 use mathlib.Core.Bool.{true, false, and-true}
 use mathlib.Core.List.{[], ◌∷◌}
-use Rattle.text.specs.Rfc3629.{within, ◌to◌, utf8-3}
-use Rattle.text.proofs.Forms.{rest_of, endsIn, one_form}
+use Rattle.text.specs.Rfc3629.{within, ◌to◌, utf8_3}
+use Rattle.text.proofs.Forms.{rest_of, ends_in, one_form}
 use borrow.Author.Rules.{rules}
 use Rattle.text.proofs.utf8_3.Statement.{statement}
 use Rattle.text.proofs.utf8_3.Tie as tie
@@ -25,8 +25,8 @@ returns c =
     let rest = a.b ∷ a.c ∷ [] in
     let v : within (0xE0 to 0xE0) a.a ≡ true = sym c4.within.ensures ∙ c2.before.if1.true in
     let w : within (0xA0 to 0xBF) a.b ≡ true = sym c2.within2.ensures ∙ c.before.if2.true in
-    let q : endsIn (rest_of utf8-3 a.a) rest ≡ c.is-tail.result = rw (v, w, c.is-tail.ensures, and-true) in
-    sym (one_form a.a utf8-3 0 refl rest ∙ q)
+    let q : ends_in (rest_of utf8_3 a.a) rest ≡ c.is_tail.result = rw (v, w, c.is_tail.ensures, and-true) in
+    sym (one_form a.a utf8_3 0 refl rest ∙ q)
 
 returns-2 : tie.Need-returns-2
 returns-2 c =
@@ -36,8 +36,8 @@ returns-2 c =
     let rest = a.b ∷ a.c ∷ [] in
     let v : within (0xE0 to 0xE0) a.a ≡ true = sym c3.within.ensures ∙ c1.before.if1.true in
     let w : within (0xA0 to 0xBF) a.b ≡ false = sym c1.within2.ensures ∙ c.if2.false in
-    let q : endsIn (rest_of utf8-3 a.a) rest ≡ c1.within2.result = rw (v, w, c.if2.false) in
-    sym (one_form a.a utf8-3 0 refl rest ∙ q)
+    let q : ends_in (rest_of utf8_3 a.a) rest ≡ c1.within2.result = rw (v, w, c.if2.false) in
+    sym (one_form a.a utf8_3 0 refl rest ∙ q)
 
 within-requires-3 : tie.Need-within-requires-3
 within-requires-3 c κs = search rules
@@ -53,8 +53,8 @@ returns-3 c =
     let rest = a.b ∷ a.c ∷ [] in
     let v : within (0xE0 to 0xE0) a.a ≡ false = sym c4.within.ensures ∙ c2.before.if1.false in
     let w : within (0xE1 to 0xEC) a.a ≡ true = sym c2.within3.ensures ∙ c.before.if3.true in
-    let q : endsIn (rest_of utf8-3 a.a) rest ≡ c.are-tails.result = rw (v, w, c.are-tails.ensures) in
-    sym (one_form a.a utf8-3 0 refl rest ∙ q)
+    let q : ends_in (rest_of utf8_3 a.a) rest ≡ c.are-tails.result = rw (v, w, c.are-tails.ensures) in
+    sym (one_form a.a utf8_3 0 refl rest ∙ q)
 
 within-requires-4 : tie.Need-within-requires-4
 within-requires-4 c κs = search rules
@@ -77,8 +77,8 @@ returns-4 c =
     let w : within (0xE1 to 0xEC) a.a ≡ false = sym c6.within3.ensures ∙ c4.before.if3.false in
     let x : within (0xED to 0xED) a.a ≡ true = sym c4.within4.ensures ∙ c2.before.if4.true in
     let y : within (0x80 to 0x9F) a.b ≡ true = sym c2.within5.ensures ∙ c.before.if5.true in
-    let q : endsIn (rest_of utf8-3 a.a) rest ≡ c.is-tail2.result = rw (v, w, x, y, c.is-tail2.ensures, and-true) in
-    sym (one_form a.a utf8-3 0 refl rest ∙ q)
+    let q : ends_in (rest_of utf8_3 a.a) rest ≡ c.is-tail2.result = rw (v, w, x, y, c.is-tail2.ensures, and-true) in
+    sym (one_form a.a utf8_3 0 refl rest ∙ q)
 
 returns-5 : tie.Need-returns-5
 returns-5 c =
@@ -92,8 +92,8 @@ returns-5 c =
     let w : within (0xE1 to 0xEC) a.a ≡ false = sym c5.within3.ensures ∙ c3.before.if3.false in
     let x : within (0xED to 0xED) a.a ≡ true = sym c3.within4.ensures ∙ c1.before.if4.true in
     let y : within (0x80 to 0x9F) a.b ≡ false = sym c1.within5.ensures ∙ c.if5.false in
-    let q : endsIn (rest_of utf8-3 a.a) rest ≡ c1.within5.result = rw (v, w, x, y, c.if5.false) in
-    sym (one_form a.a utf8-3 0 refl rest ∙ q)
+    let q : ends_in (rest_of utf8_3 a.a) rest ≡ c1.within5.result = rw (v, w, x, y, c.if5.false) in
+    sym (one_form a.a utf8_3 0 refl rest ∙ q)
 
 within-requires-6 : tie.Need-within-requires-6
 within-requires-6 c κs = search rules
@@ -113,8 +113,8 @@ returns-6 c =
     let w : within (0xE1 to 0xEC) a.a ≡ false = sym c6.within3.ensures ∙ c4.before.if3.false in
     let x : within (0xED to 0xED) a.a ≡ false = sym c4.within4.ensures ∙ c2.before.if4.false in
     let y : within (0xEE to 0xEF) a.a ≡ true = sym c2.within6.ensures ∙ c.before.if6.true in
-    let q : endsIn (rest_of utf8-3 a.a) rest ≡ c.are-tails2.result = rw (v, w, x, y, c.are-tails2.ensures) in
-    sym (one_form a.a utf8-3 0 refl rest ∙ q)
+    let q : ends_in (rest_of utf8_3 a.a) rest ≡ c.are-tails2.result = rw (v, w, x, y, c.are-tails2.ensures) in
+    sym (one_form a.a utf8_3 0 refl rest ∙ q)
 
 returns-7 : tie.Need-returns-7
 returns-7 c =
@@ -128,8 +128,8 @@ returns-7 c =
     let w : within (0xE1 to 0xEC) a.a ≡ false = sym c5.within3.ensures ∙ c3.before.if3.false in
     let x : within (0xED to 0xED) a.a ≡ false = sym c3.within4.ensures ∙ c1.before.if4.false in
     let y : within (0xEE to 0xEF) a.a ≡ false = sym c1.within6.ensures ∙ c.if6.false in
-    let q : endsIn (rest_of utf8-3 a.a) rest ≡ false = rw (v, w, x, y) in
-    sym (one_form a.a utf8-3 0 refl rest ∙ q)
+    let q : ends_in (rest_of utf8_3 a.a) rest ≡ false = rw (v, w, x, y) in
+    sym (one_form a.a utf8_3 0 refl rest ∙ q)
 
 pub utf8-3-spec : {M : Type 1} → statement M
 utf8-3-spec =

@@ -2,8 +2,8 @@
 use mathlib.Core.Path.{◌≡◌, refl, sym, ◌∙◌}
 use mathlib.Core.Bool.{true, false}
 use mathlib.Core.List.{[], ◌∷◌}
-use Rattle.text.specs.Rfc3629.{within, ◌to◌, utf8-tail, utf8-4}
-use Rattle.text.proofs.Forms.{rest_of, endsIn, one_form}
+use Rattle.text.specs.Rfc3629.{within, ◌to◌, utf8_tail, utf8_4}
+use Rattle.text.proofs.Forms.{rest_of, ends_in, one_form}
 use borrow.Author.Rules.{rules}
 use Rattle.text.proofs.utf8_4.Statement.{statement}
 use Rattle.text.proofs.utf8_4.Tie as tie
@@ -25,8 +25,8 @@ returns c =
     let rest = a.b ∷ a.c ∷ a.d ∷ [] in
     let v : within (0xF0 to 0xF0) a.a ≡ true = sym c4.within.ensures ∙ c2.before.if1.true in
     let w : within (0x90 to 0xBF) a.b ≡ true = sym c2.within2.ensures ∙ c.before.if2.true in
-    let q : endsIn (rest_of utf8-4 a.a) rest ≡ c.are-tails.result = rw (v, w, c.are-tails.ensures) in
-    sym (one_form a.a utf8-4 0 refl rest ∙ q)
+    let q : ends_in (rest_of utf8_4 a.a) rest ≡ c.are-tails.result = rw (v, w, c.are-tails.ensures) in
+    sym (one_form a.a utf8_4 0 refl rest ∙ q)
 
 returns-2 : tie.Need-returns-2
 returns-2 c =
@@ -36,8 +36,8 @@ returns-2 c =
     let rest = a.b ∷ a.c ∷ a.d ∷ [] in
     let v : within (0xF0 to 0xF0) a.a ≡ true = sym c3.within.ensures ∙ c1.before.if1.true in
     let w : within (0x90 to 0xBF) a.b ≡ false = sym c1.within2.ensures ∙ c.if2.false in
-    let q : endsIn (rest_of utf8-4 a.a) rest ≡ c1.within2.result = rw (v, w, c.if2.false) in
-    sym (one_form a.a utf8-4 0 refl rest ∙ q)
+    let q : ends_in (rest_of utf8_4 a.a) rest ≡ c1.within2.result = rw (v, w, c.if2.false) in
+    sym (one_form a.a utf8_4 0 refl rest ∙ q)
 
 within-requires-3 : tie.Need-within-requires-3
 within-requires-3 c κs = search rules
@@ -57,9 +57,9 @@ returns-3 c =
     let rest = a.b ∷ a.c ∷ a.d ∷ [] in
     let v : within (0xF0 to 0xF0) a.a ≡ false = sym c6.within.ensures ∙ c4.before.if1.false in
     let w : within (0xF1 to 0xF3) a.a ≡ true = sym c4.within3.ensures ∙ c2.before.if3.true in
-    let x : within utf8-tail a.b ≡ true = sym c2.is-tail.ensures ∙ c.before.if4.true in
-    let q : endsIn (rest_of utf8-4 a.a) rest ≡ c.are-tails2.result = rw (v, w, x, c.are-tails2.ensures) in
-    sym (one_form a.a utf8-4 0 refl rest ∙ q)
+    let x : within utf8_tail a.b ≡ true = sym c2.is_tail.ensures ∙ c.before.if4.true in
+    let q : ends_in (rest_of utf8_4 a.a) rest ≡ c.are-tails2.result = rw (v, w, x, c.are-tails2.ensures) in
+    sym (one_form a.a utf8_4 0 refl rest ∙ q)
 
 returns-4 : tie.Need-returns-4
 returns-4 c =
@@ -70,9 +70,9 @@ returns-4 c =
     let rest = a.b ∷ a.c ∷ a.d ∷ [] in
     let v : within (0xF0 to 0xF0) a.a ≡ false = sym c5.within.ensures ∙ c3.before.if1.false in
     let w : within (0xF1 to 0xF3) a.a ≡ true = sym c3.within3.ensures ∙ c1.before.if3.true in
-    let x : within utf8-tail a.b ≡ false = sym c1.is-tail.ensures ∙ c.if4.false in
-    let q : endsIn (rest_of utf8-4 a.a) rest ≡ c1.is-tail.result = rw (v, w, x, c.if4.false) in
-    sym (one_form a.a utf8-4 0 refl rest ∙ q)
+    let x : within utf8_tail a.b ≡ false = sym c1.is_tail.ensures ∙ c.if4.false in
+    let q : ends_in (rest_of utf8_4 a.a) rest ≡ c1.is_tail.result = rw (v, w, x, c.if4.false) in
+    sym (one_form a.a utf8_4 0 refl rest ∙ q)
 
 within-requires-4 : tie.Need-within-requires-4
 within-requires-4 c κs = search rules
@@ -95,8 +95,8 @@ returns-5 c =
     let w : within (0xF1 to 0xF3) a.a ≡ false = sym c6.within3.ensures ∙ c4.before.if3.false in
     let x : within (0xF4 to 0xF4) a.a ≡ true = sym c4.within4.ensures ∙ c2.before.if5.true in
     let y : within (0x80 to 0x8F) a.b ≡ true = sym c2.within5.ensures ∙ c.before.if6.true in
-    let q : endsIn (rest_of utf8-4 a.a) rest ≡ c.are-tails3.result = rw (v, w, x, y, c.are-tails3.ensures) in
-    sym (one_form a.a utf8-4 0 refl rest ∙ q)
+    let q : ends_in (rest_of utf8_4 a.a) rest ≡ c.are-tails3.result = rw (v, w, x, y, c.are-tails3.ensures) in
+    sym (one_form a.a utf8_4 0 refl rest ∙ q)
 
 returns-6 : tie.Need-returns-6
 returns-6 c =
@@ -110,8 +110,8 @@ returns-6 c =
     let w : within (0xF1 to 0xF3) a.a ≡ false = sym c5.within3.ensures ∙ c3.before.if3.false in
     let x : within (0xF4 to 0xF4) a.a ≡ true = sym c3.within4.ensures ∙ c1.before.if5.true in
     let y : within (0x80 to 0x8F) a.b ≡ false = sym c1.within5.ensures ∙ c.if6.false in
-    let q : endsIn (rest_of utf8-4 a.a) rest ≡ c1.within5.result = rw (v, w, x, y, c.if6.false) in
-    sym (one_form a.a utf8-4 0 refl rest ∙ q)
+    let q : ends_in (rest_of utf8_4 a.a) rest ≡ c1.within5.result = rw (v, w, x, y, c.if6.false) in
+    sym (one_form a.a utf8_4 0 refl rest ∙ q)
 
 returns-7 : tie.Need-returns-7
 returns-7 c =
@@ -123,8 +123,8 @@ returns-7 c =
     let v : within (0xF0 to 0xF0) a.a ≡ false = sym c5.within.ensures ∙ c3.before.if1.false in
     let w : within (0xF1 to 0xF3) a.a ≡ false = sym c3.within3.ensures ∙ c1.before.if3.false in
     let x : within (0xF4 to 0xF4) a.a ≡ false = sym c1.within4.ensures ∙ c.if5.false in
-    let q : endsIn (rest_of utf8-4 a.a) rest ≡ false = rw (v, w, x) in
-    sym (one_form a.a utf8-4 0 refl rest ∙ q)
+    let q : ends_in (rest_of utf8_4 a.a) rest ≡ false = rw (v, w, x) in
+    sym (one_form a.a utf8_4 0 refl rest ∙ q)
 
 pub utf8-4-spec : {M : Type 1} → statement M
 utf8-4-spec =

@@ -1,5 +1,5 @@
 use mathlib.Core.Path.{sym, ◌∙◌}
-use Rattle.text.proofs.Points.{answered-valid, answered-invalid}
+use Rattle.text.proofs.Points.{answered-valid, answered_invalid}
 use borrow.Author.Rules.{rules}
 use Rattle.text_limit.proofs.points_within.Statement.{statement}
 use Rattle.text_limit.proofs.points_within.Tie as tie
@@ -16,7 +16,7 @@ enum-known-points c = search rules
 returns : tie.Need-returns
 returns c =
     let s = c.before.before.before.before.args.s.now in
-    rw (answered-invalid s (sym c.before.before.check.ensures ∙ c.enum_told.given.1))
+    rw (answered_invalid s (sym c.before.before.check.ensures ∙ c.enum_told.given.1))
 
 returns-2 : tie.Need-returns-2
 returns-2 c =

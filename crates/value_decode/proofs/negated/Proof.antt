@@ -1,4 +1,4 @@
-use Rattle.value_decode.proofs.Numbers.{no_number, without-low, with-low}
+use Rattle.value_decode.proofs.Numbers.{no_number, without_low, with_low}
 use Rattle.signed.proofs.Casts.{passed}
 use mir.Syntax.{w64}
 use borrow.Author.Rules.{rules}
@@ -20,7 +20,7 @@ cast-signed-64-requires c κs = search rules
 returns-2 : tie.Need-returns-2
 returns-2 c =
     let entry = c.before.before.before in
-    let a = entry.args in without-low a.high a.low _ a.scale entry.requires c.before.before.if1.true c.before.if2.false (passed w64 (search rules) c.cast-signed-64.ensures)
+    let a = entry.args in without_low a.high a.low _ a.scale entry.requires c.before.before.if1.true c.before.if2.false (passed w64 (search rules) c.cast-signed-64.ensures)
 
 sub-cast-signed-64-3 : tie.Need-overflow-sub-cast-signed-64-3
 sub-cast-signed-64-3 c = search rules
@@ -35,7 +35,7 @@ sub-t12 : tie.Need-overflow-sub-t12
 sub-t12 c = search rules
 
 returns-3 : tie.Need-returns-3
-returns-3 c = let a = c.before.before.args in with-low a.high a.low _ a.scale c.before.before.requires (search rules) c.before.if1.false (passed w64 (search rules) c.cast-signed-642.ensures)
+returns-3 c = let a = c.before.before.args in with_low a.high a.low _ a.scale c.before.before.requires (search rules) c.before.if1.false (passed w64 (search rules) c.cast-signed-642.ensures)
 
 pub negated-spec : {M : Type 1} → statement M
 negated-spec =

@@ -1,4 +1,4 @@
-use Rattle.value_encode.proofs.Numbers.{upper-positive, no_lower, some-lower}
+use Rattle.value_encode.proofs.Numbers.{upper_positive, no_lower, some-lower}
 use Rattle.signed.proofs.Casts.{handed}
 use mir.Syntax.{w64}
 use mir.Val.{of_z}
@@ -13,7 +13,7 @@ returns : tie.Need-returns
 returns c =
     let k = c.before.before in
     let e = handed w64 (of_z w64) k.args.high k.ranges.high c.before.cast-unsigned-64.ensures in
-    rw e (upper-positive k.args.high k.args.low k.ranges.high (rw (← e) c.if1.true))
+    rw e (upper_positive k.args.high k.args.low k.ranges.high (rw (← e) c.if1.true))
 
 sub-upper : tie.Need-overflow-sub-upper
 sub-upper c = search rules

@@ -1,4 +1,4 @@
-use Rattle.temporal.specs.Ranges.{isDate, isTime, isTimestamp}
+use Rattle.temporal.specs.Ranges.{is_date, is_time, is_timestamp}
 use Rattle.signed.proofs.Casts.{handed}
 use mir.Syntax.{w32, w64}
 use borrow.Author.Rules.{rules}
@@ -108,16 +108,16 @@ returns-10 : tie.Need-returns-10
 returns-10 c = rw c.before.before.enum-told8.given.1 (rw (← c.before.before.before.before.declared-length.ensures, ← c.before.counts-points.ensures) c.is-within2.ensures)
 
 returns-11 : tie.Need-returns-11
-returns-11 c = let v = c.before.before.value3.given in rw v.1 (handed w32 isDate v.0.0 (search rules) c.is-date.ensures)
+returns-11 c = let v = c.before.before.value3.given in rw v.1 (handed w32 is_date v.0.0 (search rules) c.is-date.ensures)
 
 returns-12 : tie.Need-returns-12
-returns-12 c = let v = c.before.before.value4.given in rw v.1 (handed w64 isTime v.0.0 (search rules) c.is-time.ensures)
+returns-12 c = let v = c.before.before.value4.given in rw v.1 (handed w64 is_time v.0.0 (search rules) c.is-time.ensures)
 
 returns-13 : tie.Need-returns-13
 returns-13 c = rw c.before.enum-told9.given.1 (rw (← c.before.before.before.declared-length.ensures, ← c.byte-count.ensures))
 
 returns-14 : tie.Need-returns-14
-returns-14 c = let v = c.before.before.value5.given in rw v.1 (handed w64 isTimestamp v.0.0 (search rules) c.is-timestamp.ensures)
+returns-14 c = let v = c.before.before.value5.given in rw v.1 (handed w64 is_timestamp v.0.0 (search rules) c.is-timestamp.ensures)
 
 pub suits-text-spec : {M : Type 1} → statement M
 suits-text-spec =

@@ -1,15 +1,15 @@
 use mathlib.Core.Bool.{false}
 use Rattle.text_limit.proofs.Limits.{fits-size}
-use Rattle.stored_form.proofs.Lengths.{fits_below, length-char}
+use Rattle.stored_form.proofs.Lengths.{fits_below, length_char}
 use Rattle.bit_utils.proofs.Packing.{length-packed}
-use Rattle.numeric.proofs.Packing.{length-encode}
+use Rattle.numeric.proofs.Packing.{length_encode}
 use Rattle.signed.proofs.Casts.{handed}
-use Rattle.laws.specs.Bytes.{toLe}
+use Rattle.laws.specs.Bytes.{to_le}
 use borrow.Author.Tests.{eqb-true}
 use mir.Val.{of_z}
 use mir.ValLaws.{to_z-of_z}
-use Rattle.numeric.specs.Packed.{encodeBcd}
-use Rattle.stored_form.specs.Number.{isNegative, magnitude}
+use Rattle.numeric.specs.Packed.{encode_bcd}
+use Rattle.stored_form.specs.Number.{is_negative, magnitude}
 use mir.Syntax.{w16, w32, w64}
 use lib.Seq.{sets}
 use lib.IntN.{ℤ}
@@ -70,7 +70,7 @@ write-number-requires c κs =
     let entry = c.before.before.before.before.before.before.before.before.before in
     let n = c.before.before.before.value6.given.0.0 in
     let e = rw c.before.before.before.value6.given.1 at entry.requires.1.0 in
-    let h = rw (c.before.before.before.value6.given.1, length-encode) at entry.requires.1.1 in
+    let h = rw (c.before.before.before.value6.given.1, length_encode) at entry.requires.1.1 in
     rw (to_z-of_z w64 n.high (search rules), c.before.before.before.before.before.precision.ensures) (entry.requires.0, (fits_below entry.args.ty n.scale (magnitude n.high n.low) e, h))
 
 enum-known-value-7 : tie.Need-enum-known-value-7
@@ -87,7 +87,7 @@ write-char-requires c κs =
     let entry = c.before.before.before.before.before.before.before in
     let a = entry.args in
     let e = rw c.before.enum-told2.given.1 at entry.requires.1.0 in
-    let h = rw (c.before.enum-told2.given.1, length-char _ a.text.now e) at entry.requires.1.1 in
+    let h = rw (c.before.enum-told2.given.1, length_char _ a.text.now e) at entry.requires.1.1 in
     rw c.before.before.before.before.declared-length.ensures (fits-size false _ a.text.now e, h)
 
 enum-told-3 : tie.Need-enum-told-3
@@ -135,7 +135,7 @@ returns-2 : tie.Need-returns-2
 returns-2 c =
     let a = c.before.before.before.before.before.before.before.before.before.before.before.args in
     let v = c.before.before.before.before.before.value.given in
-    rw v.1 (handed w16 (λ (z : ℤ). sets a.out.now a.at (toLe 2 (of_z w16 z))) v.0.0 (search rules) c.before.before.write-i16.ensures)
+    rw v.1 (handed w16 (λ (z : ℤ). sets a.out.now a.at (to_le 2 (of_z w16 z))) v.0.0 (search rules) c.before.before.write-i16.ensures)
 
 same-length-2 : tie.Need-same-length-2
 same-length-2 c = search rules
@@ -144,7 +144,7 @@ returns-3 : tie.Need-returns-3
 returns-3 c =
     let a = c.before.before.before.before.before.before.before.before.before.before.before.args in
     let v = c.before.before.before.before.before.value2.given in
-    rw v.1 (handed w32 (λ (z : ℤ). sets a.out.now a.at (toLe 4 (of_z w32 z))) v.0.0 (search rules) c.before.before.write-i32.ensures)
+    rw v.1 (handed w32 (λ (z : ℤ). sets a.out.now a.at (to_le 4 (of_z w32 z))) v.0.0 (search rules) c.before.before.write-i32.ensures)
 
 same-length-3 : tie.Need-same-length-3
 same-length-3 c = search rules
@@ -153,7 +153,7 @@ returns-4 : tie.Need-returns-4
 returns-4 c =
     let a = c.before.before.before.before.before.before.before.before.before.before.before.args in
     let v = c.before.before.before.before.before.value3.given in
-    rw v.1 (handed w64 (λ (z : ℤ). sets a.out.now a.at (toLe 8 (of_z w64 z))) v.0.0 (search rules) c.before.before.write-i64.ensures)
+    rw v.1 (handed w64 (λ (z : ℤ). sets a.out.now a.at (to_le 8 (of_z w64 z))) v.0.0 (search rules) c.before.before.write-i64.ensures)
 
 same-length-4 : tie.Need-same-length-4
 same-length-4 c = search rules
@@ -176,7 +176,7 @@ returns-7 c =
     let n = c.before.before.before.before.before.before.value6.given.0.0 in
     let p = c.before.before.before.before.before.before.before.before.precision in
     rw (c.before.before.before.before.before.before.value6.given.1, ← p.ensures)
-    (handed w64 (λ (z : ℤ). sets a.out.now a.at (encodeBcd p.result (isNegative z) (magnitude z n.low))) n.high (search rules) c.before.before.write-number.ensures)
+    (handed w64 (λ (z : ℤ). sets a.out.now a.at (encode_bcd p.result (is_negative z) (magnitude z n.low))) n.high (search rules) c.before.before.write-number.ensures)
 
 same-length-7 : tie.Need-same-length-7
 same-length-7 c = search rules
@@ -203,7 +203,7 @@ returns-11 : tie.Need-returns-11
 returns-11 c =
     let a = c.before.before.before.before.before.before.before.before.before.before.before.args in
     let v = c.before.before.before.before.before.value8.given in
-    rw v.1 (handed w32 (λ (z : ℤ). sets a.out.now a.at (toLe 4 (of_z w32 z))) v.0.0 (search rules) c.before.before.write-i322.ensures)
+    rw v.1 (handed w32 (λ (z : ℤ). sets a.out.now a.at (to_le 4 (of_z w32 z))) v.0.0 (search rules) c.before.before.write-i322.ensures)
 
 same-length-11 : tie.Need-same-length-11
 same-length-11 c = search rules
@@ -212,7 +212,7 @@ returns-12 : tie.Need-returns-12
 returns-12 c =
     let a = c.before.before.before.before.before.before.before.before.before.before.before.args in
     let v = c.before.before.before.before.before.value9.given in
-    rw v.1 (handed w64 (λ (z : ℤ). sets a.out.now a.at (toLe 8 (of_z w64 z))) v.0.0 (search rules) c.before.before.write-i642.ensures)
+    rw v.1 (handed w64 (λ (z : ℤ). sets a.out.now a.at (to_le 8 (of_z w64 z))) v.0.0 (search rules) c.before.before.write-i642.ensures)
 
 same-length-12 : tie.Need-same-length-12
 same-length-12 c = search rules
@@ -227,7 +227,7 @@ returns-14 : tie.Need-returns-14
 returns-14 c =
     let a = c.before.before.before.before.before.before.before.before.before.before.before.args in
     let v = c.before.before.before.before.before.value10.given in
-    rw v.1 (handed w64 (λ (z : ℤ). sets a.out.now a.at (toLe 8 (of_z w64 z))) v.0.0 (search rules) c.before.before.write-i643.ensures)
+    rw v.1 (handed w64 (λ (z : ℤ). sets a.out.now a.at (to_le 8 (of_z w64 z))) v.0.0 (search rules) c.before.before.write-i643.ensures)
 
 pub write-value-spec : {M : Type 1} → statement M
 write-value-spec =

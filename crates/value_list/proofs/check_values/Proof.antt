@@ -1,5 +1,5 @@
 use lib.ListN.{length}
-use Rattle.value_list.proofs.Checking.{Checking, check-start, check-end, check-bad, check-more}
+use Rattle.value_list.proofs.Checking.{Checking, check_start, check_end, check_bad, check_more}
 use Rattle.value_list.proofs.Sizes.{size-some}
 use Rattle.laws.proofs.Tests.{by_tests}
 use mathlib.Core.Path.{sym, ◌∙◌}
@@ -16,13 +16,13 @@ abbrev decreases-loop : tie.decreases-loop
 decreases-loop list is-long columns area at₀ count₀ at count = length list - at
 
 loop-holds : tie.Need-loop-init invariant-loop decreases-loop
-loop-holds c = let a = c.before.args in check-start a.is-long a.list.now a.columns a.area
+loop-holds c = let a = c.before.args in check_start a.is-long a.list.now a.columns a.area
 
 record-size-requires : tie.Need-record-size-requires invariant-loop decreases-loop
 record-size-requires c κs = search rules
 
 returns : tie.Need-returns invariant-loop decreases-loop
-returns c = check-bad c.before.before.before.loop.invariant c.before.before.loop-test.true (sym c.before.record-size.ensures ∙ c.if1.true)
+returns c = check_bad c.before.before.before.loop.invariant c.before.before.loop-test.true (sym c.before.record-size.ensures ∙ c.if1.true)
 
 add_at : tie.Need-overflow-add-at invariant-loop decreases-loop
 add_at c =
@@ -40,19 +40,19 @@ loop-less c =
 loop-again : tie.Need-loop-preserved invariant-loop decreases-loop
 loop-again c =
     let w = size-some c.before.before.before.before.before.args.list.now c.before.before.before.loop.at c.before.before.loop-test.true (rw c.before.record-size.ensures at c.if1.false) in
-    rw c.before.record-size.ensures (check-more c.before.before.before.loop.invariant c.before.before.loop-test.true w)
+    rw c.before.record-size.ensures (check_more c.before.before.before.loop.invariant c.before.before.loop-test.true w)
 
 returns-2 : tie.Need-returns-2 invariant-loop decreases-loop
-returns-2 c = (search by_tests) ∙ check-end c.before.before.loop.invariant c.before.loop-test.false
+returns-2 c = (search by_tests) ∙ check_end c.before.before.loop.invariant c.before.loop-test.false
 
 row-limit-requires : tie.Need-row-limit-requires invariant-loop decreases-loop
 row-limit-requires c κs = search rules
 
 returns-3 : tie.Need-returns-3 invariant-loop decreases-loop
-returns-3 c = rw (← c.before.row-limit.ensures.0) (search by_tests) ∙ check-end c.before.before.before.before.loop.invariant c.before.before.before.loop-test.false
+returns-3 c = rw (← c.before.row_limit_lem.ensures.0) (search by_tests) ∙ check_end c.before.before.before.before.loop.invariant c.before.before.before.loop-test.false
 
 returns-4 : tie.Need-returns-4 invariant-loop decreases-loop
-returns-4 c = rw (← c.before.row-limit.ensures.0) (search by_tests) ∙ check-end c.before.before.before.before.loop.invariant c.before.before.before.loop-test.false
+returns-4 c = rw (← c.before.row_limit_lem.ensures.0) (search by_tests) ∙ check_end c.before.before.before.before.loop.invariant c.before.before.before.loop-test.false
 
 pub check-values-spec : {M : Type 1} → statement M
 check-values-spec =

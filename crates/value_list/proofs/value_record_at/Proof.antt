@@ -1,7 +1,7 @@
 use Rattle.value_list.proofs.Sizes.{size_none, size-some}
 use mathlib.Core.Path.{sym, ◌∙◌}
 use lib.ListN.{get_or}
-use Rattle.value_list.proofs.LongKinds.{body-in}
+use Rattle.value_list.proofs.LongKinds.{body_in_lem}
 use borrow.Author.Rules.{rules}
 use Rattle.value_list.proofs.value_record_at.Statement.{statement}
 use Rattle.value_list.proofs.value_record_at.Tie as tie
@@ -32,7 +32,7 @@ value-at-requires c κs =
     let entry = c.before.before.before.before.before.before in
     let a = entry.args in
     let w = size-some a.list.now a.at entry.requires (rw c.before.before.before.before.record-size.ensures at c.before.before.before.if1.false) in
-    rw (c.plain-kind.ensures, c.before.is-long-kind.ensures, body-in (get_or a.list.now a.at 0)) w.body
+    rw (c.plain-kind.ensures, c.before.is-long-kind.ensures, body_in_lem (get_or a.list.now a.at 0)) w.body
 
 add-t12 : tie.Need-overflow-add-t12
 add-t12 c =

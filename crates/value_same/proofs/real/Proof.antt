@@ -1,7 +1,7 @@
 use mathlib.Core.Path.{refl}
 use mir.Syntax.{w32}
 use borrow.Author.Rules.{rules}
-use Rattle.value_same.proofs.Fields.{unsigned-word}
+use Rattle.value_same.proofs.Fields.{unsigned_word}
 use Rattle.value_same.proofs.real.Statement.{statement}
 use Rattle.value_same.proofs.real.Tie as tie
 
@@ -60,7 +60,7 @@ returns-4 : tie.Need-returns-4
 returns-4 c = rw c.enum-told4.given.1
 
 returns-5 : tie.Need-returns-5
-returns-5 c = let v = c.before.v.given in rw v.1 (unsigned-word w32 4 refl v.0.0 (search rules))
+returns-5 c = let v = c.before.v.given in rw v.1 (unsigned_word w32 4 refl v.0.0 (search rules))
 
 returns-6 : tie.Need-returns-6
 returns-6 c = rw c.enum-told5.given.1

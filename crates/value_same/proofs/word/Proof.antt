@@ -1,7 +1,7 @@
 use mathlib.Core.Path.{refl, sym}
 use native.Mathlib.Nat.{add-zero}
 use mir.Syntax.{w16, w32, w64}
-use Rattle.value_same.proofs.Fields.{unsigned-word, signed_word}
+use Rattle.value_same.proofs.Fields.{unsigned_word, signed_word}
 use borrow.Author.Rules.{rules}
 use Rattle.value_same.proofs.word.Statement.{statement}
 use Rattle.value_same.proofs.word.Tie as tie
@@ -100,13 +100,13 @@ returns-4 c =
     rw v.1 (signed_word w64 8 refl v.0.0 (search rules) c.cast-unsigned-64.ensures)
 
 returns-5 : tie.Need-returns-5
-returns-5 c = let v = c.before.v4.given in rw v.1 (unsigned-word w32 4 refl v.0.0 (search rules))
+returns-5 c = let v = c.before.v4.given in rw v.1 (unsigned_word w32 4 refl v.0.0 (search rules))
 
 returns-6 : tie.Need-returns-6
-returns-6 c = let v = c.before.v5.given in rw v.1 (unsigned-word w64 8 refl v.0.0 (search rules))
+returns-6 c = let v = c.before.v5.given in rw v.1 (unsigned_word w64 8 refl v.0.0 (search rules))
 
 returns-7 : tie.Need-returns-7
-returns-7 c = let v = c.before.v6.given in rw v.1 (unsigned-word w64 8 refl v.0.0.low (search rules))
+returns-7 c = let v = c.before.v6.given in rw v.1 (unsigned_word w64 8 refl v.0.0.low (search rules))
 
 returns-8 : tie.Need-returns-8
 returns-8 c = let v = c.before.v7.given in rw v.1 (sym (add-zero v.0.0))
