@@ -1,4 +1,6 @@
 // A Timestamp as the text of a date and a time.
+#![tactic(auto)]
+
 ghost use Rattle.std.specs.Prelude.{◌≡◌, ◌+◌, ◌/◌, ◌%◌, ◌≤◌, ◌<◌, ◌∷◌, length};
 ghost use Rattle.std.proofs.lemmas.List.Edits.{sets};
 ghost use Rattle.std.specs.Int.{w64};
@@ -9,7 +11,7 @@ ghost use Rattle.calendar.specs.Moment.{ascii_digits, date_text, time_text, mome
 ghost use Rattle.calendar.specs.InnerMoment.{moment_of};
 
 // Microseconds since 0001-01-01 00:00:00.
-#[derive(Drop)]
+#[derive(Clone, Copy)]
 pub enum Moment {
     Micros(u64),
     OutOfRange,
@@ -35,7 +37,7 @@ const FOUR_CENTURIES: u32 = 146_097;
 const FOUR_YEARS: u32 = 1461;
 
 // A year, and a day from 0 counted from its first of March: so a leap day is the last.
-#[derive(Drop)]
+#[derive(Clone, Copy)]
 struct YearDay {
     year: u32,
     day: u32,
@@ -55,7 +57,7 @@ fn year_day(days: u32) -> YearDay
 }
 
 // A month, January being 13, and a day of it from 0.
-#[derive(Drop)]
+#[derive(Clone, Copy)]
 struct MonthDay {
     month: u32,
     day: u32,
@@ -74,7 +76,7 @@ fn month_day(day: u32) -> MonthDay
 }
 
 // A year, a month of it and a day of that, each from 1.
-#[derive(Drop)]
+#[derive(Clone, Copy)]
 pub struct Date {
     pub year: u32,
     pub month: u32,

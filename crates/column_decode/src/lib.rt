@@ -1,4 +1,6 @@
 // row.rs, `RowDecoder::decode`: one column of a row, its value written as a record of a value list.
+#![tactic(auto)]
+
 ghost use Rattle.std.specs.Prelude.{◌≡◌, false, ◌+◌, ◌*◌, ◌<◌, ◌≤◌, eqb, length, drop};
 ghost use Rattle.laws.specs.Bits.{bit_at};
 ghost use Rattle.row_format.specs.Places.{offset_width, row_limit, bitmap_start};

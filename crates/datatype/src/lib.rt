@@ -1,4 +1,6 @@
 // datatype.rs: the column types, and the bytes of a schema.
+#![tactic(auto)]
+
 pub mod schema_kinds;
 
 ghost use Rattle.std.specs.Prelude.{◌≡◌, false, ◌<◌, ◌≤◌, length};
@@ -13,7 +15,7 @@ use error::Refusal;
 use row_format::Shape;
 use row_layout::RowLayout;
 
-#[derive(Drop)]
+#[derive(Clone, Copy)]
 pub enum DataType {
     SmallInt,
     Int,
@@ -247,7 +249,7 @@ impl DataType {
 }
 
 // What stands at a place of a schema.
-#[derive(Drop)]
+#[derive(Clone, Copy)]
 pub enum Record {
     // A column's type, and the place after its record.
     Column(DataType, usize),
@@ -350,7 +352,7 @@ pub fn is_varchar(kind: u8) -> bool
 }
 
 // A place of a schema, and the layout of the columns before it.
-#[derive(Drop)]
+#[derive(Clone, Copy)]
 pub struct Step {
     pub at: usize,
     pub before: RowLayout,
@@ -397,7 +399,7 @@ pub fn next_column(schema: &[u8], at: usize, before: RowLayout) -> Step
 }
 
 // The layout of a schema's rows, or why its bytes are no schema.
-#[derive(Drop)]
+#[derive(Clone, Copy)]
 pub enum SchemaCheck {
     Good(RowLayout),
     Refused(Refusal),

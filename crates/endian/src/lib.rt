@@ -1,4 +1,6 @@
 // Little-endian numbers at a place of a slice, and runs of bytes copied, filled and moved.
+#![tactic(auto)]
+
 ghost use Rattle.std.specs.Prelude.{◌≡◌, ◌+◌, ◌≤◌, length, take, drop, replicate};
 ghost use Rattle.std.proofs.lemmas.List.Edits.{sets};
 ghost use Rattle.std.specs.Int.{w16, w32, w64};

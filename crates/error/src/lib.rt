@@ -1,10 +1,12 @@
 // error.rs: why a call refused. Document 01's table has a number for each case, and the place that goes with it;
 // 16 and 17 are document 02's.
 // And the answers of the calls: a length written, or a flag.
+#![tactic(auto)]
+
 ghost use Rattle.std.specs.Prelude.{◌≡◌};
 ghost use Rattle.error.specs.Refusal.{number_of, place_of};
 
-#[derive(Drop)]
+#[derive(Clone, Copy)]
 pub enum Refusal {
     // A schema record of unknown kind, or cut off: its first byte.
     BadRecord(usize),
@@ -35,14 +37,14 @@ pub enum Refusal {
 }
 
 // The answer of a call that writes to a lent output: the bytes of the result, or why there is none.
-#[derive(Drop)]
+#[derive(Clone, Copy)]
 pub enum Answer {
     Done(usize),
     Refused(Refusal),
 }
 
 // The answer of a call that asks whether something is so.
-#[derive(Drop)]
+#[derive(Clone, Copy)]
 pub enum Flag {
     Is(bool),
     Refused(Refusal),

@@ -1,4 +1,6 @@
 // Real and DoublePrecision compared by value, for "Same content", which 01 adds to the Rust.
+#![tactic(auto)]
+
 ghost use Rattle.std.specs.Prelude.{◌≡◌};
 ghost use Rattle.std.specs.Float.{binary32, binary64};
 ghost use Rattle.std.specs.Float.Ieee.{is_nan, of_bits};

@@ -1,1 +1,2 @@
 // The theorems about histories of edits; there is no code here.
+#![tactic(auto)]

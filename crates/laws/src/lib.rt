@@ -1,1 +1,2 @@
 // Definitions and laws on lists, bytes and bits that several crates cite. There is no code here.
+#![tactic(auto)]

@@ -1,4 +1,6 @@
 // null_bitmap.rs: a column's bit in lent bytes, low bit first, set for null. Where the Rust asserts, the answer is 9.
+#![tactic(auto)]
+
 ghost use Rattle.std.specs.Prelude.{◌≡◌, ◌+◌, ◌/◌, ◌<◌, eqb, length, drop};
 ghost use Rattle.laws.specs.Bits.{bit_value, put_bit, bit_at};
 ghost use Rattle.row_format.specs.Places.{bitmap_start};
@@ -8,7 +10,7 @@ ghost use Rattle.null_bitmap.specs.InnerBitmap.{flag_in, flag_put};
 use error::{Flag, Refusal};
 use row_layout::RowLayout;
 
-#[derive(Drop)]
+#[derive(Clone, Copy)]
 pub enum BitAnswer {
     Done,
     Refused(Refusal),

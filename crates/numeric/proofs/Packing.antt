@@ -88,7 +88,7 @@ two_of k x =
 
 pairs-odd : (k x : ℕ) (rest : List ℕ) → pairs (digits (suc (2 * k)) x ++ rest) ≡ hundreds k (x / 10) ++ pairs (x % 10 ∷ rest)
 unfolding digits hundreds
-pairs-odd zero x rest = let e : x / 10 ^ 0 % 10 ≡ x % 10 = omega arith in rw e
+pairs-odd zero x rest = let e : x / 10 ^ 0 % 10 ≡ x % 10 = omega arith in ap (λ (d : ℕ). pairs (d ∷ rest)) e
 pairs-odd (suc k) x rest = let e : 2 * suc k ≡ suc (suc (2 * k)) = omega arith in rw (e, two_of k x, pairs-odd k x rest)
 
 pub pairs-digits : (x : ℕ) → pairs (digits 39 x) ≡ hundreds 19 (x / 10) ++ (x % 10 * 16 ∷ [])

@@ -1,11 +1,13 @@
 // value.rs, NUMERIC: decimal digits, and their packed form.
+#![tactic(auto)]
+
 ghost use Rattle.std.specs.Prelude.{◌≡◌, ◌+◌, ◌*◌, ◌-◌, ◌^◌, ◌/◌, ◌%◌, ◌<◌, ◌≤◌, ltb, length, get_or, take, drop, replicate};
 ghost use Rattle.std.proofs.lemmas.List.Edits.{sets};
 ghost use Rattle.numeric.specs.Decimal.{halves, digits};
 ghost use Rattle.numeric.specs.Packed.{pairs, nibbles, sign_nibble, encode_bcd, magnitude_of, decode_bcd};
 ghost use Rattle.numeric.specs.InnerPacked.{two_digits, hundreds, Fresh};
 
-#[derive(Drop)]
+#[derive(Clone, Copy)]
 pub struct Divided {
     pub high: u64,
     pub low: u64,
@@ -240,13 +242,13 @@ pub fn encode_numeric_bcd(s: &mut [u8], at: usize, high: u64, low: u64, negative
 }
 
 // The number that digits denote, in two halves.
-#[derive(Drop)]
+#[derive(Clone, Copy)]
 pub enum Magnitude {
     Number(u64, u64),
     Broken,
 }
 
-#[derive(Drop)]
+#[derive(Clone, Copy)]
 pub enum Decoded {
     // Whether the number is negative, and its magnitude in two halves.
     Value(bool, u64, u64),
@@ -264,7 +266,7 @@ fn nibble_at(bytes: &[u8], k: usize) -> u8
     }
 }
 
-#[derive(Drop)]
+#[derive(Clone, Copy)]
 pub struct Halves {
     pub high: u64,
     pub low: u64,

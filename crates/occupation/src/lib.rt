@@ -1,6 +1,8 @@
 // One row of the printed list: what is read of it, whether it can be printed, its place in the order, and its line.
 // The columns are platform Varchar(16), unit Varchar(64), arrival Timestamp, departure Timestamp. A padded row has its
 // two slots where a packed one has them, at bytes 9 and 17 of a short row and at 13 and 21 of a long one.
+#![tactic(auto)]
+
 ghost use Rattle.std.specs.Prelude.{◌≡◌, true, ◌+◌, ◌-◌, ◌≤◌, ◌<◌, length};
 ghost use Rattle.std.proofs.lemmas.List.Edits.{sets};
 ghost use Rattle.calendar.specs.Moment.{moment_text};
@@ -20,7 +22,7 @@ use row_layout::{RowLayout, VarlenRange};
 
 // Where the texts of a row stand in it, from 0 up to 0 for a null; and its moments, in microseconds from the year 1 on
 // and one more, so that 0 is a null.
-#[derive(Drop)]
+#[derive(Clone, Copy)]
 pub struct Fields {
     pub platform_start: usize,
     pub platform_end: usize,
@@ -30,26 +32,26 @@ pub struct Fields {
     pub departure: u64,
 }
 
-#[derive(Drop)]
+#[derive(Clone, Copy)]
 pub enum FieldsRead {
     Good(Fields),
     Refused(Refusal),
 }
 
 // A text from `start` up to `end`, a null from 0 up to 0.
-#[derive(Drop)]
+#[derive(Clone, Copy)]
 struct Span {
     start: usize,
     end: usize,
 }
 
-#[derive(Drop)]
+#[derive(Clone, Copy)]
 enum TextRead {
     Good(Span),
     Refused(Refusal),
 }
 
-#[derive(Drop)]
+#[derive(Clone, Copy)]
 enum MomentRead {
     Good(u64),
     Refused(Refusal),
@@ -261,7 +263,7 @@ pub fn fields_of(row: &[u8]) -> Fields
     }
 }
 
-#[derive(Drop)]
+#[derive(Clone, Copy)]
 enum Comparison {
     Less,
     Equal,

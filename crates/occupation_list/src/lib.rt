@@ -1,5 +1,7 @@
 // The printed list of platform occupations: the rows of a list in their order, a line for each. The order is kept as
 // the places in the list where the rows' lengths stand, so that no row is copied.
+#![tactic(auto)]
+
 ghost use Rattle.std.specs.Prelude.{◌≡◌, ◌+◌, ◌-◌, ◌%◌, ◌≤◌, ◌<◌, length, take, drop, set};
 ghost use Rattle.std.proofs.lemmas.List.Edits.{sets};
 ghost use Rattle.error.specs.Answer.{placed};
@@ -16,14 +18,14 @@ use occupation::{Fields, FieldsRead};
 use row_list::ListCheck;
 
 // The rows in order: how many, and the bytes of all their lines.
-#[derive(Drop)]
+#[derive(Clone, Copy)]
 enum Arranged {
     Rows(usize, usize),
     Refused(Refusal),
 }
 
 // A row that was put in its place: the bytes of its line.
-#[derive(Drop)]
+#[derive(Clone, Copy)]
 enum Added {
     Line(usize),
     Refused(Refusal),

@@ -1,9 +1,14 @@
 // Prints a list of platform occupations: the rows from standard input, a line for each to standard output, or the line
 // of a refusal.
+#![tactic(auto)]
+
 ghost use Rattle.std.specs.Prelude.{◌≤◌, length};
 
 use error::Answer;
-use libc::{STDIN_FILENO, STDOUT_FILENO};
+
+// The descriptors of POSIX.
+const STDIN_FILENO: i32 = 0;
+const STDOUT_FILENO: i32 = 1;
 
 // One byte more than a list may have: it is enough to refuse a longer one.
 const INPUT_LIMIT: usize = 32769;

@@ -1,5 +1,7 @@
 // A value record as its column takes it: whether the column holds the value, and the stored form in the column's
 // slot, by kinds and bytes.
+#![tactic(auto)]
+
 ghost use Rattle.std.specs.Prelude.{◌≡◌, ◌+◌, ◌*◌, ◌%◌, ◌≤◌, ◌<◌, true, false, cond, eqb, length};
 ghost use Rattle.std.proofs.lemmas.List.Edits.{sets};
 ghost use Rattle.row_format.specs.Places.{offset_width};

@@ -1,10 +1,14 @@
 // Runs the library on recorded inputs and compares with what the Rust answered there.
 // oracle/differential/src/recorded.rs describes the records on standard input, and writes them.
-use libc::STDOUT_FILENO;
+#![tactic(auto)]
+
 use replay_parts::{field, field_length, kinds};
 
+// POSIX's descriptor of standard output.
+const STDOUT_FILENO: i32 = 1;
+
 // The answers to one call. Of the planted ones, which are wrong, `found` were told apart.
-#[derive(Drop)]
+#[derive(Clone, Copy)]
 struct Tally {
     same: u64,
     different: u64,
@@ -13,7 +17,7 @@ struct Tally {
 }
 
 // The tallies of the calls by their kind.
-#[derive(Drop)]
+#[derive(Clone, Copy)]
 struct Tallies {
     calls: [Tally; 11],
     unknown: u64,

@@ -1,5 +1,7 @@
 // The fields of recorded calls, and whether the library answers as recorded: texts, null flags, layouts, values, reads.
 // oracle/differential/src/recorded.rs describes the records.
+#![tactic(auto)]
+
 pub mod kinds;
 
 ghost use Rattle.std.specs.Prelude.{◌+◌, ◌≤◌, length};
@@ -8,7 +10,7 @@ use datatype::SchemaCheck;
 use error::{Answer, Flag};
 
 // What a call answered: 0 and the bytes that it handed back, or the refusal's number.
-#[derive(Drop)]
+#[derive(Clone, Copy)]
 pub struct Outcome {
     pub number: u32,
     pub length: usize,

@@ -1,4 +1,6 @@
 // Whether the library answers the recorded calls that write rows as recorded: builds, fresh rows, edits.
+#![tactic(auto)]
+
 use error::Answer;
 use replay_parts::{Outcome, after, answered, field, kinds, same_handed, variant};
 

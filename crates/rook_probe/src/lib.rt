@@ -1,4 +1,6 @@
 // Inner functions, exported for the comparison with the Rust alone. This is no part of the library that is delivered.
+#![tactic(auto)]
+
 ghost use Rattle.std.specs.Prelude.{◌≡◌, true, false, ◌≤◌, length};
 ghost use Rattle.datatype.specs.Types.{precision_of};
 ghost use Rattle.datatype.specs.Schema.{schema_of};
@@ -17,7 +19,7 @@ use value::DataValue;
 use value_list::{ListCheck, ValueRecord};
 
 #[repr(C)]
-#[derive(Drop)]
+#[derive(Clone, Copy)]
 pub struct LayoutProbe {
     pub number: u32,
     pub place: usize,
@@ -54,20 +56,20 @@ pub extern "C" fn rook_probe_layout(schema: &[u8]) -> LayoutProbe
 
 // The number of an answer, and how many bytes it put at the front of `out`.
 #[repr(C)]
-#[derive(Drop)]
+#[derive(Clone, Copy)]
 pub struct ValueProbe {
     pub number: u32,
     pub length: usize,
 }
 
-#[derive(Drop)]
+#[derive(Clone, Copy)]
 pub enum OneType {
     Only(DataType),
     // 1 or 2.
     Bad(u32),
 }
 
-#[derive(Drop)]
+#[derive(Clone, Copy)]
 pub enum OneValue {
     Only(DataValue),
     Bad,

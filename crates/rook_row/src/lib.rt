@@ -1,6 +1,8 @@
 // The exported calls: the C interface of the row codec. include/rook_row.h declares them.
 // An enum does not cross that border, so an answer is a struct of numbers: document 01's number and place, and what
 // the call hands out.
+#![tactic(auto)]
+
 ghost use Rattle.std.specs.Prelude.{◌≡◌};
 ghost use Rattle.null_bitmap.specs.Bitmap.{null_flag};
 ghost use Rattle.occupation_list.specs.Print.{print_call};
@@ -21,7 +23,7 @@ use row_text::ColumnText;
 use text::TextCheck;
 
 #[repr(C)]
-#[derive(Drop)]
+#[derive(Clone, Copy)]
 pub struct RowAnswer {
     pub number: u32,
     pub place: usize,
@@ -29,7 +31,7 @@ pub struct RowAnswer {
 }
 
 #[repr(C)]
-#[derive(Drop)]
+#[derive(Clone, Copy)]
 pub struct FlagAnswer {
     pub number: u32,
     pub place: usize,
@@ -37,7 +39,7 @@ pub struct FlagAnswer {
 }
 
 #[repr(C)]
-#[derive(Drop)]
+#[derive(Clone, Copy)]
 pub struct TextAnswer {
     pub number: u32,
     pub place: usize,
@@ -46,7 +48,7 @@ pub struct TextAnswer {
 }
 
 #[repr(C)]
-#[derive(Drop)]
+#[derive(Clone, Copy)]
 pub struct CheckAnswer {
     pub valid: u32,
     pub points: usize,
@@ -177,7 +179,7 @@ pub extern "C" fn rook_row_set_null(
 }
 
 // An answer, and the handle after the call.
-#[derive(Drop)]
+#[derive(Clone, Copy)]
 pub struct HandleAnswer {
     pub answer: RowAnswer,
     pub handle: RowHandle,

@@ -1,5 +1,7 @@
 // row.rs, `serialize_nullable_typed_row`, and `Row::new` then `serialize`: the row of a value list, and the row of
 // nulls, in the lent output.
+#![tactic(auto)]
+
 ghost use Rattle.std.specs.Prelude.{◌≡◌, ◌+◌, ◌/◌, ◌≤◌, ◌<◌, true, false, [], length};
 ghost use Rattle.std.proofs.Math.Option.{some};
 ghost use Rattle.std.proofs.lemmas.List.Edits.{sets};

@@ -1,4 +1,6 @@
 // row.rs, `decode_into`, for one column: the tests of a row's header, where a column stands, and what it reads as.
+#![tactic(auto)]
+
 ghost use Rattle.std.specs.Prelude.{◌≡◌, true, false, ◌+◌, ◌*◌, ◌-◌, ◌≤◌, ◌<◌, length};
 ghost use Rattle.error.specs.Result.{ok};
 ghost use Rattle.row_format.specs.Places.{offset_width};
@@ -18,7 +20,7 @@ use stored_form::SlotRead;
 use value::DataValue;
 
 // A row whose header suits the schema: whether it is packed.
-#[derive(Drop)]
+#[derive(Clone, Copy)]
 pub enum Frame {
     Good(bool),
     Refused(Refusal),
@@ -50,7 +52,7 @@ pub fn check_frame(layout: RowLayout, row: &[u8]) -> Frame
 }
 
 // A column of a schema: its type, and the layout of those before it.
-#[derive(Drop)]
+#[derive(Clone, Copy)]
 pub struct Column {
     pub before: RowLayout,
     pub ty: DataType,
@@ -90,7 +92,7 @@ pub fn column_at(schema: &[u8], column: usize) -> Column
 }
 
 // What a column reads as; null is a value here.
-#[derive(Drop)]
+#[derive(Clone, Copy)]
 pub enum ColumnRead {
     Value(DataValue),
     Refused(Refusal),

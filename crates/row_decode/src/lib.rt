@@ -1,6 +1,8 @@
 // row.rs, `RowDecoder::decode` after `only`: the values of the wanted columns of a row, as a value list in the lent
 // output, and the code points of their texts in a lent list. Both are written to local arrays first, so that a refusal
 // finds the lent ones as they were.
+#![tactic(auto)]
+
 ghost use Rattle.std.specs.Prelude.{◌≡◌, ◌≤◌, length, set};
 ghost use Rattle.std.proofs.lemmas.List.Edits.{sets};
 ghost use Rattle.row_layout.specs.InnerLayout.{no_columns};

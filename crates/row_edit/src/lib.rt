@@ -1,5 +1,7 @@
 // row.rs, `set_value` and `set_null`, on the row in the first bytes of a lent buffer. The row's own mark tells its
 // sort. All tests come before the first store.
+#![tactic(auto)]
+
 ghost use Rattle.std.specs.Prelude.{◌≡◌, true, false, ◌≤◌, ◌<◌, length};
 ghost use Rattle.std.proofs.Math.Option.{none, some};
 ghost use Rattle.row_layout.specs.InnerLayout.{Bounded};
@@ -28,7 +30,7 @@ use value::DataValue;
 use value_list::{ListCheck, ValueRecord};
 
 // The range of a Varchar. That of a null is empty and stands where its text would.
-#[derive(Drop)]
+#[derive(Clone, Copy)]
 struct Range {
     start: usize,
     end: usize,

@@ -1,6 +1,8 @@
 // row.rs, `&mut self` of `Row`: a handle of a row's length and layout. Here it goes in and comes back by value, with
 // all the branches; the two functions over a lent handle (rook_row) call these. The row is the buffer's first
 // `length` bytes, and its own mark tells its sort. The layout that comes in is never read.
+#![tactic(auto)]
+
 ghost use Rattle.std.specs.Prelude.{◌≡◌};
 ghost use Rattle.row_layout.specs.Layout.{size_in};
 ghost use Rattle.row_format.specs.Header.{is_packed};
@@ -14,7 +16,7 @@ use row_layout::RowLayout;
 // padded as the row's flag says, and both marks, 1 for packed and 0 for padded, 1 for long and 0 for short. Each is a
 // `usize`, since a lent struct has no padding: no contract would say what a call leaves there.
 #[repr(C)]
-#[derive(Drop)]
+#[derive(Clone, Copy)]
 pub struct HandleLayout {
     pub num_columns: usize,
     pub num_varlen_cols: usize,
@@ -24,14 +26,14 @@ pub struct HandleLayout {
 }
 
 #[repr(C)]
-#[derive(Drop)]
+#[derive(Clone, Copy)]
 pub struct RowHandle {
     pub length: usize,
     pub layout: HandleLayout,
 }
 
 // A call's answer and the handle after it.
-#[derive(Drop)]
+#[derive(Clone, Copy)]
 pub struct Edited {
     pub answer: Answer,
     pub handle: RowHandle,

@@ -1,4 +1,6 @@
 // row_layout.rs: where the parts of a row stand, the entries of its offset table, and the range of a Varchar.
+#![tactic(auto)]
+
 ghost use Rattle.std.specs.Prelude.{◌≡◌, ◌+◌, ◌*◌, ◌%◌, ◌^◌, ◌≤◌, ◌<◌, length};
 ghost use Rattle.std.proofs.lemmas.List.Edits.{sets};
 ghost use Rattle.row_format.specs.Places.{round_up, start_at, bitmap_start, table_start, fixed_start, offset_width, row_limit};
@@ -29,7 +31,7 @@ pub fn round_up(at: usize, a: usize) -> usize
 
 // The geometry of the rows of a schema: how many columns, how many Varchars, how many bytes the fixed columns take,
 // packed and padded, and the sort of the rows, which decides the width of an offset and the most bytes of a row.
-#[derive(Drop)]
+#[derive(Clone, Copy)]
 pub struct RowLayout {
     pub num_columns: usize,
     pub num_varlen_cols: usize,
@@ -241,7 +243,7 @@ pub fn range_end(row: &[u8], is_long: bool, table: usize, varlens: usize, rank: 
 
 // The range of a Varchar: none for offset 0, and no part of the row for one that starts behind its end or ends behind
 // the row's.
-#[derive(Drop)]
+#[derive(Clone, Copy)]
 pub enum VarlenRange {
     Null,
     Bytes(usize, usize),

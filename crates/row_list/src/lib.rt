@@ -1,4 +1,6 @@
 // A list of rows, each after its length in two bytes: whether it is whole, and its rows one after the other.
+#![tactic(auto)]
+
 ghost use Rattle.std.specs.Prelude.{◌≡◌, ◌+◌, ◌≤◌, length, drop};
 ghost use Rattle.row_list.specs.Rows.{first_size, first_row, rows_of};
 ghost use Rattle.row_list.specs.InnerRows.{list_checked};
@@ -6,7 +8,7 @@ ghost use Rattle.row_list.specs.InnerRows.{list_checked};
 use error::Refusal;
 
 // A list that is whole: how many rows it has.
-#[derive(Drop)]
+#[derive(Clone, Copy)]
 pub enum ListCheck {
     Rows(usize),
     Refused(Refusal),

@@ -1,4 +1,6 @@
 // Whether the columns of a row read, and the first refusal if not: by kinds, and without the values.
+#![tactic(auto)]
+
 ghost use Rattle.std.specs.Prelude.{◌≡◌, true, false, ◌+◌, ◌*◌, ◌≤◌, ◌<◌, length, get_or, drop};
 ghost use Rattle.row_format.specs.Places.{offset_width};
 ghost use Rattle.row_layout.specs.Range.{varlen_range};

@@ -2,6 +2,8 @@
 // before any of the second. Then both are compared column by column up to the first difference, and what is left of
 // the second row is checked. Columns that hold the same bytes have the same content, whatever their type; only others
 // are compared by their values. Each row has a layout of its own sort: `layout` is row a's, `other` row b's.
+#![tactic(auto)]
+
 ghost use Rattle.std.specs.Prelude.{◌≡◌, true, ◌<◌};
 ghost use Rattle.laws.specs.Bytes.{same_bytes};
 ghost use Rattle.row_layout.specs.Layout.{size_in};

@@ -1,5 +1,7 @@
 // Whether a row may be edited. The Rust has no such test: on other rows its edits may panic, or leave bytes that
 // belong to no column.
+#![tactic(auto)]
+
 ghost use Rattle.std.specs.Prelude.{◌≡◌, false, ◌+◌, ◌*◌, ◌≤◌, ◌<◌, length, get_or, take, drop};
 ghost use Rattle.std.specs.Int.{w64};
 ghost use Rattle.std.proofs.Common.{to_z};
@@ -28,7 +30,7 @@ use row_layout::{RowLayout, VarlenRange};
 use temporal::TimeOfDay;
 
 // A sound row is packed or padded.
-#[derive(Drop)]
+#[derive(Clone, Copy)]
 pub enum Soundness {
     Sound(bool),
     NotSound,

@@ -1,4 +1,6 @@
 // The text of one column, handed out as a part of the row, and the call that says why there is none.
+#![tactic(auto)]
+
 ghost use Rattle.std.specs.Prelude.{◌≡◌, ◌<◌, length};
 ghost use Rattle.datatype.specs.Check.{types_in};
 ghost use Rattle.datatype.specs.InnerCheck.{Accepted};
@@ -12,7 +14,7 @@ use row_column::{ColumnRead, Frame};
 use row_layout::RowLayout;
 use value::{TextRange, value_kinds};
 
-#[derive(Drop)]
+#[derive(Clone, Copy)]
 pub enum ColumnText {
     // Where the text stands in the row; for a null an empty range at 0.
     Part(TextRange),

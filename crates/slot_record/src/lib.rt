@@ -1,5 +1,7 @@
 // A column's bytes written as a value record, by kinds and without a value in between. `from_bytes` and then
 // `write_value_record` do the same, but pass the value through memory.
+#![tactic(auto)]
+
 ghost use Rattle.std.specs.Prelude.{◌≡◌, Bool, ℕ, ◌+◌, ◌-◌, ◌≤◌, length, take, drop};
 ghost use Rattle.row_format.specs.Places.{row_limit};
 ghost use Rattle.datatype.specs.declared.DataType.TheVariants.{Bool as BoolType, Date as DateType, Time as TimeType, Timestamp as TimestampType, Char as CharType, Varchar as VarcharType};
@@ -16,7 +18,7 @@ use text::TextCheck;
 use value::{TextRange, value_kinds};
 
 // The place after a record that was written, and the code points of its text; or the refusal.
-#[derive(Drop)]
+#[derive(Clone, Copy)]
 pub enum Recorded {
     Done(usize, u32),
     Refused(Refusal),

@@ -1,4 +1,6 @@
 // value.rs, DATE, TIME and TIMESTAMP: which counts are values.
+#![tactic(auto)]
+
 ghost use Rattle.std.specs.Prelude.{◌≡◌, ◌^◌};
 ghost use Rattle.temporal.specs.Ranges.{is_date, is_time, is_timestamp};
 ghost use Rattle.temporal.specs.Time.{mod_z, time_of};
@@ -34,7 +36,7 @@ pub fn is_timestamp(micros: i64) -> bool
 }
 
 // What a stored Time reads as.
-#[derive(Drop)]
+#[derive(Clone, Copy)]
 pub enum TimeOfDay {
     Micros(i64),
     OutOfRange,

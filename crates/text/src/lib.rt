@@ -3,6 +3,8 @@
 // The check goes through the forms of a character in the order of the RFC's grammar, UTF8-1 to UTF8-4, takes as many
 // characters of each as stand there, and begins anew. utf8_1 to utf8_4 are the lines of the grammar, past_ones to
 // past_fours take the characters. What is done for many bytes at once is all of UTF8-1, which is ASCII.
+#![tactic(auto)]
+
 ghost use Rattle.std.specs.Prelude.{◌≡◌, true, [], ◌∷◌, ◌↔◌, ◌+◌, ◌<◌, ◌≤◌, leb, length, get_or};
 ghost use Rattle.text.specs.Rfc3629.{◌to◌, within, utf8_tail, utf8_1, utf8_2, utf8_3, utf8_4, code_points, is_text};
 ghost use Rattle.text.specs.Characters.{is_of, is_one};
@@ -11,7 +13,7 @@ ghost use Rattle.text.specs.InnerEach.{Each};
 ghost use Rattle.text.specs.InnerRuns.{is_ascii, Ascii, AsciiUpTo, Run};
 ghost use Rattle.text.specs.InnerTails.{tails_of};
 
-#[derive(Drop)]
+#[derive(Clone, Copy)]
 pub enum TextCheck {
     // The text's number of code points.
     Valid(usize),

@@ -1,5 +1,7 @@
 // A text against the n that its column was declared with, which counts bytes or code points. No text has more code
 // points than bytes, so one of at most n bytes fits in either case.
+#![tactic(auto)]
+
 ghost use Rattle.std.specs.Prelude.{◌≡◌, true};
 ghost use Rattle.text_limit.specs.Limit.{fits_text};
 ghost use Rattle.text_limit.specs.InnerCheck.{check_within, limited};

@@ -1,4 +1,6 @@
 // value.rs: the values of columns. A text or a bit string is a range of bytes in an area that is lent beside the value.
+#![tactic(auto)]
+
 pub mod value_kinds;
 
 ghost use Rattle.std.specs.Prelude.{◌≡◌};
@@ -10,21 +12,21 @@ ghost use Rattle.value.specs.InnerKinds.{held_kind};
 use datatype::{DataType, schema_kinds};
 
 // An unscaled number of 128 bits in two halves, and its scale.
-#[derive(Drop)]
+#[derive(Clone, Copy)]
 pub struct NumericValue {
     pub high: i64,
     pub low: u64,
     pub scale: u8,
 }
 
-#[derive(Drop)]
+#[derive(Clone, Copy)]
 pub struct TextRange {
     pub start: usize,
     pub length: usize,
 }
 
 // Real and DoublePrecision are their bits: a NaN's pattern is no float.
-#[derive(Drop)]
+#[derive(Clone, Copy)]
 pub enum DataValue {
     Null,
     SmallInt(i16),

@@ -1,4 +1,6 @@
 // value.rs, `to_bytes_for_type`: whether a type holds a value, and the value's stored form at a place of a buffer.
+#![tactic(auto)]
+
 ghost use Rattle.std.specs.Prelude.{◌≡◌, true, [], ◌∷◌, ◌++◌, ◌+◌, ◌-◌, ◌^◌, ◌/◌, ◌<◌, ◌≤◌, leb, length, replicate};
 ghost use Rattle.std.proofs.lemmas.List.Edits.{sets};
 ghost use Rattle.bit_utils.specs.Bits.{bytes_for, pack_bits, unpack_bits};
@@ -13,7 +15,7 @@ ghost use Rattle.stored_form.specs.Write.{fits_digits, suits as suitsType, accep
 use datatype::DataType;
 use value::{DataValue, NumericValue};
 
-#[derive(Drop)]
+#[derive(Clone, Copy)]
 pub struct Halves {
     pub high: u64,
     pub low: u64,

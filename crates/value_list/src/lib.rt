@@ -1,4 +1,6 @@
 // The bytes of value lists: a record read, and the check of a whole list. record_encode writes them.
+#![tactic(auto)]
+
 ghost use Rattle.std.specs.Prelude.{◌≡◌, ◌+◌, ◌*◌, ◌<◌, ◌≤◌, length};
 ghost use Rattle.row_format.specs.Places.{offset_width};
 ghost use Rattle.value_list.specs.Records.{body_length, numeric_at, range_at, value_at, record_at, NarrowRange};
@@ -10,14 +12,14 @@ use error::Refusal;
 use value::{DataValue, NumericValue, TextRange, value_kinds};
 
 // What stands at a place of a value list.
-#[derive(Drop)]
+#[derive(Clone, Copy)]
 pub enum ValueRecord {
     // A value, and the place after its record.
     Value(DataValue, usize),
     Refused(Refusal),
 }
 
-#[derive(Drop)]
+#[derive(Clone, Copy)]
 pub enum ListCheck {
     Good,
     Refused(Refusal),

@@ -1,4 +1,6 @@
 // "Same content", which 01 adds to the Rust: whether two values of one type are the same.
+#![tactic(auto)]
+
 ghost use Rattle.std.specs.Prelude.{◌≡◌, true, length};
 ghost use Rattle.bit_utils.specs.Bits.{bytes_for};
 ghost use Rattle.datatype.specs.Types.{length_of};
@@ -11,7 +13,7 @@ use datatype::DataType;
 use value::{DataValue, value_kinds};
 
 // A value's number by its bits, a Numeric's in two halves.
-#[derive(Drop)]
+#[derive(Clone, Copy)]
 pub struct Content {
     pub word: u64,
     pub upper: u64,

@@ -1,0 +1,13 @@
+use native.Mathlib.Omega.{arith}
+use mathlib.Core.Path.{sym, ◌∙◌}
+use Prim.Native.Nat.{◌-◌}
+use Rattle.datatype.proofs.Walk.{Walking, walk_start, walk_end, walk_over, walk_bad, walk_more}
+use Rattle.datatype.proofs.Plain.{plain_record, plain_added}
+use borrow.Author.Rules.{rules}
+use Rattle.datatype.proofs.check_schema.Given as goal
+
+abbrev pub invariant-loop-at : goal.invariant-loop-at
+invariant-loop-at l = Walking l.is_long l.schema l.layout l.at
+
+abbrev pub decreases-loop-at : goal.decreases-loop-at
+decreases-loop-at l = 256 - l.layout.num_columns

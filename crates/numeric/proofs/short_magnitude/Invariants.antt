@@ -1,0 +1,12 @@
+use Prim.Native.Nat.{◌-◌}
+use lib.ListN.{take, drop}
+use borrow.Author.Rules.{rules}
+use Rattle.numeric.specs.Packed.{nibbles}
+use Rattle.numeric.proofs.Reading.{Reading, reading_start, window_more, window_bad, window_short, short-fits}
+use Rattle.numeric.proofs.short_magnitude.Given as goal
+
+abbrev pub invariant-loop-k : goal.invariant-loop-k
+invariant-loop-k l = Reading (take l.p (drop l.front (nibbles l.bytes))) l.n l.k
+
+abbrev pub decreases-loop-k : goal.decreases-loop-k
+decreases-loop-k l = l.p - l.k

@@ -1,0 +1,57 @@
+-- `check_from` meets its contract. The first i bytes are count characters.
+use Prim.Native.Nat.{◌-◌}
+use mathlib.Core.Logic.{⊎_elim}
+use mathlib.Core.Path.{sym, ◌∙◌}
+use native.Mathlib.Omega.{arith}
+use lib.ListN.{length}
+use Rattle.text.proofs.Runs.{Reached, reached_lead, two_reached, two_less, stuck_low, four_reached, four_less, stuck, valid}
+use borrow.Author.Rules.{rules}
+use Rattle.text.proofs.check_from.Goals as goal
+use Rattle.text.proofs.check_from.Goals.{then-is_high, else-is_high}
+
+pub loop-i-init : goal.loop-i-init
+loop-i-init c = reached_lead c.requires
+
+pub overflow_add-count-then-is_high-2 : goal.overflow_add-count-then-is_high-2
+overflow_add-count-then-is_high-2 c =
+    let l = c.loop-i in
+    let one = c.past_ones-one.ensures in
+    let two = c.past_twos-two.ensures in
+    let k = four_reached l.invariant one two c.past_threes-three.ensures c.past_fours-end.ensures in
+    search rules
+
+pub returns-then-end-i : goal.returns-then-end-i
+returns-then-end-i c =
+    let l = c.loop-i in
+    let one = c.past_ones-one.ensures in
+    let two = c.past_twos-two.ensures in
+    elim c.if-is_high.branch [
+      then-is_high w ↦ stuck l.invariant one two w.past_threes-three.ensures w.past_fours-end.ensures
+      (sym w.end-is ∙ c.if-end-i.true) (omega arith)
+    | else-is_high w ↦ stuck_low l.invariant one two (sym c.is_high.ensures ∙ w.if-is_high.false)
+      (sym w.end-is ∙ c.if-end-i.true) (omega arith)
+    ]
+
+pub loop-i-smaller : goal.loop-i-smaller
+loop-i-smaller c =
+    let l = c.loop-i in
+    let one = c.past_ones-one.ensures in
+    let two = c.past_twos-two.ensures in
+    elim c.if-is_high.branch [
+      then-is_high w ↦ rw w.end-is (four_less l.invariant one two w.past_threes-three.ensures w.past_fours-end.ensures
+      (λ e. c.if-end-i.false (w.end-is ∙ e)))
+    | else-is_high w ↦ rw w.end-is (two_less l.invariant one two (λ e. c.if-end-i.false (w.end-is ∙ e)))
+    ]
+
+pub loop-i-preserved : goal.loop-i-preserved
+loop-i-preserved c =
+    let l = c.loop-i in
+    let one = c.past_ones-one.ensures in
+    let two = c.past_twos-two.ensures in
+    elim c.if-is_high.branch [
+      then-is_high w ↦ rw (w.count-is, w.end-is) (four_reached l.invariant one two w.past_threes-three.ensures w.past_fours-end.ensures)
+    | else-is_high w ↦ rw (w.count-is, w.end-is) (two_reached l.invariant one two)
+    ]
+
+pub returns : goal.returns
+returns c = valid c.loop-i.invariant (omega arith)

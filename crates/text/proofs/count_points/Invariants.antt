@@ -1,0 +1,14 @@
+use Prim.Native.Nat.{◌≤◌, ◌+◌, ◌-◌}
+use mathlib.Core.Path.{◌≡◌, sym}
+use lib.ListN.{length}
+use Rattle.text.specs.InnerTails.{tails_of}
+use Rattle.text.proofs.Counts.{tails_none, tails_le, tails_join, tails_all, tails_fit}
+use Rattle.text.proofs.Points.{points-counted}
+use borrow.Author.Rules.{rules}
+use Rattle.text.proofs.count_points.Given as goal
+
+abbrev pub invariant-loop-i : goal.invariant-loop-i
+invariant-loop-i l = (l.i ≤ length l.s) × (l.count ≡ tails_of l.s 0 l.i)
+
+abbrev pub decreases-loop-i : goal.decreases-loop-i
+decreases-loop-i l = length l.s - l.i

@@ -1,0 +1,25 @@
+-- `past_twos` meets its contract. The bytes from first to i are characters UTF8-2.
+use Prim.Native.Nat.{◌-◌}
+use native.Mathlib.Omega.{arith}
+use lib.ListN.{length}
+use borrow.Author.Tests.{not-true, not-false}
+use Rattle.text.specs.InnerRuns.{Going}
+use Rattle.text.proofs.Runs.{start, run_more, run-over, run_short, bytes_2}
+use Rattle.text.proofs.past_twos.Goals as goal
+
+pub loop-i-init : goal.loop-i-init
+loop-i-init c = start c.requires
+
+pub returns-then-not-utf8_2 : goal.returns-then-not-utf8_2
+returns-then-not-utf8_2 c =
+    let l = c.loop-i in
+    run-over l.invariant (bytes_2 _ l.i (omega arith)) c.utf8_2.ensures (c.if-not-utf8_2.true)
+
+pub loop-i-preserved : goal.loop-i-preserved
+loop-i-preserved c =
+    let l = c.loop-i in
+    run_more l.invariant (bytes_2 _ l.i (omega arith)) c.utf8_2.ensures (c.if-not-utf8_2.false)
+    (omega arith)
+
+pub returns : goal.returns
+returns c = run_short c.loop-i.invariant (omega arith)

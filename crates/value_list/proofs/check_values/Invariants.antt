@@ -1,0 +1,15 @@
+use lib.ListN.{length}
+use Rattle.value_list.proofs.Checking.{Checking, check_start, check_end, check_bad, check_more}
+use Rattle.value_list.proofs.Sizes.{size-some}
+use Rattle.laws.proofs.Tests.{by_tests}
+use mathlib.Core.Path.{sym, ◌∙◌}
+use borrow.Author.Rules.{rules}
+use native.Mathlib.Omega.{arith}
+use Prim.Native.Nat.{◌-◌}
+use Rattle.value_list.proofs.check_values.Given as goal
+
+abbrev pub invariant-loop-at : goal.invariant-loop-at
+invariant-loop-at l = Checking l.is_long l.list l.columns l.area l.at l.count
+
+abbrev pub decreases-loop-at : goal.decreases-loop-at
+decreases-loop-at l = length l.list - l.at
