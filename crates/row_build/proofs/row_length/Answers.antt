@@ -1,0 +1,43 @@
+use Prim.Native.Nat.{◌-◌}
+use borrow.Author.Rules.{rules}
+use native.Mathlib.Omega.{arith}
+use Rattle.row_format.proofs.Sorts.{limit_le}
+use Rattle.row_build.proofs.Measuring.{Walking, walk_start, walk_none, walk_readable, walk_bad, walk_room, walk_more, walk_left, walk_end, no-length-told, bad-told}
+use Rattle.row_build.proofs.row_length.Goals as goal
+
+pub returns-then-row_limit-text : goal.returns-then-row_limit-text
+returns-then-row_limit-text c = no-length-told c.requires (λ b. omega (arith, c.if-row_limit-text.true, b.short, c.row_limit.ensures.0))
+
+pub loop-column-init : goal.loop-column-init
+loop-column-init c = rw c.min_row_size-size.ensures (walk_start c.requires (rw c.row_limit.ensures.0 at c.if-row_limit-text.false))
+
+pub returns-then-length-eq0 : goal.returns-then-length-eq0
+returns-then-length-eq0 c =
+    no-length-told c.requires (walk_none c.requires c.loop-column.invariant c.loop-column-test.true c.record_length-length.ensures c.if-length-eq0.true)
+
+pub payload_at-requires : goal.payload_at-requires
+payload_at-requires c =
+    (walk_readable c.requires c.loop-column.invariant c.loop-column-test.true c.record_length-length.ensures c.if-length-eq0.false, omega (arith, c.loop-column.invariant.short, limit_le c.args.layout.is_long))
+
+pub returns-in-Refused : goal.returns-in-Refused
+returns-in-Refused c =
+    bad-told c.requires (walk_bad c.requires c.loop-column.invariant c.loop-column-test.true c.record_length-length.ensures c.if-length-eq0.false c.payload_at.result c.payload_at.ensures.0 c.in-Refused.is)
+
+pub overflow_add-size : goal.overflow_add-size
+overflow_add-size c = let q = walk_room c.requires c.loop-column.invariant c.loop-column-test.true c.record_length-length.ensures c.if-length-eq0.false c.payload_at.result c.payload_at.ensures.0 c.in-Done.is c.payload_at.ensures.1 in search rules
+
+pub after_column-at-requires : goal.after_column-at-requires
+after_column-at-requires c = (walk_readable c.requires c.loop-column.invariant c.loop-column-test.true c.record_length-length.ensures c.if-length-eq0.false).column
+
+pub overflow_add-from : goal.overflow_add-from
+overflow_add-from c = let q = (walk_more c.requires c.loop-column.invariant c.loop-column-test.true c.record_length-length.ensures c.if-length-eq0.false c.payload_at.result c.payload_at.ensures.0 c.in-Done.is c.payload_at.ensures.1).prefix.inside in search rules
+
+pub loop-column-preserved : goal.loop-column-preserved
+loop-column-preserved c = rw c.after_column-at.ensures (walk_more c.requires c.loop-column.invariant c.loop-column-test.true c.record_length-length.ensures c.if-length-eq0.false c.payload_at.result c.payload_at.ensures.0 c.in-Done.is c.payload_at.ensures.1)
+
+pub returns-then-from-values : goal.returns-then-from-values
+returns-then-from-values c =
+    no-length-told c.requires (walk_left c.requires c.loop-column.invariant c.loop-column-test.false c.if-from-values.true)
+
+pub returns : goal.returns
+returns c = walk_end c.requires c.loop-column.invariant c.loop-column-test.false c.if-from-values.false

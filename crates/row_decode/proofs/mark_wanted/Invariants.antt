@@ -1,0 +1,14 @@
+use native.Mathlib.Omega.{arith}
+use Rattle.row_decode.proofs.Marking.{marked_more, marked_all}
+use Rattle.row_decode.specs.InnerMarks.{marked}
+use lib.ListN.{length, drop, length-set, get_or}
+use mathlib.Core.Path.{◌≡◌, refl, ◌∙◌}
+use Prim.Native.Nat.{◌-◌, ◌≤◌}
+use borrow.Author.Rules.{rules}
+use Rattle.row_decode.proofs.mark_wanted.Given as goal
+
+abbrev pub invariant-loop-k : goal.invariant-loop-k
+invariant-loop-k l = (length l.marks ≡ length l.initial.marks) × ((l.k ≤ length l.wanted) × (marked l.marks (drop l.k l.wanted) ≡ marked l.initial.marks l.wanted))
+
+abbrev pub decreases-loop-k : goal.decreases-loop-k
+decreases-loop-k l = length l.wanted - l.k

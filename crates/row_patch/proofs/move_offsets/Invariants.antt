@@ -1,0 +1,11 @@
+use Rattle.row_format.specs.Places.{offset_width}
+use Prim.Native.Nat.{◌-◌}
+use borrow.Author.Rules.{rules}
+use Rattle.row_patch.proofs.Offsets.{Moving, moving_start, moving_inside, moving_may, moving_more, moving_end}
+use Rattle.row_patch.proofs.move_offsets.Given as goal
+
+abbrev pub invariant-loop-k : goal.invariant-loop-k
+invariant-loop-k l = Moving (offset_width l.is_long) l.table l.varlens l.rank l.end l.new_end l.initial.row l.row l.k
+
+abbrev pub decreases-loop-k : goal.decreases-loop-k
+decreases-loop-k l = l.varlens - l.k
