@@ -1,0 +1,34 @@
+use native.Mathlib.Omega.{arith}
+use Prim.Native.Nat.{◌-◌, ◌≤◌}
+use Rattle.datatype.proofs.Again.{Ahead, ahead-start, ahead-few, ahead_passable, ahead_there, ahead_step, step_column}
+use Rattle.row_column.proofs.Reach.{found}
+use Rattle.row_column.proofs.column_at.Goals as goal
+
+pub loop-before-init : goal.loop-before-init
+loop-before-init c = rw c.new-before.ensures (ahead-start c.requires.0, omega arith)
+
+pub next_column-step-requires : goal.next_column-step-requires
+next_column-step-requires c =
+    let w = c.loop-before.invariant.0 in
+    let h = ahead_there w (omega (arith, c.loop-before-test.true, c.requires.1)) in
+    (ahead_passable w h, (ahead-few w h, w.bounded))
+
+pub loop-before-smaller : goal.loop-before-smaller
+loop-before-smaller c =
+    let w = c.loop-before.invariant.0 in
+    let h = ahead_there w (omega (arith, c.loop-before-test.true, c.requires.1)) in
+    omega (arith, step_column w h c.next_column-step.ensures.0, c.loop-before-test.true)
+
+pub loop-before-preserved : goal.loop-before-preserved
+loop-before-preserved c =
+    let w = c.loop-before.invariant.0 in
+    let h = ahead_there w (omega (arith, c.loop-before-test.true, c.requires.1)) in
+    (ahead_step w h c.next_column-step.ensures.0 c.next_column-step.ensures.1, omega (arith, step_column w h c.next_column-step.ensures.0, c.loop-before-test.true))
+
+pub column_here-requires : goal.column_here-requires
+column_here-requires c = ahead_there c.loop-before.invariant.0 (omega (arith, c.loop-before.invariant.1, c.requires.1))
+
+pub returns : goal.returns
+returns c =
+    let w = c.loop-before.invariant.0 in
+    found w (ahead_there w (omega (arith, c.loop-before.invariant.1, c.requires.1))) (omega (arith, c.loop-before.invariant.1, c.loop-before-test.false)) c.column_here.ensures.0 c.column_here.ensures.1

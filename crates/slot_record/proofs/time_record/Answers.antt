@@ -1,0 +1,21 @@
+use borrow.Author.Rules.{rules}
+use mathlib.Core.Path.{sym, ap, ◌∙◌}
+use mir.Syntax.{w64}
+use mir.Val.{to_z, of_z}
+use Rattle.signed.proofs.Casts.{passed, handed}
+use Rattle.temporal.specs.Time.{time_of}
+use Rattle.slot_record.proofs.Numbers.{slot-taken}
+use Rattle.slot_record.proofs.time_record.Goals as goal
+
+pub returns-in-Micros : goal.returns-in-Micros
+returns-in-Micros c = λ k.
+    let bs = c.args.bytes.now in
+    let read = ap time_of (sym (passed w64 (search rules) (c.read_i64.ensures ∙ ap (to_z w64) (slot-taken 8 bs c.requires.0)))) ∙ sym c.time_of.ensures ∙ c.in-Micros.is in
+    let bits = handed w64 (of_z w64) c.in-Micros.micros (search rules) c.cast_unsigned_64.ensures in
+    rw (read, c.write_64.ensures.0, c.write_64.ensures.1, bits)
+
+pub returns-in-OutOfRange : goal.returns-in-OutOfRange
+returns-in-OutOfRange c = λ k.
+    let bs = c.args.bytes.now in
+    let read = ap time_of (sym (passed w64 (search rules) (c.read_i64.ensures ∙ ap (to_z w64) (slot-taken 8 bs c.requires.0)))) ∙ sym c.time_of.ensures ∙ c.in-OutOfRange.is in
+    rw read
