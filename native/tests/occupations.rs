@@ -1,4 +1,4 @@
-//! The program `occupations` as `rt` leaves it: what it writes for an input is what the model says, its status is 0.
+//! The program `occupations` as `tools/archive` leaves it: what it writes for an input is what the model says, its status is 0.
 //! OCCUPATIONS names another binary.
 use std::io::Write;
 use std::path::PathBuf;
@@ -14,7 +14,7 @@ fn program() -> PathBuf {
     let path = env::var_os("OCCUPATIONS").map_or(built, PathBuf::from);
     assert!(
         path.is_file(),
-        "there is no {}: `rt check occupations` makes it",
+        "there is no {}: `tools/archive occupations` makes it",
         path.display()
     );
     path

@@ -1,4 +1,4 @@
-//! Links librook_probe.a, which `rt staticlib rook_probe` writes.
+//! Links librook_probe.a, which `tools/archive rook_probe` writes.
 use std::path::PathBuf;
 
 fn main() {

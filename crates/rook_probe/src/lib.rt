@@ -1,4 +1,5 @@
-// Inner functions, exported for the comparison with the Rust alone. This is no part of the library that is delivered.
+// Inner functions, as the comparison with the Rust calls them: rook_probe_c exports them. This is no part of the library
+// that is delivered.
 #![tactic(auto)]
 
 ghost use Rattle.std.specs.Prelude.{◌≡◌, true, false, ◌≤◌, length};
@@ -30,8 +31,7 @@ pub struct LayoutProbe {
 }
 
 // The layout of a schema's short rows: the fixed columns' bytes, packed and padded.
-#[unsafe(no_mangle)]
-pub extern "C" fn rook_probe_layout(schema: &[u8]) -> LayoutProbe
+pub fn rook_probe_layout(schema: &[u8]) -> LayoutProbe
     ensures { result ≡ layout_probe (checked_schema false (schema_of false schema.now)) }
 {
     match datatype::check_schema(schema, false) {
@@ -160,13 +160,7 @@ fn store_list(ty: DataType, list: &[u8], area: &[u8], out: &mut [u8]) -> ValuePr
 }
 
 // The stored form of a list's one value under a schema's one type.
-#[unsafe(no_mangle)]
-pub extern "C" fn rook_probe_store(
-    schema: &[u8],
-    list: &[u8],
-    area: &[u8],
-    out: &mut [u8],
-) -> ValueProbe
+pub fn rook_probe_store(schema: &[u8], list: &[u8], area: &[u8], out: &mut [u8]) -> ValueProbe
     ensures { (result, out.new)
         ≡ stored_as (only_type schema.now) list.now area.now out.old }
 {
@@ -224,13 +218,7 @@ fn read_value(ty: DataType, bytes: &[u8], start: usize, out: &mut [u8]) -> Value
 
 // What bytes that stand at `start` of a row read as under a schema's one type: a value record, whose text area is the
 // row.
-#[unsafe(no_mangle)]
-pub extern "C" fn rook_probe_slot(
-    schema: &[u8],
-    bytes: &[u8],
-    start: usize,
-    out: &mut [u8],
-) -> ValueProbe
+pub fn rook_probe_slot(schema: &[u8], bytes: &[u8], start: usize, out: &mut [u8]) -> ValueProbe
     ensures { (result, out.new)
         ≡ read_as (only_type schema.now) bytes.now start out.old }
 {

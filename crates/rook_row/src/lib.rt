@@ -1,4 +1,4 @@
-// The exported calls: the C interface of the row codec. include/rook_row.h declares them.
+// The calls of the C interface of the row codec. rook_row_c exports them, and include/rook_row.h declares them.
 // An enum does not cross that border, so an answer is a struct of numbers: document 01's number and place, and what
 // the call hands out.
 #![tactic(auto)]
@@ -90,8 +90,7 @@ fn flag_answer(answer: Flag) -> FlagAnswer
 }
 
 // A row of nulls at the front of `out`, long or short as the caller chooses; `length` is its length.
-#[unsafe(no_mangle)]
-pub extern "C" fn rook_row_fresh(schema: &[u8], is_long: bool, out: &mut [u8]) -> RowAnswer
+pub fn rook_row_fresh(schema: &[u8], is_long: bool, out: &mut [u8]) -> RowAnswer
     ensures { (result, out.new)
         ≡ row_outcome 0 (fresh_call is_long schema.now out.old) }
 {
@@ -100,8 +99,7 @@ pub extern "C" fn rook_row_fresh(schema: &[u8], is_long: bool, out: &mut [u8]) -
 
 // The row of a value list at the front of `out`, long or short as the caller chooses; `length` is its length. The
 // list's ranges lie in `text`. The code points of each column's text, as stored, go to `counts`.
-#[unsafe(no_mangle)]
-pub extern "C" fn rook_row_build(
+pub fn rook_row_build(
     schema: &[u8],
     is_long: bool,
     values: &[u8],
@@ -122,8 +120,7 @@ pub extern "C" fn rook_row_build(
 
 // The wanted columns of a row as a value list at the front of `out`; `length` is its length. The list's text area is
 // the row. The code points of each wanted column's text go to `counts`.
-#[unsafe(no_mangle)]
-pub extern "C" fn rook_row_read(
+pub fn rook_row_read(
     schema: &[u8],
     row: &[u8],
     wanted: &[u16],
@@ -140,8 +137,7 @@ pub extern "C" fn rook_row_read(
 
 // Column `column` of the row in the first `row_length` bytes of `buf` set to the one value of the list; `length` is
 // the row's length afterwards.
-#[unsafe(no_mangle)]
-pub extern "C" fn rook_row_set(
+pub fn rook_row_set(
     schema: &[u8],
     buf: &mut [u8],
     row_length: usize,
@@ -161,8 +157,7 @@ pub extern "C" fn rook_row_set(
 }
 
 // The column set to null.
-#[unsafe(no_mangle)]
-pub extern "C" fn rook_row_set_null(
+pub fn rook_row_set_null(
     schema: &[u8],
     buf: &mut [u8],
     row_length: usize,
@@ -223,8 +218,7 @@ fn handle_null(schema: &[u8], buf: &mut [u8], handle: RowHandle, column: usize) 
 
 // As `rook_row_set`, on the row of a handle: its length is the handle's, which an accepted call changes, with the
 // layout.
-#[unsafe(no_mangle)]
-pub extern "C" fn rook_row_handle_set(
+pub fn rook_row_handle_set(
     handle: &mut RowHandle,
     schema: &[u8],
     buf: &mut [u8],
@@ -244,8 +238,7 @@ pub extern "C" fn rook_row_handle_set(
 }
 
 // As `rook_row_set_null`, on the row of a handle.
-#[unsafe(no_mangle)]
-pub extern "C" fn rook_row_handle_set_null(
+pub fn rook_row_handle_set_null(
     handle: &mut RowHandle,
     schema: &[u8],
     buf: &mut [u8],
@@ -263,8 +256,7 @@ pub extern "C" fn rook_row_handle_set_null(
 }
 
 // The text of a column: where it stands in the row. A null has number 0 and an empty range at 0.
-#[unsafe(no_mangle)]
-pub extern "C" fn rook_row_text(schema: &[u8], row: &[u8], column: usize) -> TextAnswer
+pub fn rook_row_text(schema: &[u8], row: &[u8], column: usize) -> TextAnswer
     ensures { result ≡ text_answer (text_call schema.now row.now column) }
 {
     match row_text::column_text(schema, row, column) {
@@ -284,8 +276,7 @@ pub extern "C" fn rook_row_text(schema: &[u8], row: &[u8], column: usize) -> Tex
 }
 
 // Whether two rows of one schema have the same content: 1 or 0 in `flag`.
-#[unsafe(no_mangle)]
-pub extern "C" fn rook_row_same_content(schema: &[u8], a: &[u8], b: &[u8]) -> FlagAnswer
+pub fn rook_row_same_content(schema: &[u8], a: &[u8], b: &[u8]) -> FlagAnswer
     ensures { result
         ≡ flag_answer (same_call schema.now a.now b.now) }
 {
@@ -293,16 +284,14 @@ pub extern "C" fn rook_row_same_content(schema: &[u8], a: &[u8], b: &[u8]) -> Fl
 }
 
 // Whether a column of a row is null: 1 or 0 in `flag`.
-#[unsafe(no_mangle)]
-pub extern "C" fn rook_row_is_null(row: &[u8], column: usize) -> FlagAnswer
+pub fn rook_row_is_null(row: &[u8], column: usize) -> FlagAnswer
     ensures { result ≡ flag_answer (null_flag row.now column) }
 {
     flag_answer(null_bitmap::is_column_null_in_row(row, column))
 }
 
 // Whether bytes are text, 1 or 0, and how many code points it has.
-#[unsafe(no_mangle)]
-pub extern "C" fn rook_text_check(s: &[u8]) -> CheckAnswer
+pub fn rook_text_check(s: &[u8]) -> CheckAnswer
     ensures { result ≡ check_answer (check_of (code_points s.now)) }
 {
     match text::check(s) {
@@ -315,24 +304,21 @@ pub extern "C" fn rook_text_check(s: &[u8]) -> CheckAnswer
 }
 
 // The lines of a list of platform occupations at the front of `out`; `length` is their length.
-#[unsafe(no_mangle)]
-pub extern "C" fn rook_occupations_print(list: &[u8], out: &mut [u8]) -> RowAnswer
+pub fn rook_occupations_print(list: &[u8], out: &mut [u8]) -> RowAnswer
     ensures { (result, out.new) ≡ row_outcome 0 (print_call list.now out.old) }
 {
     row_answer(occupation_list::print(list, out), 0)
 }
 
 // The version of this interface, 0.4.0, with a byte for each of its numbers.
-#[unsafe(no_mangle)]
-pub extern "C" fn rook_row_version() -> u32
+pub fn rook_row_version() -> u32
     ensures { result ≡ version }
 {
     0x000400
 }
 
 // The same, by a name that says the series: what is made for another one does not link.
-#[unsafe(no_mangle)]
-pub extern "C" fn rook_row_0_4() -> u32
+pub fn rook_row_0_4() -> u32
     ensures { result ≡ version }
 {
     rook_row_version()
