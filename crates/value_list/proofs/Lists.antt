@@ -23,9 +23,9 @@ use Rattle.value_list.specs.InnerLists.{AllSized, AllNarrow}
 
 -- ---- written, then read
 
-list_of-least : (k : Bool) (vs : List DataValue) → length vs ≤ length (list_of k vs)
-list_of-least k [] = omega arith
-list_of-least k (v ∷ vs) = let ih = list_of-least k vs in rw (length-append (record_of k v) (list_of k vs)) (omega (arith, record_least k v))
+list_of_least : (k : Bool) (vs : List DataValue) → length vs ≤ length (list_of k vs)
+list_of_least k [] = omega arith
+list_of_least k (v ∷ vs) = let ih = list_of_least k vs in rw (length-append (record_of k v) (list_of k vs)) (omega (arith, record_least k v))
 
 records-read : (k : Bool) (vs : List DataValue) → AllSized vs → AllNarrow k vs → (n : ℕ) → length vs ≤ n → (us : List ℕ) (at : ℕ) → length us ≡ at → records n (us ++ list_of k vs) at ≡ ok vs
 records-read k [] f g zero h us at e = refl
@@ -42,7 +42,7 @@ records-read k (v ∷ vs) f g (suc n) h us at e =
 
 pub values-read : (k : Bool) (vs : List DataValue) → AllSized vs → AllNarrow k vs → values_of (list_of k vs) ≡ ok vs
 unfolding values_of
-values-read k vs f g = records-read k vs f g (length (list_of k vs)) (list_of-least k vs) [] 0 refl
+values-read k vs f g = records-read k vs f g (length (list_of k vs)) (list_of_least k vs) [] 0 refl
 
 -- so a list of n values, written for rows of one sort or the other, is taken beside any text area that is not too long
 pub list-checked : (k t : Bool) (n area : ℕ) (vs : List DataValue) → AllSized vs → AllNarrow t vs → length vs ≡ n → area ≤ row_limit k → checked k n area (list_of t vs) ≡ ok vs
@@ -63,8 +63,8 @@ pub record First (n : ℕ) (s : List ℕ) (at : ℕ) (v : DataValue) (vs : List 
   pub first : record_at s at ≡ Value v next
   pub rest : records n s next ≡ ok vs
 
-pub records-first : (n : ℕ) (s : List ℕ) (at : ℕ) {v : DataValue} {vs : List DataValue} → records (suc n) s at ≡ ok (v ∷ vs) → First n s at v vs
-records-first n s at {v} {vs} e =
+pub records_first : (n : ℕ) (s : List ℕ) (at : ℕ) {v : DataValue} {vs : List DataValue} → records (suc n) s at ≡ ok (v ∷ vs) → First n s at v vs
+records_first n s at {v} {vs} e =
     cases at (length s) (λ h. of_record (record_at s at) refl h (rw (lt-ltb at (length s) h) at e))
     (λ h. absurd (empty-none (rw (le-ltb at (length s) h) at e)))
   where
@@ -82,7 +82,7 @@ records-first n s at {v} {vs} e =
 records-sized : (n : ℕ) (s : List ℕ) (at : ℕ) (vs : List DataValue) → AllBytes s → records n s at ≡ ok vs → AllSized vs
 records-sized n s at [] a e = tt
 records-sized zero s at (v ∷ vs) a e = absurd (empty-none e)
-records-sized (suc n) s at (v ∷ vs) a e = let f = records-first n s at e in (value-sized s at a f.first, records-sized n s f.next vs a f.rest)
+records-sized (suc n) s at (v ∷ vs) a e = let f = records_first n s at e in (value-sized s at a f.first, records-sized n s f.next vs a f.rest)
 
 pub values-sized : (s : List ℕ) {vs : List DataValue} → AllBytes s → values_of s ≡ ok vs → AllSized vs
 unfolding values_of
