@@ -18,11 +18,11 @@ use Rattle.bit_utils.specs.Bits.{bytes_for, low_bits, byte_bits, all_bits, pack_
 use Rattle.bit_utils.proofs.Packing.{high-packed, byte_packed, length-all, take-cons}
 
 -- the first k of k + m bits are the bits of the quotient
-first-low : (k m b : ℕ) → take k (low_bits (k + m) b) ≡ low_bits k (b / 2 ^ m)
-first-low zero m b = refl
-first-low (suc k) m b =
+first_low : (k m b : ℕ) → take k (low_bits (k + m) b) ≡ low_bits k (b / 2 ^ m)
+first_low zero m b = refl
+first_low (suc k) m b =
     let e : b / 2 ^ (k + m) ≡ b / 2 ^ m / 2 ^ k = rw (add_comm k m, pow-add 2 m k) (sym (div-div-eq-div-mul b (2 ^ m) (2 ^ k))) in
-    rw (suc-add k m, e, first-low k m b)
+    rw (suc-add k m, e, first_low k m b)
 
 -- equal lists of bits, told by the bytes that they make
 by_bytes : (p q : List ℕ) (x y : ℕ) → (p ≡ q → x ≡ y) → (x ≡ y → p ≡ q) → same_bytes p q ≡ eqb x y
@@ -36,7 +36,7 @@ same-high : (r x y : ℕ) → r ≤ 8 → x < 256 → y < 256
 same-high r x y h l k =
     let m : ℕ = 8 - r in
     let e : r + (8 - r) ≡ 8 = omega arith in
-    let first : (b : ℕ) → take r (byte_bits b) ≡ low_bits r (b / 2 ^ (8 - r)) = λ b. rw e at (first-low r (8 - r) b) in
+    let first : (b : ℕ) → take r (byte_bits b) ≡ low_bits r (b / 2 ^ (8 - r)) = λ b. rw e at (first_low r (8 - r) b) in
     let back : (b : ℕ) → b < 256 → pack_byte 8 (take r (byte_bits b)) / 2 ^ (8 - r) ≡ b / 2 ^ (8 - r)
     = λ b i. rw (← high-packed b r i h) (mul-div_cancel (b / 2 ^ (8 - r)) (pow_pos (8 - r))) in
     by_bytes (take r (byte_bits x)) (take r (byte_bits y)) _ _ (λ p. ap (pack_byte 8) p)

@@ -18,23 +18,23 @@ pack_nil zero = refl
 pack_nil (suc w) = refl
 
 -- the first k of k + m bits
-pub first-packed : (k m b : ℕ) → pack_byte (k + m) (take k (low_bits (k + m) b)) ≡ b % 2 ^ (k + m) / 2 ^ m * 2 ^ m
-first-packed zero m b =
+pub first_packed : (k m b : ℕ) → pack_byte (k + m) (take k (low_bits (k + m) b)) ≡ b % 2 ^ (k + m) / 2 ^ m * 2 ^ m
+first_packed zero m b =
     let z : b % 2 ^ m / 2 ^ m ≡ 0 = div-eq_of_lt (mod-lt b (pow_pos m)) in
     rw (zero-add, pack_nil, z, zero-mul)
-first-packed (suc k) m b =
+first_packed (suc k) m b =
     let x : ℕ = bit_of (k + m) b in
     let y : ℕ = b % 2 ^ (k + m) in
     let e : b % 2 ^ suc (k + m) ≡ y + x * 2 ^ k * 2 ^ m
     = rw (← one-add (k + m), mod-pow-add b 1 (k + m), pow-add 2 k m, mul_assoc) (omega arith) in
-    rw (suc-add k m, first-packed k m b, e, add-mul-div_right y (x * 2 ^ k) (pow_pos m), pow-add 2 k m) (omega arith)
+    rw (suc-add k m, first_packed k m b, e, add-mul-div_right y (x * 2 ^ k) (pow_pos m), pow-add 2 k m) (omega arith)
 
 -- a byte, and its first k bits
 pub high-packed : (b k : ℕ) → b < 256 → k ≤ 8 → b / 2 ^ (8 - k) * 2 ^ (8 - k) ≡ pack_byte 8 (take k (byte_bits b))
 high-packed b k h l =
     let e : k + (8 - k) ≡ 8 = omega arith in
     let m : b % 256 ≡ b = omega arith in
-    sym (rw (e, m) at (first-packed k (8 - k) b))
+    sym (rw (e, m) at (first_packed k (8 - k) b))
 
 pub byte_packed : (b : ℕ) → b < 256 → pack_byte 8 (byte_bits b) ≡ b
 byte_packed b h = sym (high-packed b 8 h (omega arith)) ∙ omega arith

@@ -42,10 +42,10 @@ abbrev Long : List ℕ → Type 0
 Long [] = Unit {0}
 Long (d ∷ ds) = (1 ≤ d) × Long ds
 
-long-at : (ds : List ℕ) (k : ℕ) → k < length ds → Long ds → 1 ≤ get_or ds k 0
-long-at [] k l a = absurd (omega arith)
-long-at (d ∷ ds) zero l a = a.0
-long-at (d ∷ ds) (suc k) l a = long-at ds k (omega arith) a.1
+long_at : (ds : List ℕ) (k : ℕ) → k < length ds → Long ds → 1 ≤ get_or ds k 0
+long_at [] k l a = absurd (omega arith)
+long_at (d ∷ ds) zero l a = a.0
+long_at (d ∷ ds) (suc k) l a = long_at ds k (omega arith) a.1
 
 months_long : (leap : Bool) → Long (month_days leap)
 unfolding month_days
@@ -87,7 +87,7 @@ module _ (n z r : ℕ) (p : ℕ × ℕ) (e : days_to z + r ≡ n) (i : InMonth (
       let s = sum-next months k i.inside in
       let t = sum-next months (suc k) f in
       let w = sum-within months (suc (suc k)) in
-      let o = long-at months (suc k) f (months_long (is_leap (suc z))) in
+      let o = long_at months (suc k) f (months_long (is_leap (suc z))) in
       let l : suc r < year_days (suc z) = omega (arith, i.sums, i.short, whole) in
       let m : 1 + suc k ≡ suc p.0 = omega (arith, i.month) in
       sym
@@ -103,7 +103,7 @@ module _ (n z r : ℕ) (p : ℕ × ℕ) (e : days_to z + r ≡ n) (i : InMonth (
       let o : 0 < length later = rw (twelve (is_leap (suc (suc z)))) (omega arith) in
       sym
       (parts (suc n) (suc (suc z)) 0 1 0 (year_at (suc z) 0 (suc n) (omega (arith, i.sums, i.short, whole)) (omega (arith, year_least (suc (suc z)))))
-      (month_at later 1 0 0 0 o (long-at later 0 o (months_long (is_leap (suc (suc z))))) refl))
+      (month_at later 1 0 0 0 o (long_at later 0 o (months_long (is_leap (suc (suc z))))) refl))
 
   place_is : p.0 - 1 ≡ k
   place_is = omega (arith, i.month)
@@ -119,6 +119,6 @@ module _ (n z r : ℕ) (p : ℕ × ℕ) (e : days_to z + r ≡ n) (i : InMonth (
 pub next_day : NextDay
 next_day n = rw (date_of_lem n) (chosen n (years n) (day n) (month_of n) (days_before n) (found n) _ _ refl refl)
 
-pub date-first : date_of 0 ≡ record { year = 1; month = 1; day = 1 }
+pub date_first : date_of 0 ≡ record { year = 1; month = 1; day = 1 }
 unfolding date_of is_leap month_days
-date-first = refl
+date_first = refl

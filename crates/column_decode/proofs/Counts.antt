@@ -21,7 +21,6 @@ use Rattle.row_layout.specs.Range.{varlen_range}
 use Rattle.datatype.specs.declared.DataType.{DataType}
 use Rattle.datatype.specs.declared.DataType.TheVariants as T
 use Rattle.datatype.specs.declared.Record.{Record}
-use Rattle.datatype.specs.declared.Record.TheVariants as Record
 use Rattle.datatype.specs.Types.{is_varlen, size_of}
 use Rattle.datatype.specs.Schema.{Kind, unknown, plain, sized, digits, column_kind, good_digits, column_record_of, column_record_at}
 use Rattle.datatype.specs.InnerSteps.{plain_size, plain_type, type_in}
@@ -85,8 +84,8 @@ module _ (k : ℕ) where
   plain_in (word-kind e) h = absurd (h refl)
   plain_in (text-kind e) h = absurd (h refl)
 
-  plain-no-text : (plain_size (column_kind k) ≡ 0 → ⊥) → holds_text (plain_type (column_kind k)) ≡ false
-  plain-no-text h = plain_in counted h
+  plain_no_text : (plain_size (column_kind k) ≡ 0 → ⊥) → holds_text (plain_type (column_kind k)) ≡ false
+  plain_no_text h = plain_in counted h
 
 -- a record of a column that holds no text
 data NoTextRecord : Record → Type 0 where
@@ -117,9 +116,9 @@ good_record : {x : Record} → NoTextRecord x → ((e : Refusal) → x ≡ Recor
 good_record (column h) good = h
 good_record (bad {e}) good = absurd (good e refl)
 
-pub other_no-text : (s : List ℕ) (at : ℕ) → Other (get_or s at 0) → ((e : Refusal) → column_record_at s at ≡ Record.Refused e → ⊥)
+pub other_no_text : (s : List ℕ) (at : ℕ) → Other (get_or s at 0) → ((e : Refusal) → column_record_at s at ≡ Record.Refused e → ⊥)
     → holds_text (type_in (column_record_at s at)) ≡ false
-other_no-text s at o good =
+other_no_text s at o good =
     good_record (record_in s at (get_or s at 0) (counted (get_or s at 0)) o) good
 
 -- ---- columns that hold no text
@@ -137,19 +136,19 @@ slot-none i (Slot.Value v) h = value h
 slot-none i Slot.NoValue h = refused
 
 module _ (t : DataType) (h : holds_text t ≡ false) where
-  slot-no-text : (start : ℕ) (bs : List ℕ) → Texts false (read_slot t start bs)
-  slot-no-text start bs = subst (λ (b : Bool). Texts b (read_slot t start bs)) h (slot-texts t start bs)
+  slot_no_text : (start : ℕ) (bs : List ℕ) → Texts false (read_slot t start bs)
+  slot_no_text start bs = subst (λ (b : Bool). Texts b (read_slot t start bs)) h (slot-texts t start bs)
 
   range_none : (i : ℕ) (r : List ℕ) (q : VarlenRange) → NoText (varlen_value t i r q)
   range_none i r Range.Null = value refl
-  range_none i r (Range.Bytes a e) = let bs = take (e - a) (drop a r) in slot-none i (read_slot t a bs) (slot-no-text a bs)
+  range_none i r (Range.Bytes a e) = let bs = take (e - a) (drop a r) in slot-none i (read_slot t a bs) (slot_no_text a bs)
   range_none i r Range.Outside = refused
 
   column-none : (i : ℕ) (r : List ℕ) (q : VarlenRange) (at : ℕ) → NoText (column_with t i r q at)
   column-none i r q at =
       let bs = take (at + size_of t - at) (drop at r) in
       none_if (eqb (bit_at i (drop bitmap_start r)) 1) _ _ (value {v = Null} refl)
-      (none_if (is_varlen t) _ _ (range_none i r q) (slot-none i (read_slot t at bs) (slot-no-text at bs)))
+      (none_if (is_varlen t) _ _ (range_none i r q) (slot-none i (read_slot t at bs) (slot_no_text at bs)))
 
 uncounted : (k : Bool) (buf : List ℕ) (end : ℕ) (r : List ℕ) {c : ColumnRead} → NoText c
     → stepped k buf end no_points c ≡ stepped k buf end (points_in r) c
@@ -171,7 +170,7 @@ count_none r Slot.NoValue h = tt
 pub count-plain : (r : List ℕ) (k start : ℕ) (bs : List ℕ) → (plain_size (column_kind k) ≡ 0 → ⊥)
     → CountOf (points_in r) 0 (read_slot (plain_type (column_kind k)) start bs)
 count-plain r k start bs h =
-    count_none r (read_slot (plain_type (column_kind k)) start bs) (slot-no-text (plain_type (column_kind k)) (plain-no-text k h) start bs)
+    count_none r (read_slot (plain_type (column_kind k)) start bs) (slot_no_text (plain_type (column_kind k)) (plain_no_text k h) start bs)
 
 count_if : (f : DataValue → ℕ) (n : ℕ) (t : Bool) (v : DataValue) → n ≡ f v → CountOf f n (value_if t v)
 count_if f n true v e = e

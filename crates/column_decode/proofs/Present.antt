@@ -13,7 +13,6 @@ use Rattle.row_layout.specs.Layout.{size_in}
 use Rattle.datatype.specs.declared.DataType.{DataType}
 use Rattle.datatype.specs.declared.DataType.TheVariants.{Char, Character}
 use Rattle.datatype.specs.declared.Record.{Record}
-use Rattle.datatype.specs.declared.Record.TheVariants as Record
 use Rattle.datatype.specs.Schema.{column_kind, column_record_at}
 use Rattle.datatype.specs.InnerSteps.{plain_size, plain_type, type_in}
 use Rattle.datatype.proofs.Plain.{Plain, plain_facts, plain_record}

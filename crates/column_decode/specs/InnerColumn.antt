@@ -11,7 +11,6 @@ use Rattle.datatype.specs.InnerSteps.{type_in}
 use Rattle.value.specs.declared.DataValue.{DataValue}
 use Rattle.value_list.specs.Records.{record_of}
 use Rattle.slot_record.specs.declared.Recorded.{Recorded}
-use Rattle.slot_record.specs.declared.Recorded.TheVariants as Recorded
 use Rattle.row_column.specs.declared.ColumnRead.{ColumnRead}
 use Rattle.row_column.specs.declared.ColumnRead.TheVariants.{Value, Refused}
 use Rattle.row_column.specs.InnerWalk.{Reachable}

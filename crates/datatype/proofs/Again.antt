@@ -30,7 +30,7 @@ use Rattle.datatype.specs.Types.{shape_of}
 use Rattle.datatype.specs.Schema.{column_records, column_record_at}
 use Rattle.datatype.specs.Check.{type_at, layout_for, types_in}
 use Rattle.datatype.specs.InnerSteps.{Passable, passed, type_in}
-use Rattle.datatype.proofs.Walk.{First, none_left, some_left, not_refused, first-left}
+use Rattle.datatype.proofs.Walk.{First, none_left, some_left, not_refused, first_left}
 use Rattle.datatype.specs.InnerCheck.{Accepted, layout_before}
 
 -- ---- the layout of all columns, and of the columns before one
@@ -120,7 +120,7 @@ module _ {s : List ℕ} {b : RowLayout} {at : ℕ} (w : Ahead s b at) where
 
     module _ {t : DataType} {next : ℕ} (e : column_record_at s at ≡ Column t next) where
       first : First (256 - (b.num_columns + 1)) s next t (drop b.num_columns (types_in s))
-      first = first-left s at (256 - b.num_columns) w.ahead h (256 - (b.num_columns + 1)) (omega (arith, ahead-few)) e
+      first = first_left s at (256 - b.num_columns) w.ahead h (256 - (b.num_columns + 1)) (omega (arith, ahead-few)) e
 
       pub ahead-inside : b.num_columns < length (types_in s)
       ahead-inside =

@@ -138,5 +138,5 @@ module _ (k : ℕ) where
       of false true f g h = rw (eqb-true k 16 g)
       of false false f g h = absurd (false≢true h)
 
-  pub no-varchar : is_varchar_kind k ≡ false → (k ≡ 11 → ⊥) × (k ≡ 16 → ⊥)
-  no-varchar e = let n = or_none (eqb k 11) (eqb k 16) e in (eqb-false k 11 n.0, eqb-false k 16 n.1)
+  pub no_varchar : is_varchar_kind k ≡ false → (k ≡ 11 → ⊥) × (k ≡ 16 → ⊥)
+  no_varchar e = let n = or_none (eqb k 11) (eqb k 16) e in (eqb-false k 11 n.0, eqb-false k 16 n.1)

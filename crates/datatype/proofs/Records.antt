@@ -61,17 +61,17 @@ module _ (P : DataType → Type 0) where
 abbrev FewDigits : DataType → Type 0
 FewDigits t = precision_of t ≤ 38
 
-no-digits : 0 ≤ 38
-no-digits = omega arith
+no_digits : 0 ≤ 38
+no_digits = omega arith
 
-no-digits_of : (n : ℕ) → 0 ≤ 38
-no-digits_of n = omega arith
+no_digits_of : (n : ℕ) → 0 ≤ 38
+no_digits_of n = omega arith
 
 few_of : (p s : ℕ) → good_digits p s ≡ true → p ≤ 38
 few_of p s g = leb-true p 38 (and_right (leb 1 p) (leb p 38) (and_left (leb 1 p && leb p 38) (leb s p) g))
 
 digits_of : (k : ℕ) → Says FewDigits (column_kind k)
-digits_of k = search (chosen, none, plainly, sizedly, given, no-digits, no-digits_of, few_of) depth 19
+digits_of k = search (chosen, none, plainly, sizedly, given, no_digits, no_digits_of, few_of) depth 19
 
 pub few-digits : (s : List ℕ) (at : ℕ) {t : DataType} {next : ℕ} → column_record_at s at ≡ Column t next → precision_of t ≤ 38
 few-digits s at e = rw e at (said FewDigits (digits_of (get_or s at 0)) s at)
@@ -80,14 +80,14 @@ few-digits s at e = rw e at (said FewDigits (digits_of (get_or s at 0)) s at)
 abbrev Counts : Bool → DataType → Type 0
 Counts b t = b ≡ counts_points t
 
-no-points_of : (n : ℕ) → ◌≡◌ {A = Bool} false false
-no-points_of n = refl
+no_points_of : (n : ℕ) → ◌≡◌ {A = Bool} false false
+no_points_of n = refl
 
-no-points_in : (p s : ℕ) → good_digits p s ≡ true → ◌≡◌ {A = Bool} false false
-no-points_in p s g = refl
+no_points_in : (p s : ℕ) → good_digits p s ≡ true → ◌≡◌ {A = Bool} false false
+no_points_in p s g = refl
 
 counts-bytes : (k : ℕ) → eqb k 16 ≡ false → Says (Counts false) (column_kind k)
-counts-bytes k e = rw e (search (chosen, none, plainly, sizedly, given, no-points_of, no-points_in) depth 19)
+counts-bytes k e = rw e (search (chosen, none, plainly, sizedly, given, no_points_of, no_points_in) depth 19)
 
 counts_of : (k : ℕ) → Says (Counts (eqb k 16)) (column_kind k)
 counts_of k = by_kind (eqb k 16) refl

@@ -143,5 +143,5 @@ module _ (s : List ℕ) (at n : ℕ) {ts : List DataType} (e : column_records n 
         by_fuel zero g = no_types (rw (lt-ltb at (length s) h) at g)
         by_fuel (suc k) g = no_types (rw (lt-ltb at (length s) h, f) at g)
 
-    pub first-left : {t : DataType} {next : ℕ} (k : ℕ) → n ≡ suc k → column_record_at s at ≡ Column t next → First k s next t ts
-    first-left {t} {next} k f g = first_of k s next t (column_records k s next) refl (sym (rw (f, lt-ltb at (length s) h, g)) ∙ e)
+    pub first_left : {t : DataType} {next : ℕ} (k : ℕ) → n ≡ suc k → column_record_at s at ≡ Column t next → First k s next t ts
+    first_left {t} {next} k f g = first_of k s next t (column_records k s next) refl (sym (rw (f, lt-ltb at (length s) h, g)) ∙ e)

@@ -62,15 +62,15 @@ signs true false z h f g = g h
 signs false true z h f g = g h
 signs false false z h f g = f refl
 
-eq-alike : (f : Format) (x y : Float) → eq x y ≡ true → Alike f (to_bits f x) (to_bits f y)
+eq_alike : (f : Format) (x y : Float) → eq x y ≡ true → Alike f (to_bits f x) (to_bits f y)
 unfolding eq
-eq-alike f nan y h = absurd (false≢true h)
-eq-alike f (inf s) nan h = absurd (false≢true h)
-eq-alike f (inf s) (inf t) h = signs s t false (rw or-false h) (λ e. equal (rw e)) (λ e. absurd (false≢true e))
-eq-alike f (inf s) (fin t n d) h = absurd (false≢true h)
-eq-alike f (fin s m e) nan h = absurd (false≢true h)
-eq-alike f (fin s m e) (inf t) h = absurd (false≢true h)
-eq-alike f (fin s m e) (fin t n d) h =
+eq_alike f nan y h = absurd (false≢true h)
+eq_alike f (inf s) nan h = absurd (false≢true h)
+eq_alike f (inf s) (inf t) h = signs s t false (rw or-false h) (λ e. equal (rw e)) (λ e. absurd (false≢true e))
+eq_alike f (inf s) (fin t n d) h = absurd (false≢true h)
+eq_alike f (fin s m e) nan h = absurd (false≢true h)
+eq_alike f (fin s m e) (inf t) h = absurd (false≢true h)
+eq_alike f (fin s m e) (fin t n d) h =
     let a = m * up e * down d in
     let b = n * up d * down e in
     let same_number_lem : a ≡ b = eqb-true a b (and_left (eqb a b) (beq s t || eqb a 0) h) in
@@ -105,13 +105,13 @@ same-zero s t = simp or-true
 -- ---- the law
 
 module _ (f : Format) (a b : ℕ) where
-  pub alike-value : Alike f a b → same_value f a b ≡ true
-  alike-value (nans p q) = rw (← nan_pattern_lem f a, ← nan_pattern_lem f b, p, q)
-  alike-value (zeros p q) = rw (zero_float f a p, zero_float f b q) (same-zero (leb (top f) a) (leb (top f) b))
-  alike-value (equal e) = rw e (same_float_lem (of_bits f b))
+  pub alike_value : Alike f a b → same_value f a b ≡ true
+  alike_value (nans p q) = rw (← nan_pattern_lem f a, ← nan_pattern_lem f b, p, q)
+  alike_value (zeros p q) = rw (zero_float f a p, zero_float f b q) (same-zero (leb (top f) a) (leb (top f) b))
+  alike_value (equal e) = rw e (same_float_lem (of_bits f b))
 
-  pub value-alike : a < 2 * top f → b < 2 * top f → same_value f a b ≡ true → Alike f a b
-  value-alike ha hb h = go (nan_pattern f a) (nan_pattern f b) refl refl (rw (← nan_pattern_lem f a, ← nan_pattern_lem f b) at h)
+  pub value_alike : a < 2 * top f → b < 2 * top f → same_value f a b ≡ true → Alike f a b
+  value_alike ha hb h = go (nan_pattern f a) (nan_pattern f b) refl refl (rw (← nan_pattern_lem f a, ← nan_pattern_lem f b) at h)
     where
       go : (p q : Bool) → nan_pattern f a ≡ p → nan_pattern f b ≡ q → cond p q (cond q false (eq (of_bits f a) (of_bits f b))) ≡ true → Alike f a b
       go true true p q k = nans p q
@@ -120,7 +120,7 @@ module _ (f : Format) (a b : ℕ) where
       go false false p q k =
           let x : to_bits f (of_bits f a) ≡ a = to_bits-of_bits f a ha (rw (← nan_pattern_lem f a, p) tt) in
           let y : to_bits f (of_bits f b) ≡ b = to_bits-of_bits f b hb (rw (← nan_pattern_lem f b, q) tt) in
-          rw (x, y) at (eq-alike f (of_bits f a) (of_bits f b) k)
+          rw (x, y) at (eq_alike f (of_bits f a) (of_bits f b) k)
 
   pub by_bits : a < 2 * top f → b < 2 * top f → same_value f a b ≡ same_bits f a b
-  by_bits ha hb = same (λ h. alike_bits f a b (value-alike ha hb h)) (λ h. alike-value (bits_alike f a b h))
+  by_bits ha hb = same (λ h. alike_bits f a b (value_alike ha hb h)) (λ h. alike_value (bits_alike f a b h))

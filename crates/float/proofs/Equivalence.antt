@@ -6,10 +6,10 @@ use lib.Ieee.{Format, binary32, binary64, top}
 use Rattle.laws.proofs.Truths.{same}
 use Rattle.float.specs.Same.{same_value}
 use Rattle.float.specs.Patterns.{without_sign, nan_pattern, Alike, nans, zeros, equal}
-use Rattle.float.proofs.ByBits.{alike-value, value-alike}
+use Rattle.float.proofs.ByBits.{alike_value, value_alike}
 
 pub same_self : (f : Format) (a : ℕ) → same_value f a a ≡ true
-same_self f a = alike-value f a a (equal refl)
+same_self f a = alike_value f a a (equal refl)
 
 alike_sym : {f : Format} {a b : ℕ} → Alike f a b → Alike f b a
 alike_sym (nans p q) = nans q p
@@ -31,7 +31,7 @@ alike_trans (equal e) k = rw e k
 
 module _ (f : Format) (a b : ℕ) (ha : a < 2 * top f) (hb : b < 2 * top f) where
   pub same_sym : same_value f a b ≡ same_value f b a
-  same_sym = same (λ h. alike-value f b a (alike_sym (value-alike f a b ha hb h))) (λ h. alike-value f a b (alike_sym (value-alike f b a hb ha h)))
+  same_sym = same (λ h. alike_value f b a (alike_sym (value_alike f a b ha hb h))) (λ h. alike_value f a b (alike_sym (value_alike f b a hb ha h)))
 
   pub same_trans : (c : ℕ) → c < 2 * top f → same_value f a b ≡ true → same_value f b c ≡ true → same_value f a c ≡ true
-  same_trans c hc h k = alike-value f a c (alike_trans (value-alike f a b ha hb h) (value-alike f b c hb hc k))
+  same_trans c hc h k = alike_value f a c (alike_trans (value_alike f a b ha hb h) (value_alike f b c hb hc k))

@@ -25,4 +25,4 @@ module _ {sort : Bool} {schema : List ℕ} {ts : List DataType} (h : History sor
   marked = kept-sort sort schema ts h.columns (kept h)
 
   pub accepts : Accepts h
-  accepts = record { sound = kept-sound sort schema ts h.columns (kept h); set = λ i list area b l e. rw marked (opens i _ l ∙ rw e); bad-value = λ i list area l e. rw marked (opens i _ l ∙ rw e); no-column = λ i list area l. rw marked (shut i _ l); no-null = λ i l. rw marked (shut i _ l); set-null = λ i l. rw marked (opens i _ l) }
+  accepts = record { sound = kept-sound sort schema ts h.columns (kept h); set = λ i list area b l e. rw marked (opens i _ l ∙ rw e); bad_value = λ i list area l e. rw marked (opens i _ l ∙ rw e); no_column = λ i list area l. rw marked (shut i _ l); no_null = λ i l. rw marked (shut i _ l); set-null = λ i l. rw marked (opens i _ l) }

@@ -77,9 +77,9 @@ stored_chosen i t v area b e = of_tests (matches t v) (accepted t v area) refl r
     of_tests true false m a q = absurd (subst IsGood (sym q) tt)
     of_tests false y m a q = absurd (subst IsGood (sym q) tt)
 
-first-sized : (vs : List DataValue) → AllSized vs → Sized (get_or vs 0 Null)
-first-sized [] f = tt
-first-sized (v ∷ vs) f = f.0
+first_sized : (vs : List DataValue) → AllSized vs → Sized (get_or vs 0 Null)
+first_sized [] f = tt
+first_sized (v ∷ vs) f = f.0
 
 -- the one value of a set
 pub record Taken (t : DataType) (list area b : List ℕ) : Type 0 where
@@ -96,5 +96,5 @@ given-taken sort t i list area b a e = of_values (checked sort 1 (length area) l
         let one : get_or vs 0 Null ≡ one_value (values_of list) = sym (ap one_value all) in
         record {
           chosen = subst (λ v. Chosen t v area b) one (stored_chosen i t (get_or vs 0 Null) area b q);
-          sized = subst Sized one (first-sized vs (values-sized list a all));
+          sized = subst Sized one (first_sized vs (values-sized list a all));
         }

@@ -234,13 +234,13 @@ shape_fits : (t : DataType) (q : Bool) (z : ℕ) (b : List ℕ) → (q ≡ false
 shape_fits t true z b h = tt
 shape_fits t false z b h = h refl
 
-pub entry-fits : (t : DataType) (e : Entry) → SuitsEntry t e → FitsCell (shape_of t) (entry_cell t e)
-entry-fits t none q = null-fits (shape_of t)
-entry-fits t (some (v, x)) q = shape_fits t (is_varlen t) (size_of t) (stored_form t v x) (λ f. length-stored t v x q.match (suit_of q) ∙ rw f)
+pub entry_fits : (t : DataType) (e : Entry) → SuitsEntry t e → FitsCell (shape_of t) (entry_cell t e)
+entry_fits t none q = null-fits (shape_of t)
+entry_fits t (some (v, x)) q = shape_fits t (is_varlen t) (size_of t) (stored_form t v x) (λ f. length-stored t v x q.match (suit_of q) ∙ rw f)
 
 pub cells_suit : {ts : List DataType} {es : List Entry} → Forall₂ SuitsEntry ts es → Forall₂ FitsCell (map shape_of ts) (sheet_cells ts es)
 cells_suit nil = nil
-cells_suit (cons {a = t} {b = e} q f) = cons (entry-fits t e q) (cells_suit f)
+cells_suit (cons {a = t} {b = e} q f) = cons (entry_fits t e q) (cells_suit f)
 
 entry_writes : (t : DataType) (e : Entry) → SuitsEntry t e → Writes t (entry_cell t e)
 entry_writes t none q = null
@@ -268,7 +268,7 @@ pub texts-le : {ts : List DataType} {es : List Entry} → Forall₂ SuitsEntry t
 texts-le nil = omega arith
 texts-le (cons {a = t} {b = e} {xs = ts} {ys = es} q f) =
     rw (texts-cons e es, length-append (text_in e) (texts es), packed-cons (shape_of t) (map shape_of ts))
-    (omega (arith, texts-le f, text_in-le t e q, cell_counted (shape_of t) (entry_cell t e) (map shape_of ts) (sheet_cells ts es) (entry-fits t e q)))
+    (omega (arith, texts-le f, text_in-le t e q, cell_counted (shape_of t) (entry_cell t e) (map shape_of ts) (sheet_cells ts es) (entry_fits t e q)))
 
 -- ---- the last accepted values fit records, and there is one for each column
 

@@ -55,7 +55,7 @@ use Rattle.row_edit.specs.Edit as Edit
 use Rattle.history.specs.History.{Call, set_value, set_null, State, called, handed_back, next, run, answers}
 use Rattle.history.specs.History.{Entry, one_value, noted, sheet_by, texts, last_values, entry_cell, sheet_cells}
 use Rattle.history.specs.Demand.{OfBytes, AllOfBytes}
-use Rattle.history.proofs.Entries.{SuitsEntry, blank_suits, set-suits, blank_cells, set-cells, entry-fits, cells_suit, cells-written, texts-le, length-values, values-sized, values_narrow, cells-read}
+use Rattle.history.proofs.Entries.{SuitsEntry, blank_suits, set-suits, blank_cells, set-cells, entry_fits, cells_suit, cells-written, texts-le, length-values, values-sized, values_narrow, cells-read}
 use Rattle.history.proofs.Calls.{Ends, refusal, written, column_ends, tested_ends, placed_ends, given-taken}
 
 module _ (sort : Bool) (ts : List DataType) where
@@ -103,7 +103,7 @@ module _ (sort : Bool) (ts : List DataType) where
       cell = entry_cell (type_at ts i) e
 
       cell_fits : FitsCell (get_or ss i Varlen) cell
-      cell_fits = rw (at_map shape_of i ts (T.Varchar false 0)) (entry-fits (type_at ts i) e q)
+      cell_fits = rw (at_map shape_of i ts (T.Varchar false 0)) (entry_fits (type_at ts i) e q)
 
       set_laid : edited_row (offset_width sort) true ss i cell (take n buf) ≡ laid (set es i e) (slots_kept ss i cell k.slots)
       set_laid =

@@ -25,7 +25,7 @@ use Rattle.row_column.specs.Column.{column_value}
 use Rattle.row_decode.specs.Read.{is_wanted, wanted_value, on_column, read_from, hand_out, read_row}
 use Rattle.row_sound.specs.Sound.{reads, sound_column, SoundRow}
 use Rattle.row_sound.specs.Reread.{content, column_content, null_content}
-use Rattle.row_sound.proofs.Columns.{sound-at}
+use Rattle.row_sound.proofs.Columns.{sound_at}
 use Rattle.history.specs.Reread.{ReadsAll, contents}
 
 abbrev value_in : ColumnRead → DataValue
@@ -62,7 +62,7 @@ module _ {sort : Bool} {ts : List DataType} {p : Bool} {r : List ℕ} (s : Sound
 
   column-is : (j : ℕ) → j < length ts → column j ≡ Value (value j)
   unfolding sound_column
-  column-is j h = value_read (column j) (both (reads (column j)) _ (sound-at (offset_width sort) p ts r s.sound j h)).0
+  column-is j h = value_read (column j) (both (reads (column j)) _ (sound_at (offset_width sort) p ts r s.sound j h)).0
 
   -- ---- the call
 
@@ -91,8 +91,8 @@ module _ {sort : Bool} {ts : List DataType} {p : Bool} {r : List ℕ} (s : Sound
   pub length-contents : length (contents r row_values) ≡ length ts
   length-contents = length-map row_values (λ (v : DataValue). content r (Value v)) ∙ length-listed value 0 (length ts)
 
-  pub content-at : (j : ℕ) → j < length ts → get_or (contents r row_values) j null_content ≡ column_content (offset_width sort) p ts j r
-  content-at j h =
+  pub content_at : (j : ℕ) → j < length ts → get_or (contents r row_values) j null_content ≡ column_content (offset_width sort) p ts j r
+  content_at j h =
       at_map (λ (v : DataValue). content r (Value v)) j row_values D.Null
       ∙ ap (λ (v : DataValue). content r (Value v)) (at_listed value 0 (length ts) j D.Null h ∙ ap value (zero-add j))
       ∙ ap (content r) (sym (column-is j h))

@@ -35,7 +35,7 @@ use Rattle.history.specs.History.{Call, set_value, set_null, State, row_of, sort
 use Rattle.history.specs.Demand.{OfBytes}
 use Rattle.history.specs.Reread.{column_of, given_content, ReadsAll, contents, Edits}
 use Rattle.history.proofs.Calls.{Ends, refusal, written, opened_ends, tested_ends, placed_ends, given-taken}
-use Rattle.history.proofs.Reading.{row_values, reads_all, length-contents, content-at}
+use Rattle.history.proofs.Reading.{row_values, reads_all, length-contents, content_at}
 
 -- ---- how an accepted call ends: the row r that it wrote
 
@@ -154,10 +154,10 @@ module _ {schema : List ℕ} {c : Call} {s : State} {r : List ℕ} (w : Went (so
 
   column-changed : (j : ℕ) → j < length ts → get_or (contents r (row_values after-sound)) j null_content ≡ get_or (set before i put) j null_content
   column-changed j l =
-      content-at after-sound j l
+      content_at after-sound j l
       ∙ same_or i j
       (λ e. subst (λ (k : ℕ). column_content (offset_width (sort_of s)) p ts k r ≡ get_or (set before i put) k null_content) e (read_again.own ∙ sym (get_or-set_same before i put null_content (rw (length-contents w.sound) w.inside))))
-      (λ ne. read_again.others j l ne ∙ sym (content-at w.sound j l) ∙ sym (get_or-set_other before i j put null_content (λ e. ne (sym e))))
+      (λ ne. read_again.others j l ne ∙ sym (content_at w.sound j l) ∙ sym (get_or-set_other before i j put null_content (λ e. ne (sym e))))
 
   row-changed : contents r (row_values after-sound) ≡ set before i put
   row-changed =

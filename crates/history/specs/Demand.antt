@@ -82,12 +82,12 @@ module _ {sort : Bool} {schema : List ℕ} {ts : List DataType} (h : History sor
     pub set : (i : ℕ) (list area b : List ℕ) → i < length ts → given sort (type_at ts i) i list area ≡ ok b
         → called schema (set_value i list area) left
         ≡ row_placed sort left.buf (edited_row (offset_width sort) true (map shape_of ts) i (some b) row)
-    pub bad-value : (i : ℕ) (list area : List ℕ) {e : Refusal} → i < length ts
+    pub bad_value : (i : ℕ) (list area : List ℕ) {e : Refusal} → i < length ts
         → given sort (type_at ts i) i list area ≡ refused e
         → called schema (set_value i list area) left ≡ unchanged left.buf e
-    pub no-column : (i : ℕ) (list area : List ℕ) → length ts ≤ i
+    pub no_column : (i : ℕ) (list area : List ℕ) → length ts ≤ i
         → called schema (set_value i list area) left ≡ unchanged left.buf NoSuchColumn
-    pub no-null : (i : ℕ) → length ts ≤ i
+    pub no_null : (i : ℕ) → length ts ≤ i
         → called schema (set_null i) left ≡ unchanged left.buf NoSuchColumn
     pub set-null : (i : ℕ) → i < length ts
         → called schema (set_null i) left

@@ -125,15 +125,15 @@ table-from_to w (x ∷ xs) rest b =
     rw (append_assoc, take_at (to_le w x) (to_table w xs ++ rest) w (length-to_le w x), drop_at (to_le w x) (to_table w xs ++ rest) w (length-to_le w x), from_to w x b.0, table-from_to w xs rest b.1)
 
 -- entry by entry
-table-entry-at : (w v : ℕ) (t : List ℕ) (j : ℕ) → j < v → get_or (from_table w v t) j 0 ≡ from_le (take w (drop (j * w) t))
-table-entry-at w zero t j h = absurd (omega arith)
-table-entry-at w (suc v) t zero h = rw (zero-mul w)
-table-entry-at w (suc v) t (suc j) h =
+table_entry_at : (w v : ℕ) (t : List ℕ) (j : ℕ) → j < v → get_or (from_table w v t) j 0 ≡ from_le (take w (drop (j * w) t))
+table_entry_at w zero t j h = absurd (omega arith)
+table_entry_at w (suc v) t zero h = rw (zero-mul w)
+table_entry_at w (suc v) t (suc j) h =
     let e : w + j * w ≡ suc j * w = omega arith in
-    table-entry-at w v (drop w t) j (omega arith) ∙ ap (λ (l : List ℕ). from_le (take w l)) (drop-drop (j * w) w t ∙ ap (λ (n : ℕ). drop n t) e)
+    table_entry_at w v (drop w t) j (omega arith) ∙ ap (λ (l : List ℕ). from_le (take w l)) (drop-drop (j * w) w t ∙ ap (λ (n : ℕ). drop n t) e)
 
-pub table-entry : (w v t j : ℕ) (r : List ℕ) → j < v → get_or (from_table w v (drop t r)) j 0 ≡ entry_at w t j r
-table-entry w v t j r h = table-entry-at w v (drop t r) j h ∙ rw drop-drop
+pub table_entry : (w v t j : ℕ) (r : List ℕ) → j < v → get_or (from_table w v (drop t r)) j 0 ≡ entry_at w t j r
+table_entry w v t j r h = table_entry_at w v (drop t r) j h ∙ rw drop-drop
 
 -- ---- bytes replaced
 
@@ -145,8 +145,8 @@ pub splice_at : (p m q new : List ℕ) (s e : ℕ) → length p ≡ s → length
 splice_at p m q new s e hs he =
     rw (take_at p (m ++ q) s hs, ← append_assoc p m q, drop_at (p ++ m) q e (length-append p m ∙ he))
 
-pub sets-at : (p m q new : List ℕ) (s : ℕ) → length p ≡ s → length new ≡ length m → sets (p ++ (m ++ q)) s new ≡ p ++ (new ++ q)
-sets-at p m q new s e l =
+pub sets_at : (p m q new : List ℕ) (s : ℕ) → length p ≡ s → length new ≡ length m → sets (p ++ (m ++ q)) s new ≡ p ++ (new ++ q)
+sets_at p m q new s e l =
     sets-splice (p ++ (m ++ q)) s new (simp (length-append, e, l) (omega arith)) ∙ splice_at p m q new s (s + length new) e (rw (e, l))
 
 -- by as many others: the length and every other byte are kept

@@ -8,8 +8,8 @@ use lib.ListN.{length}
 use Rattle.numeric.specs.Decimal.{halves, digits, denote}
 
 -- two halves of which the upper is 0
-pub no-high : (high low : ℕ) → high ≡ 0 → low ≡ halves high low
-no-high high low h = omega arith
+pub no_high : (high low : ℕ) → high ≡ 0 → low ≡ halves high low
+no_high high low h = omega arith
 
 -- the halves of a number in halves
 module _ (high low : ℕ) (l : low < 2 ^ 64) where

@@ -53,10 +53,10 @@ hundreds-zero zero = refl
 hundreds-zero (suc n) = rw (zero-div, hundreds-zero n)
 
 -- eight digits, by two divisions each
-pub hundreds-eight : (x : ℕ) → x < 100000000
+pub hundreds_eight : (x : ℕ) → x < 100000000
     → hundreds 4 x ≡ two_digits (x / 10000 / 100) ∷ two_digits (x / 10000 % 100) ∷ two_digits (x % 10000 / 100) ∷ two_digits (x % 10000 % 100) ∷ []
 unfolding hundreds
-hundreds-eight x h =
+hundreds_eight x h =
     let a : x / 100 ^ 3 % 100 ≡ x / 10000 / 100 = omega arith in
     let b : x / 100 ^ 2 % 100 ≡ x / 10000 % 100 = omega arith in
     let c : x / 100 ^ 1 % 100 ≡ x % 10000 / 100 = omega arith in
@@ -114,8 +114,8 @@ module _ (p x : ℕ) (h : x < 10 ^ p) where
     abbrev y : ℕ
     y = x / 10
 
-    pub digits-at : (j : ℕ) → j < p / 2 → get_or (pairs (digits 39 x)) (19 - p / 2 + j) 0 ≡ get_or (encode_bcd p negative x) j 0
-    digits-at j k =
+    pub digits_at : (j : ℕ) → j < p / 2 → get_or (pairs (digits 39 x)) (19 - p / 2 + j) 0 ≡ get_or (encode_bcd p negative x) j 0
+    digits_at j k =
         let n : 19 - p / 2 + p / 2 ≡ 19 = omega arith in
         let cut : hundreds 19 y ≡ hundreds (19 - p / 2) (y / 100 ^ (p / 2)) ++ hundreds (p / 2) y = ap (λ (m : ℕ). hundreds m y) (sym n) ∙ hundreds-split (19 - p / 2) (p / 2) y in
         let at : get_or (hundreds 19 y) (19 - p / 2 + j) 0 ≡ get_or (hundreds (p / 2) y) j 0

@@ -83,8 +83,8 @@ module _ (k : Bool) (n i : ℕ) (r : List ℕ) where
     abbrev bs : List ℕ
     bs = take (e - a) (drop a r)
 
-    pub starts-late : a ≡ 0 → ⊥
-    starts-late z = range-start k r i (sym (ap start_in q) ∙ z)
+    pub starts_late : a ≡ 0 → ⊥
+    starts_late z = range-start k r i (sym (ap start_in q) ∙ z)
 
     size : length bs ≡ e - a
     size = let u = w.0 in let v = w.1 in length-take-le (e - a) (drop a r) (rw length-drop (omega arith))
@@ -93,13 +93,13 @@ module _ (k : Bool) (n i : ℕ) (r : List ℕ) where
     text-long h = sym (rw (many-bytes n bs (rw size h))) ∙ told q
 
     pub text-good : e - a ≤ n → is_text bs ≡ true → text_shown r (Good (record { start = a; end = e })) ≡ text_column k n i r
-    text-good h t = sym (rw (few_bytes false n bs (rw size h), t, size, ne_eqb a 0 starts-late)) ∙ told q
+    text-good h t = sym (rw (few_bytes false n bs (rw size h), t, size, ne_eqb a 0 starts_late)) ∙ told q
 
-    pub text-bad : e - a ≤ n → is_text bs ≡ false → text_shown r (Refused (NoValue i)) ≡ text_column k n i r
-    text-bad h t = sym (rw (few_bytes false n bs (rw size h), t)) ∙ told q
+    pub text_bad : e - a ≤ n → is_text bs ≡ false → text_shown r (Refused (NoValue i)) ≡ text_column k n i r
+    text_bad h t = sym (rw (few_bytes false n bs (rw size h), t)) ∙ told q
 
     pub text_in_lem : e - a ≤ n → SpanIn (length r) n a e
-    text_in_lem h = record { rises = w.0; inside = w.1; short = h; empty = λ z. absurd (starts-late z) }
+    text_in_lem h = record { rises = w.0; inside = w.1; short = h; empty = λ z. absurd (starts_late z) }
 
 pub null_in : (m n : ℕ) → SpanIn m n 0 0
 null_in m n = record { rises = omega arith; inside = omega arith; short = omega arith; empty = λ z. refl }

@@ -31,7 +31,7 @@ use Rattle.occupation.specs.declared.Fields.{Fields}
 use Rattle.occupation.specs.Occupation.{Occupation, columns, occupation_of, has_unprintable, printable, occupation_as, occupation_in}
 use Rattle.occupation.specs.InnerFields.{moment_from, fields_shown, moment_limit, SpanIn, FieldsIn, is_good}
 use Rattle.occupation.specs.InnerRead.{arrival_place, departure_place, least_length, text_range_in, text_of_read, moment_of_read, text_column, moment_column, with_platform, with_unit, with_arrival, with_departure, shown_in, moment_shown, MomentIn, span_of, count_of}
-use Rattle.occupation.proofs.Reading.{text-null, text_outside, text-long, text-good, text-bad, text_in_lem, null_in}
+use Rattle.occupation.proofs.Reading.{text-null, text_outside, text-long, text-good, text_bad, text_in_lem, null_in}
 
 -- ---- the columns one after the other
 
@@ -118,7 +118,7 @@ module _ (k : Bool) (n i : ℕ) (r : List ℕ) (w : Inside r (text_range_in k r 
       go (Bytes a z) e =
           let v : Inside r (Bytes a z) = subst (Inside r) (sym e) w in
           cases n (z - a) (λ l. not_both (text-long k n i r e v l) h)
-          (λ l. valid (is_text (take (z - a) (drop a r))) (λ x. (same (text-good k n i r e v l x ∙ h), text_in_lem k n i r e v l)) (λ x. not_both (text-bad k n i r e v l x) h))
+          (λ l. valid (is_text (take (z - a) (drop a r))) (λ x. (same (text-good k n i r e v l x ∙ h), text_in_lem k n i r e v l)) (λ x. not_both (text_bad k n i r e v l x) h))
         where
           valid : {P : Type 0} (b : Bool) → (b ≡ true → P) → (b ≡ false → P) → P
           valid true f g = f refl

@@ -14,8 +14,8 @@ use Rattle.laws.proofs.Stores.{sets-append}
 use Rattle.occupation_list.specs.Print.{decimal, refusal_line}
 use Rattle.occupation_list.specs.InnerOrder.{numbers_line}
 
-pub one-digit : (n : ℕ) → n < 10 → decimal n ≡ (48 + n % 10) ∷ []
-one-digit n h = rw (lt-ltb n 10 h, div-one)
+pub one_digit : (n : ℕ) → n < 10 → decimal n ≡ (48 + n % 10) ∷ []
+one_digit n h = rw (lt-ltb n 10 h, div-one)
 
 pub two_digits_lem : (n : ℕ) → 10 ≤ n → decimal n ≡ (48 + n / 10 % 10) ∷ (48 + n % 10) ∷ []
 two_digits_lem n h = rw (le-ltb n 10 h, div-one)
@@ -32,7 +32,7 @@ line-stored out xs ys u v {s} a b c d =
     rw (d, c, b, a) (sym (sets-append out 0 xs (u ∷ (ys ++ (v ∷ []))) ∙ sets-append (set (sets out 0 xs) (0 + length xs) u) (suc (0 + length xs)) ys (v ∷ []) ∙ rw add-one))
 
 pub one-stored : (out : List ℕ) (at n : ℕ) {d : ℕ} → n < 10 → d ≡ 48 + n % 10 → set out at d ≡ sets out at (decimal n)
-one-stored out at n h e = ap (set out at) e ∙ sym (ap (sets out at) (one-digit n h))
+one-stored out at n h e = ap (set out at) e ∙ sym (ap (sets out at) (one_digit n h))
 
 pub two-stored : (out : List ℕ) (at n : ℕ) {d e : ℕ} → 10 ≤ n → d ≡ 48 + n / 10 % 10 → e ≡ 48 + n % 10 → set (set out at d) (at + 1) e ≡ sets out at (decimal n)
 two-stored out at n h p q = rw (p, q, add-one) (sym (ap (sets out at) (two_digits_lem n h)))

@@ -30,8 +30,8 @@ known_at list p r e k = ap good_one k.shown ∙ ap (λ (s : List ℕ). good_one 
 pub known_ok : (list : List ℕ) (p : ℕ) (r : List ℕ) {f : Fields} → r ≡ row_in list p → Known r f → occupation_in (row_in list p) ≡ ok (occupation_at list p)
 known_ok list p r e k = ap occupation_in (sym e) ∙ sym k.shown ∙ ap ok (known_at list p r e k)
 
-pub good-at : {list : List ℕ} {p : ℕ} (r : List ℕ) → r ≡ row_in list p → Place list p → is_good (occupation_in r) ≡ true
-good-at r e p = ap (λ (s : List ℕ). is_good (occupation_in s)) e ∙ p.good
+pub good_at : {list : List ℕ} {p : ℕ} (r : List ℕ) → r ≡ row_in list p → Place list p → is_good (occupation_in r) ≡ true
+good_at r e p = ap (λ (s : List ℕ). is_good (occupation_in s)) e ∙ p.good
 
 pub line_at : (list : List ℕ) (p : ℕ) (r : List ℕ) {f : Fields} → r ≡ row_in list p → Known r f → line_length f ≡ length (line (occupation_at list p))
 line_at list p r {f} e k = sym (line-length r f k.bounds) ∙ ap (λ (o : Occupation). length (line o)) (known_at list p r e k)

@@ -45,8 +45,8 @@ module _ (list order : List ℕ) (x : Arranged) (a : ArrangedAs list order x) wh
   pub printable : {k n : ℕ} → x ≡ Rows k n → LinesReady list order k n
   printable e = (rows e).printable
 
-  pub print-placed : (out : List ℕ) {k n : ℕ} → x ≡ Rows k n → placed out (lines_at list (take k order)) ≡ print_call list out
-  print-placed out e = sym (on_ordered (occupations_of list) (unchanged out) (λ os. placed out (concat (map line os))) (rows e).in_order)
+  pub print_placed : (out : List ℕ) {k n : ℕ} → x ≡ Rows k n → placed out (lines_at list (take k order)) ≡ print_call list out
+  print_placed out e = sym (on_ordered (occupations_of list) (unchanged out) (λ os. placed out (concat (map line os))) (rows e).in_order)
 
   pub report-placed : (out : List ℕ) {k n : ℕ} → x ≡ Rows k n → placed out (lines_at list (take k order)) ≡ report_call list out
   report-placed out e = ap (placed out) (sym (on_ordered (occupations_of list) refusal_line (λ os. concat (map line os)) (rows e).in_order))
@@ -55,8 +55,8 @@ module _ (list order : List ℕ) (x : Arranged) (a : ArrangedAs list order x) wh
     is-refused : occupations_of list ≡ refused q
     is-refused = subst (ArrangedAs list order) e a
 
-    pub print-refused : (Answer.Refused q, out) ≡ print_call list out
-    print-refused = ap (λ (r : Result (List Occupation)). on_result r (unchanged out) (λ os. placed out (lines_of os))) (sym is-refused)
+    pub print_refused : (Answer.Refused q, out) ≡ print_call list out
+    print_refused = ap (λ (r : Result (List Occupation)). on_result r (unchanged out) (λ os. placed out (lines_of os))) (sym is-refused)
 
     pub report-refused : placed out (refusal_line q) ≡ report_call list out
     report-refused = ap (λ (r : Result (List Occupation)). placed out (on_result r refusal_line lines_of)) (sym is-refused)

@@ -60,11 +60,11 @@ module _ (k : Bool) (r out counts : List ℕ) (e : Refusal) where
   Same o c = (o ≡ refused e) ↔ (c ≡ unchanged_both out counts e)
 
   module _ (n : number_of e ≡ 14 → ⊥) (m : number_of e ≡ 17 → ⊥) where
-    refused-alike : (q : Refusal) → Same (refused q) (unchanged_both out counts q)
-    refused-alike q = (λ h. ap (unchanged_both out counts) (same-refusal h), λ h. ap refused (same_answer h))
+    refused_alike : (q : Refusal) → Same (refused q) (unchanged_both out counts q)
+    refused_alike q = (λ h. ap (unchanged_both out counts) (same-refusal h), λ h. ap refused (same_answer h))
 
     by_values : (v : Values) → Same (on_result v refused (λ vs. printable (occupation_of r vs))) (hand_out k out counts r v)
-    by_values (refused q) = refused-alike q
+    by_values (refused q) = refused_alike q
     by_values (ok vs) = (
       λ h. absurd (m (not_printable (has_unprintable (occupation_of r vs).platform) (has_unprintable (occupation_of r vs).unit) (occupation_of r vs) h)),
       λ h. absurd (n (no_room (ltb (length out) (length (list_of k vs)) || ltb (length counts) (length (map (points_in r) vs))) (length (list_of k vs)) (out, counts) (sets out 0 (list_of k vs), sets counts 0 (map (points_in r) vs)) h)),
@@ -73,7 +73,7 @@ module _ (k : Bool) (r out counts : List ℕ) (e : Refusal) where
     by_frame : (f : Frame) → Same (on_frame f refused (λ p. on_result (read_from (offset_width k) p columns (λ i. true) r 0 (length columns)) refused (λ vs. printable (occupation_of r vs))))
         (on_frame f (unchanged_both out counts) (λ p. hand_out k out counts r (read_from (offset_width k) p columns (λ i. true) r 0 (length columns))))
     by_frame (Frame.Good p) = by_values (read_from (offset_width k) p columns (λ i. true) r 0 (length columns))
-    by_frame (Frame.Refused q) = refused-alike q
+    by_frame (Frame.Refused q) = refused_alike q
 
 -- all four columns are wanted, so the read is that of the definition
 read_is : (r out counts : List ℕ) → read_call occupation_schema r all_columns out counts

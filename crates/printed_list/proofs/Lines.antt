@@ -29,17 +29,17 @@ Cuts {A} P f g = (x y : A) (r s : List ℕ) → P x → P y → f x ++ r ≡ f y
 abbrev Clean : List ℕ → Type 0
 Clean t = is_unprintable t ≡ false
 
-no-quote : (b : ℕ) (t : List ℕ) → Clean (b ∷ t) → (b ≡ 0x22 → ⊥) × Clean t
-no-quote b t e =
+no_quote : (b : ℕ) (t : List ℕ) → Clean (b ∷ t) → (b ≡ 0x22 → ⊥) × Clean t
+no_quote b t e =
     let both = or_none (ltb b 32 || eqb b 0x22) (is_unprintable t) e in
     (eqb-false b 0x22 (or_none (ltb b 32) (eqb b 0x22) both.0).1, both.1)
 
 to_quote : (t u r s : List ℕ) → Clean t → Clean u → t ++ (0x22 ∷ r) ≡ u ++ (0x22 ∷ s) → (t ≡ u) × (r ≡ s)
 to_quote [] [] r s p q e = (refl, tail-eq_of_cons-eq e)
-to_quote [] (c ∷ u) r s p q e = absurd ((no-quote c u q).0 (sym (head-eq_of_cons-eq e)))
-to_quote (b ∷ t) [] r s p q e = absurd ((no-quote b t p).0 (head-eq_of_cons-eq e))
+to_quote [] (c ∷ u) r s p q e = absurd ((no_quote c u q).0 (sym (head-eq_of_cons-eq e)))
+to_quote (b ∷ t) [] r s p q e = absurd ((no_quote b t p).0 (head-eq_of_cons-eq e))
 to_quote (b ∷ t) (c ∷ u) r s p q e =
-    let k = to_quote t u r s (no-quote b t p).1 (no-quote c u q).1 (tail-eq_of_cons-eq e) in
+    let k = to_quote t u r s (no_quote b t p).1 (no_quote c u q).1 (tail-eq_of_cons-eq e) in
     (λ i. head-eq_of_cons-eq e i ∷ k.0 i, k.1)
 
 quoted_cuts : Cuts Clean quoted (λ t. some t)

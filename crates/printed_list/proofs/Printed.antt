@@ -49,8 +49,8 @@ same_lines os qs e =
 pub lines_tell : LinesTell
 lines_tell a b os qs e f = (lines-told (all-good a os e) (all-good b qs f), same_lines os qs)
 
-pub never-same : NeverSame
-never-same a b os qs e f differ l = differ ((lines_tell a b os qs e f).0 l)
+pub never_same : NeverSame
+never_same a b os qs e f differ l = differ ((lines_tell a b os qs e f).0 l)
 
 -- ---- their order
 

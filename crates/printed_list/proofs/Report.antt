@@ -19,7 +19,7 @@ use Rattle.occupation.specs.Order.{precedes}
 use Rattle.occupation.specs.Line.{quoted, or_hyphen, line}
 use Rattle.occupation_list.specs.Ordered.{ordered}
 use Rattle.occupation_list.specs.Print.{row_count_limit, lines_of, decimal, refusal_line, report}
-use Rattle.occupation_list.proofs.Decimals.{one-digit, two_digits_lem, length-line}
+use Rattle.occupation_list.proofs.Decimals.{one_digit, two_digits_lem, length-line}
 use Rattle.printed_list.specs.Shown.{SameReport, lines, refusal, ReportTells}
 use Rattle.printed_list.specs.Refusals.{OfList, short, columns, varchars, range, value, list, text, RefusalsTold}
 use Rattle.printed_list.specs.Room.{report_limit, ReportFitsAlways}
@@ -29,8 +29,8 @@ use Rattle.printed_list.proofs.Printed.{lines-told, lines-short, placed-done}
 
 -- ---- the refusals
 
-pub refusals-told : RefusalsTold
-refusals-told bytes e h = of_bad (list_read_lem bytes) h
+pub refusals_told : RefusalsTold
+refusals_told bytes e h = of_bad (list_read_lem bytes) h
 
 -- numbers and places of two digits at most
 pub record Small (e : Refusal) : Type 0 where
@@ -55,16 +55,16 @@ decimal_cut c m n r s h k l e =
     cases m 10
     (λ a. cases n 10
     (λ b.
-    let f : (48 + m % 10) ∷ c ∷ r ≡ (48 + n % 10) ∷ c ∷ s = rw (one-digit m a, one-digit n b) at e in
+    let f : (48 + m % 10) ∷ c ∷ r ≡ (48 + n % 10) ∷ c ∷ s = rw (one_digit m a, one_digit n b) at e in
     let x = head-eq_of_cons-eq f in
     (omega arith, tail-eq_of_cons-eq (tail-eq_of_cons-eq f)))
     (λ b.
-    let f : (48 + m % 10) ∷ c ∷ r ≡ (48 + n / 10 % 10) ∷ (48 + n % 10) ∷ c ∷ s = rw (one-digit m a, two_digits_lem n b) at e in
+    let f : (48 + m % 10) ∷ c ∷ r ≡ (48 + n / 10 % 10) ∷ (48 + n % 10) ∷ c ∷ s = rw (one_digit m a, two_digits_lem n b) at e in
     let x = head-eq_of_cons-eq (tail-eq_of_cons-eq f) in
     absurd (omega arith)))
     (λ a. cases n 10
     (λ b.
-    let f : (48 + m / 10 % 10) ∷ (48 + m % 10) ∷ c ∷ r ≡ (48 + n % 10) ∷ c ∷ s = rw (two_digits_lem m a, one-digit n b) at e in
+    let f : (48 + m / 10 % 10) ∷ (48 + m % 10) ∷ c ∷ r ≡ (48 + n % 10) ∷ c ∷ s = rw (two_digits_lem m a, one_digit n b) at e in
     let x = head-eq_of_cons-eq (tail-eq_of_cons-eq f) in
     absurd (omega arith))
     (λ b.
@@ -90,8 +90,8 @@ by_number (value i h) = refl
 by_number list = refl
 by_number (text i h) = refl
 
-refusal-tells : {e f : Refusal} → OfList e → OfList f → refusal_line e ≡ refusal_line f → e ≡ f
-refusal-tells {e} {f} p q h =
+refusal_tells : {e f : Refusal} → OfList e → OfList f → refusal_line e ≡ refusal_line f → e ≡ f
+refusal_tells {e} {f} p q h =
     let a = decimal_cut 0x20 (number_of e) (number_of f) _ _ (omega arith) (small p).number (small q).number h in
     let b = decimal_cut 0x0A (place_of e) (place_of f) [] [] (omega arith) (small p).place (small q).place a.1 in
     sym (by_number p) ∙ (λ i. refusal_of (a.0 i) (b.0 i)) ∙ by_number q
@@ -101,7 +101,7 @@ refusal-tells {e} {f} p q h =
 opens_high : (e : Refusal) (d : ℕ) (r : List ℕ) → refusal_line e ≡ d ∷ r → 48 ≤ d
 opens_high e d r h =
     cases (number_of e) 10
-    (λ a. let x = head-eq_of_cons-eq (rw (one-digit (number_of e) a) at h) in omega arith)
+    (λ a. let x = head-eq_of_cons-eq (rw (one_digit (number_of e) a) at h) in omega arith)
     (λ a. let x = head-eq_of_cons-eq (rw (two_digits_lem (number_of e) a) at h) in omega arith)
 
 line_opens : (o : Option (List ℕ)) (rest : List ℕ) → (d : ℕ) × ((r : List ℕ) × ((or_hyphen quoted o ++ rest ≡ d ∷ r) × (d < 48)))
@@ -122,10 +122,10 @@ tells : {x y : Result (List Occupation)} → Gives (Good row_count_limit) OfList
 tells (good {x = os} g) (good {x = qs} k) h = lines os qs (lines-told g k h)
 tells (good {x = os} g) (bad {e = e} q) h = absurd (no_line e (ordered precedes os) (sym h))
 tells (bad {e = e} q) (good {x = os} g) h = absurd (no_line e (ordered precedes os) h)
-tells (bad {e = e} p) (bad {e = f} q) h = subst (λ k. SameReport (refused e) (refused k)) (refusal-tells p q h) (refusal e)
+tells (bad {e = e} p) (bad {e = f} q) h = subst (λ k. SameReport (refused e) (refused k)) (refusal_tells p q h) (refusal e)
 
-pub report-tells : ReportTells
-report-tells a b e = tells (list_read_lem a) (list_read_lem b) e
+pub report_tells : ReportTells
+report_tells a b e = tells (list_read_lem a) (list_read_lem b) e
 
 -- ---- its length
 

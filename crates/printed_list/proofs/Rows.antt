@@ -36,8 +36,8 @@ no_rows n s e = record { count = omega arith; short = tt; whole = λ b. empty s 
 -- ---- the first row
 
 module _ (s : List ℕ) (h : 2 + first_size s ≤ length s) where
-  first-length : length (first_row s) ≡ first_size s
-  first-length = length-take-le (first_size s) (drop 2 s) (rw length-drop (omega arith))
+  first_length : length (first_row s) ≡ first_size s
+  first_length = length-take-le (first_size s) (drop 2 s) (rw length-drop (omega arith))
 
   cut_again : take 2 s ++ (first_row s ++ later_rows s) ≡ s
   cut_again =
@@ -54,11 +54,11 @@ module _ (s : List ℕ) (h : 2 + first_size s ≤ length s) where
       record {
         count = omega (arith, k.count);
         short = (
-          rw first-length (omega arith),
+          rw first_length (omega arith),
           every_map (λ r. length r ≤ length (later_rows s)) (λ r. length r ≤ length s) rs (λ r l. omega arith) k.short,
         );
         whole = λ b.
-            ap (λ (n : ℕ). to_le 2 n ++ (first_row s ++ framed rs)) first-length
+            ap (λ (n : ℕ). to_le 2 n ++ (first_row s ++ framed rs)) first_length
             ∙ ap (λ (l : List ℕ). l ++ (first_row s ++ framed rs)) (size_again b)
             ∙ ap (λ (l : List ℕ). take 2 s ++ (first_row s ++ l)) (k.whole (below-drop 256 (2 + first_size s) s b))
             ∙ cut_again;

@@ -46,12 +46,12 @@ ascii_append : (xs ys : List ℕ) → Ascii xs → Ascii ys → Ascii (xs ++ ys)
 ascii_append [] ys a b = b
 ascii_append (x ∷ xs) ys a b = (a.0, ascii_append xs ys a.1 b)
 
-digit-ascii : (n : ℕ) → 48 + n % 10 < 128
-digit-ascii n = omega arith
+digit_ascii : (n : ℕ) → 48 + n % 10 < 128
+digit_ascii n = omega arith
 
 digits-ascii : (w n : ℕ) → Ascii (ascii_digits w n)
 digits-ascii zero n = tt
-digits-ascii (suc w) n = (digit-ascii (n / 10 ^ w), digits-ascii w n)
+digits-ascii (suc w) n = (digit_ascii (n / 10 ^ w), digits-ascii w n)
 
 -- digits, a byte and what follows
 digits_then : (w n b : ℕ) (bs : List ℕ) → b < 128 → Ascii bs → Ascii (ascii_digits w n ++ (b ∷ bs))

@@ -83,22 +83,22 @@ varlen_kind T.Time = refl
 varlen_kind (T.Bit m) = refl
 varlen_kind T.Timestamp = refl
 
-no-null : (t : DataType) → value_kind t ≡ 0 → ⊥
-no-null T.SmallInt e = omega (arith, e)
-no-null T.Int e = omega (arith, e)
-no-null T.BigInt e = omega (arith, e)
-no-null T.Real e = omega (arith, e)
-no-null T.DoublePrecision e = omega (arith, e)
-no-null (T.Numeric p s) e = omega (arith, e)
-no-null (T.Decimal p s) e = omega (arith, e)
-no-null T.Bool e = omega (arith, e)
-no-null (T.Char m) e = omega (arith, e)
-no-null (T.Character m) e = omega (arith, e)
-no-null (T.Varchar p m) e = omega (arith, e)
-no-null T.Date e = omega (arith, e)
-no-null T.Time e = omega (arith, e)
-no-null (T.Bit m) e = omega (arith, e)
-no-null T.Timestamp e = omega (arith, e)
+no_null : (t : DataType) → value_kind t ≡ 0 → ⊥
+no_null T.SmallInt e = omega (arith, e)
+no_null T.Int e = omega (arith, e)
+no_null T.BigInt e = omega (arith, e)
+no_null T.Real e = omega (arith, e)
+no_null T.DoublePrecision e = omega (arith, e)
+no_null (T.Numeric p s) e = omega (arith, e)
+no_null (T.Decimal p s) e = omega (arith, e)
+no_null T.Bool e = omega (arith, e)
+no_null (T.Char m) e = omega (arith, e)
+no_null (T.Character m) e = omega (arith, e)
+no_null (T.Varchar p m) e = omega (arith, e)
+no_null T.Date e = omega (arith, e)
+no_null T.Time e = omega (arith, e)
+no_null (T.Bit m) e = omega (arith, e)
+no_null T.Timestamp e = omega (arith, e)
 
 module _ (w : ℕ) (list : List ℕ) (at : ℕ) where
   back : (k : ℕ) (t : Bool) (x y : DataValue) → (t ≡ true → kind_of x ≡ k) → ((kind_of y ≡ 0 → ⊥) → kind_of y ≡ k) → (kind_of (cond t x y) ≡ 0 → ⊥) → kind_of (cond t x y) ≡ k
@@ -154,7 +154,7 @@ module _ (w : ℕ) (list : List ℕ) (at : ℕ) where
   matched_kind : (t : DataType) (k : ℕ) → matches t (value_at w k list at) ≡ true → k ≡ value_kind t
   matched_kind t k m =
       let e : kind_of (value_at w k list at) ≡ value_kind t = eqb-true (kind_of (value_at w k list at)) (value_kind t) m in
-      sym (kind-back k (λ z. no-null t (sym e ∙ z))) ∙ e
+      sym (kind-back k (λ z. no_null t (sym e ∙ z))) ∙ e
 
 -- ---- a value of the kind that a type holds, by the bytes of its body
 
@@ -262,11 +262,11 @@ module _ {s : List ℕ} {at : ℕ} {list : List ℕ} {from : ℕ} (r : Readable 
   by_type = body_of w list (from + 1) t n (told s at (read_at r).type_is).1
 
   -- its bytes in the offset table, by its kind
-  pub entry-bytes : (w : ℕ) {j z : ℕ} → j ≡ held_kind (column_kind (get_or s at 0)) → z ≡ cond (eqb j 9) w 0 → z ≡ cond (is_varlen t) w 0
-  entry-bytes w e f = f ∙ ap (λ (m : ℕ). cond (eqb m 9) w 0) (e ∙ (told s at (read_at r).type_is).0) ∙ ap (λ (b : Bool). cond b w 0) (sym (varlen_kind t))
+  pub entry_bytes : (w : ℕ) {j z : ℕ} → j ≡ held_kind (column_kind (get_or s at 0)) → z ≡ cond (eqb j 9) w 0 → z ≡ cond (is_varlen t) w 0
+  entry_bytes w e f = f ∙ ap (λ (m : ℕ). cond (eqb m 9) w 0) (e ∙ (told s at (read_at r).type_is).0) ∙ ap (λ (b : Bool). cond b w 0) (sym (varlen_kind t))
 
-  pub within-at : (j : ℕ) → k ≡ j → from + 1 + body_in (is_long_kind given) j ≤ length list
-  within-at j e = subst (λ (m : ℕ). from + 1 + body_in (is_long_kind given) m ≤ length list) e (body_within r)
+  pub within_at : (j : ℕ) → k ≡ j → from + 1 + body_in (is_long_kind given) j ≤ length list
+  within_at j e = subst (λ (m : ℕ). from + 1 + body_in (is_long_kind given) m ≤ length list) e (body_within r)
 
   pub is-null : k ≡ 0 → is_null v ≡ true
   is-null e = rw (value_body r, e) refl
@@ -403,8 +403,8 @@ module _ {s : List ℕ} {at : ℕ} {list : List ℕ} {from : ℕ} (r : Readable 
 
     -- the same by the kind that was found
     module _ (j : ℕ) (e : k ≡ j) where
-      pub form-at : slot_stored w j n list (from + 1) area ≡ form_in s at list from area
-      form-at = form_as p.match p.fixed area j e
+      pub form_at : slot_stored w j n list (from + 1) area ≡ form_in s at list from area
+      form_at = form_as p.match p.fixed area j e
 
       pub suits-at : suits_at q w j n list (from + 1) area ≡ true
       suits-at = suits_as slot-suited j e

@@ -5,7 +5,6 @@ use Rattle.std.specs.Int.{w16, w32, w64}
 use Rattle.std.proofs.Common.{to_z, of_z}
 use Rattle.error.specs.declared.Refusal.{Refusal}
 use Rattle.error.specs.declared.Answer.{Answer}
-use Rattle.error.specs.declared.Answer.TheVariants as Answer
 use Rattle.error.specs.Result.{Result, ok, refused}
 use Rattle.laws.specs.Bytes.{to_le}
 use Rattle.row_format.specs.Table.{Cell, bytes}

@@ -52,8 +52,8 @@ module _ {sort : Bool} {schema list area out : List ℕ} {n : ℕ} {after : List
   pub all-many : length all_back ≡ length b.columns
   all-many = many-back (offset_width sort) b.columns area (row b) 0 b.given ∙ (taken b).count
 
-  pub all-at : (i : ℕ) → i < length b.columns → get_or all_back i Null ≡ given_back b i
-  all-at i h =
+  pub all_at : (i : ℕ) → i < length b.columns → get_or all_back i Null ≡ given_back b i
+  all_at i h =
       let first : 0 + i ≡ i = omega arith in
       back_at (offset_width sort) b.columns area (row b) 0 b.given i (rw (taken b).count h)
       ∙ ap (λ (j : ℕ). value_back (offset_width sort) b.columns j (get_or b.given i Null) (text_of area (get_or b.given i Null)) (row b)) first

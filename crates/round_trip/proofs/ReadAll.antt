@@ -27,7 +27,7 @@ use Rattle.row_decode.specs.Read.{is_wanted, wanted_value, on_column, read_from,
 use Rattle.row_same.specs.Rows.{all_columns}
 use Rattle.row_same.proofs.Read.{ReadsAs}
 use Rattle.row_build.specs.InnerSteps.{values_given}
-use Rattle.row_build.proofs.Built.{IsDone, placed-both-done}
+use Rattle.row_build.proofs.Built.{IsDone, placed_both_done}
 use Rattle.round_trip.specs.Same.{FullRead, list_read}
 
 -- ---- the columns that were read, one by one
@@ -116,7 +116,7 @@ module _ {schema r : List ℕ} (q : FullRead schema r) where
         all_read = ap (λ (x : Frame). on_frame x refused (λ y. read_from (offset_width sort) y ts (λ j. true) r 0 (length ts))) f ∙ every;
         count = c.count;
         each = λ k h. let z : 0 + k ≡ k = omega arith in ap (λ (j : ℕ). column_value (offset_width sort) p ts j r) (sym z) ∙ c.each k h;
-        list-is = (placed-both-done q.out q.counts (list_of sort vs) (map (points_in r) vs) o).bytes.part;
+        list-is = (placed_both_done q.out q.counts (list_of sort vs) (map (points_in r) vs) o).bytes.part;
       }
 
   of_frame : (ts : List DataType) → schema_of sort schema ≡ ok ts → (f : Frame) → frame_of sort ts r ≡ f

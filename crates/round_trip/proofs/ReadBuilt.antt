@@ -73,10 +73,10 @@ payload-inside (c ∷ ps) (suc k) = rw
     (length-append (bytes c) (payloads ps), length-append (bytes c) (payloads (take k ps)))
     (omega (arith, payload-inside ps k))
 
-all-sized-at : (vs : List DataValue) → AllSized vs → (i : ℕ) → i < length vs → Sized (value_at vs i)
-all-sized-at [] a i h = absurd (omega arith)
-all-sized-at (v ∷ vs) a zero h = a.0
-all-sized-at (v ∷ vs) a (suc i) h = all-sized-at vs a.1 i (omega arith)
+all-sized_at : (vs : List DataValue) → AllSized vs → (i : ℕ) → i < length vs → Sized (value_at vs i)
+all-sized_at [] a i h = absurd (omega arith)
+all-sized_at (v ∷ vs) a zero h = a.0
+all-sized_at (v ∷ vs) a (suc i) h = all-sized_at vs a.1 i (omega arith)
 
 -- x stands at a place of r
 record Stands (r : List ℕ) (at : ℕ) (x : List ℕ) : Type 0 where
@@ -263,7 +263,7 @@ module _ (sort : Bool) (ts : List DataType) (vs : List DataValue) (area : List �
 
         read-form : (at : ℕ) → slot_value i (read_slot t at form) ≡ Value (read_back t at x (text_of area x))
         read-form at = ap (slot_value i)
-            (read-stored t x (text_of area x) at m suited (all-sized-at vs sized i (rw n h)))
+            (read-stored t x (text_of area x) at m suited (all-sized_at vs sized i (rw n h)))
 
         -- the bytes of a form that stands at `at` and ends at `end`
         read_there : (at end : ℕ) → Stands r at form → end - at ≡ length form

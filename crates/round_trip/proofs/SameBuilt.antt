@@ -40,7 +40,7 @@ use Rattle.round_trip.proofs.Types.{column-digits, column-scale}
 use Rattle.round_trip.proofs.Columns.{Read, column-read}
 use Rattle.round_trip.proofs.Sorts.{same-columns}
 use Rattle.round_trip.proofs.ReadBack.{taken, sized-back}
-use Rattle.round_trip.proofs.BuiltReads.{all-many, all-at, built-reads}
+use Rattle.round_trip.proofs.BuiltReads.{all-many, all_at, built-reads}
 use Rattle.round_trip.proofs.BuiltText.{null_is}
 use Rattle.round_trip.proofs.ReadAll.{All, all_of, reads_as}
 
@@ -81,7 +81,7 @@ module _ {sort : Bool} {schema list r out : List ℕ} {n : ℕ} {after : List �
 
   same_row : ReadsAs schema r b.columns b.given → same_call schema r (row b) ≡ Is true
   same_row e =
-      twins_same e (built-reads b sized) (taken b).count (all-many b) (λ i h. rw (all-at b i h) (column-same i h))
+      twins_same e (built-reads b sized) (taken b).count (all-many b) (λ i h. rw (all_at b i h) (column-same i h))
 
 -- ---- the values that a read of a row r gave
 

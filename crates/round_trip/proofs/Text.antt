@@ -42,9 +42,9 @@ abbrev alone : ColumnRead → ℕ → ℕ → Values
 alone (Column.Value v) n i = ok (set (replicate n Null) i v)
 alone (Column.Refused e) n i = refused e
 
-alone-first : (c : ColumnRead) (n : ℕ) → on_column c (ok (replicate n Null)) ≡ alone c (suc n) 0
-alone-first (Column.Value v) n = refl
-alone-first (Column.Refused e) n = refl
+alone_first : (c : ColumnRead) (n : ℕ) → on_column c (ok (replicate n Null)) ≡ alone c (suc n) 0
+alone_first (Column.Value v) n = refl
+alone_first (Column.Refused e) n = refl
 
 alone-next : (c : ColumnRead) (n i : ℕ) → before Null (alone c n i) ≡ alone c (suc n) (suc i)
 alone-next (Column.Value v) n i = refl
@@ -78,7 +78,7 @@ module _ (w : ℕ) (p : Bool) (ts : List DataType) (r : List ℕ) (i : ℕ) wher
       let same : j ≡ i = omega arith in
       rw (same, eq-eqb i i refl)
       (ap (on_column (column_value w p ts i r)) (behind m (suc i) (omega arith))
-      ∙ alone-first (column_value w p ts i r) m)
+      ∙ alone_first (column_value w p ts i r) m)
   up_to (suc d) (suc m) j e h =
       not_wanted j m (λ q. omega arith)
       ∙ ap (before Null) (up_to d m (suc j) (omega arith) (omega arith)) ∙ alone-next (column_value w p ts i r) m d

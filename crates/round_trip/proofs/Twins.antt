@@ -26,7 +26,7 @@ use Rattle.round_trip.specs.ReadBack.{start_in, value_back, row, given_value, gi
 use Rattle.round_trip.specs.Sorts.{Twins}
 use Rattle.round_trip.proofs.Sorts.{same-columns}
 use Rattle.round_trip.proofs.ReadBack.{taken, read-built}
-use Rattle.round_trip.proofs.BuiltReads.{all_back, all-many, all-at, built-reads}
+use Rattle.round_trip.proofs.BuiltReads.{all_back, all-many, all_at, built-reads}
 use Rattle.round_trip.proofs.Layouts.{same-values}
 
 -- a value that is read back at two places, with texts y and z of the same bytes if it has any
@@ -66,7 +66,7 @@ module _ {sort sort' : Bool} {schema list area out : List ℕ} {n : ℕ} {after 
 
   twin_at : (i : ℕ) → i < length b.columns → get_or (all_back b') i D.Null ≡ twin i
   twin_at i h =
-      all-at b' i (rw columns_are h)
+      all_at b' i (rw columns_are h)
       ∙ ap₂ (λ (ts : List DataType) (vs : List DataValue). value_back (offset_width sort') ts i (get_or vs i D.Null) (text_of area (get_or vs i D.Null)) (row b'))
       columns_are given_are
 
@@ -77,7 +77,7 @@ module _ {sort sort' : Bool} {schema list area out : List ℕ} {n : ℕ} {after 
 
   column-same : (i : ℕ) → i < length b.columns → SameAt (row b) (row b') b.columns (all_back b) (all_back b') i
   column-same i h =
-      rw (all-at b i h, twin_at i h)
+      rw (all_at b i h, twin_at i h)
       (same_back (type_at b.columns i) (length_of (type_at b.columns i))
       (start_in (offset_width sort) b.columns i (row b)) (start_in (offset_width sort') b.columns i (row b'))
       (given_text b i) (text_of (row b) (given_back b i)) (text_of (row b') (twin i)) (given_value b i) (same_text i h))
@@ -91,4 +91,4 @@ module _ {sort sort' : Bool} {schema list area out : List ℕ} {n : ℕ} {after 
 
 pub twins : {schema list area out : List ℕ} {n : ℕ} {after : List ℕ} (b : Built false schema list area out n after)
     {out' : List ℕ} {n' : ℕ} {after' : List ℕ} (b' : Built true schema list area out' n' after') → Twins b b'
-twins b b' bytes = record { short-first = same_rows b b' bytes; long-first = same_rows b' b bytes }
+twins b b' bytes = record { short_first = same_rows b b' bytes; long_first = same_rows b' b bytes }

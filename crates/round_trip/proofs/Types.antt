@@ -18,7 +18,7 @@ use Rattle.datatype.specs.Types.{precision_of, scale_of}
 use Rattle.datatype.specs.Schema.{Kind, unknown, plain, sized, digits, column_kind, good_digits, column_record_of, column_record_at, column_records, schema_of}
 use Rattle.datatype.specs.Check.{type_at}
 use Rattle.datatype.proofs.Records.{few-digits}
-use Rattle.datatype.proofs.Walk.{none_left, some_left, not_refused, first-left}
+use Rattle.datatype.proofs.Walk.{none_left, some_left, not_refused, first_left}
 use Rattle.row_build.proofs.Schemas.{schema-records}
 
 -- ---- one record: "scale above precision" gives 2
@@ -36,11 +36,11 @@ chosen false x y p q = q
 same_scale : (p s : ℕ) → s ≡ s
 same_scale p s = refl
 
-no-scale : (n : ℕ) → ◌≡◌ {A = ℕ} 0 0
-no-scale n = refl
+no_scale : (n : ℕ) → ◌≡◌ {A = ℕ} 0 0
+no_scale n = refl
 
 scale_of_lem : (k : ℕ) → Scaled (column_kind k)
-scale_of_lem k = search (chosen, none, plainly, sizedly, given, same_scale, no-scale) depth 18
+scale_of_lem k = search (chosen, none, plainly, sizedly, given, same_scale, no_scale) depth 18
 
 abbrev SmallScale : Record → Type 0
 SmallScale (Column t next) = scale_of t ≤ 38
@@ -87,7 +87,7 @@ module _ (P : DataType → Type 0) (s : List ℕ)
           → (q : Record) → column_record_at s at ≡ q → at < length s → P (type_at ts i)
       of_record rest (Refused u) f k = absurd (not_refused s at (suc n) e k f)
       of_record rest (Column t next) f k =
-          let p = first-left s at (suc n) e k n refl f in
+          let p = first_left s at (suc n) e k n refl f in
           first_or (holds at t next f) (rest next p.tail p.ahead) ts p.split i h
 
 module _ (sort : Bool) (s : List ℕ) {ts : List DataType} (e : schema_of sort s ≡ ok ts) (i : ℕ)

@@ -26,8 +26,8 @@ OfItsSort {sort = sort} b = is_long (row b) ≡ sort
 module _ {schema list area out : List ℕ} {n : ℕ} {after : List ℕ} (b : Built false schema list area out n after)
     {out' : List ℕ} {n' : ℕ} {after' : List ℕ} (b' : Built true schema list area out' n' after') where
   pub record SameTwins : Type 0 where
-    pub short-first : same_call schema (row b) (row b') ≡ Is true
-    pub long-first : same_call schema (row b') (row b) ≡ Is true
+    pub short_first : same_call schema (row b) (row b') ≡ Is true
+    pub long_first : same_call schema (row b') (row b) ≡ Is true
 
   -- where the value list is a list of bytes
   abbrev pub Twins : Type 0

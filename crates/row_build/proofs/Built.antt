@@ -70,8 +70,8 @@ placed-done out x {n} {after} e = by_room (ltb (length out) (length x)) refl e
     by_room true k p = absurd (subst IsDone (sym p) tt)
     by_room false k p = is-placed out x k (sym (ap done_in p)) (sym (ap (λ (z : Outcome). z.1) p))
 
-pub placed-both-done : (out counts x ns : List ℕ) {n : ℕ} {after numbers : List ℕ} → placed_both out counts x ns ≡ (Answer.Done n, (after, numbers)) → PlacedBoth out counts x ns n after numbers
-placed-both-done out counts x ns {n} {after} {numbers} e = by_room (ltb (length out) (length x)) (ltb (length counts) (length ns)) refl refl e
+pub placed_both_done : (out counts x ns : List ℕ) {n : ℕ} {after numbers : List ℕ} → placed_both out counts x ns ≡ (Answer.Done n, (after, numbers)) → PlacedBoth out counts x ns n after numbers
+placed_both_done out counts x ns {n} {after} {numbers} e = by_room (ltb (length out) (length x)) (ltb (length counts) (length ns)) refl refl e
   where
     by_room : (t u : Bool) → ltb (length out) (length x) ≡ t → ltb (length counts) (length ns) ≡ u
         → ◌≡◌ {A = Counted} (cond (t || u) (unchanged_both out counts NoRoom) (Answer.Done (length x), (sets out 0 x, sets counts 0 ns))) (Answer.Done n, (after, numbers))
@@ -105,7 +105,7 @@ module _ (k : Bool) (schema list area out counts : List ℕ) (n : ℕ) (after nu
           → cond t (unchanged_both out counts RowLimit) (placed_both out counts r (cells_points ts cs)) ≡ (Answer.Done n, (after, numbers)) → Goal
       by_limit true l p = absurd (subst IsDone (sym p) tt)
       by_limit false l p =
-          let q = placed-both-done out counts r (cells_points ts cs) p in
+          let q = placed_both_done out counts r (cells_points ts cs) p in
           let x = q.bytes in
           record {
             built =

@@ -38,13 +38,13 @@ use Rattle.row_build.proofs.Walk.{Columns, column_there, columns-next, IsValue, 
 
 -- ---- a column more
 
-payload-first : (t : DataType) (b : Bool) (ss : List Shape) (c : Cell) (cs : List Cell)
+payload_first : (t : DataType) (b : Bool) (ss : List Shape) (c : Cell) (cs : List Cell)
     → length (payloads (varlen_cells (cond b Varlen (Fixed (size_of t) (alignment_of t)) ∷ ss) (c ∷ cs))) ≡ cond b (length (bytes c)) 0 + length (payloads (varlen_cells ss cs))
-payload-first t true ss c cs = length-append (bytes c) (payloads (varlen_cells ss cs))
-payload-first t false ss c cs = omega arith
+payload_first t true ss c cs = length-append (bytes c) (payloads (varlen_cells ss cs))
+payload_first t false ss c cs = omega arith
 
 measured-more : (m : ℕ) (t : DataType) (ts : List DataType) (c : Cell) (q : Result (List Cell)) → measured m (t ∷ ts) (before c q) ≡ measured (m + payload_added t c) ts q
-measured-more m t ts c (ok cs) = ap Answer.Done (ap (λ (n : ℕ). m + n) (payload-first t (is_varlen t) (map shape_of ts) c cs) ∙ sym (add_assoc m (payload_added t c) (length (payloads (varlen_cells (map shape_of ts) cs)))))
+measured-more m t ts c (ok cs) = ap Answer.Done (ap (λ (n : ℕ). m + n) (payload_first t (is_varlen t) (map shape_of ts) c cs) ∙ sym (add_assoc m (payload_added t c) (length (payloads (varlen_cells (map shape_of ts) cs)))))
 measured-more m t ts c (refused e) = refl
 
 -- what an answer says
@@ -61,9 +61,9 @@ module _ (m : ℕ) (t : DataType) (ts : List DataType) (rest : Result (List Cell
   counted-more (ok c) e = measured-more m t ts c rest ∙ ap (λ (k : ℕ). measured (m + k) ts rest) (ap counted e)
   counted-more (refused u) e = absurd (subst IsDone (sym e) tt)
 
-  counted-bad : {u : Refusal} (q : Result Cell) → payload_answer t q ≡ Answer.Refused u → measured m (t ∷ ts) (on_cell q rest) ≡ Answer.Refused u
-  counted-bad (ok c) e = absurd (subst IsDone e tt)
-  counted-bad (refused u) e = e
+  counted_bad : {u : Refusal} (q : Result Cell) → payload_answer t q ≡ Answer.Refused u → measured m (t ∷ ts) (on_cell q rest) ≡ Answer.Refused u
+  counted_bad (ok c) e = absurd (subst IsDone e tt)
+  counted_bad (refused u) e = e
 
 -- ---- the walk
 
@@ -94,7 +94,7 @@ module _ {s : List ℕ} {l : RowLayout} {list area : List ℕ} (b : Buildable s 
       next = rw (types_split b k.walk h r, values-split b k.walk h r) at k.rest
 
       pub measure_bad : {u : Refusal} → res ≡ Answer.Refused u → Answer.Refused u ≡ measured (minimum_of l true) (types_in s) (cells_from 0 (types_in s) (values_in list) area)
-      measure_bad f = sym (counted-bad size g.ty (drop (i + 1) (types_in s)) others (cell_in i g.ty g.value area) (sym e ∙ f)) ∙ next
+      measure_bad f = sym (counted_bad size g.ty (drop (i + 1) (types_in s)) others (cell_in i g.ty g.value area) (sym e ∙ f)) ∙ next
 
       pub measure_more : {n : ℕ} → res ≡ Answer.Done n → Short res → Measuring s l list area (size + n) (i + 1) g.next_type g.next-value
       measure_more {n} f short =
@@ -197,8 +197,8 @@ module _ {s : List ℕ} {l : RowLayout} (a : Accepted s l) {list area : List ℕ
             };
           }
 
-  pub no-length-told : {r : Refusal} → (Buildable s l list area → ⊥) → Lengthed s l list area (Answer.Refused r)
-  no-length-told n = record { good = λ b. absurd (n b); done = λ f. absurd (subst IsDone (sym f) tt) }
+  pub no_length-told : {r : Refusal} → (Buildable s l list area → ⊥) → Lengthed s l list area (Answer.Refused r)
+  no_length-told n = record { good = λ b. absurd (n b); done = λ f. absurd (subst IsDone (sym f) tt) }
 
-  pub bad-told : {r : Refusal} → (Buildable s l list area → Answer.Refused r ≡ measured (minimum_of l true) (types_in s) (cells_from 0 (types_in s) (values_in list) area)) → Lengthed s l list area (Answer.Refused r)
-  bad-told n = record { good = n; done = λ f. absurd (subst IsDone (sym f) tt) }
+  pub bad_told : {r : Refusal} → (Buildable s l list area → Answer.Refused r ≡ measured (minimum_of l true) (types_in s) (cells_from 0 (types_in s) (values_in list) area)) → Lengthed s l list area (Answer.Refused r)
+  bad_told n = record { good = n; done = λ f. absurd (subst IsDone (sym f) tt) }

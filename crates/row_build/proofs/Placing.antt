@@ -95,15 +95,15 @@ module _ {s : List ℕ} {l : RowLayout} {list area : List ℕ} (b : Buildable s 
         few-counts m = rw (length-is, many, le-ltb (row_limit l.is_long) n h, le-ltb (length out) n k, lt-ltb (length counts) l.num_columns m) at whole
 
         module _ {first : List ℕ} (e : first ≡ sets out 0 (null_row l)) where
-          least-row : length (null_row l) ≤ length out
-          least-row = rw length-null-row (omega (arith, least))
+          least_row : length (null_row l) ≤ length out
+          least_row = rw length-null-row (omega (arith, least))
 
           pub fillable : Fillable s l list area first
           fillable =
               record {
                 given = b;
                 all = cells-good;
-                nulls = e ∙ sets_again out (null_row l) least-row ∙ ap (λ (z : List ℕ). sets z 0 (null_row l)) (sym e) ∙ ap (sets first 0) (accepted-nulls b.accepted);
+                nulls = e ∙ sets_again out (null_row l) least_row ∙ ap (λ (z : List ℕ). sets z 0 (null_row l)) (sym e) ∙ ap (sets first 0) (accepted-nulls b.accepted);
                 room = rw (length-is, e, length-sets) k;
                 short = rw length-is h;
               }
@@ -111,6 +111,6 @@ module _ {s : List ℕ} {l : RowLayout} {list area : List ℕ} (b : Buildable s 
           pub row-placed : l.num_columns ≤ length counts → {last numbers : List ℕ} → last ≡ sets first 0 (row_given l.is_long s list area) → numbers ≡ sets counts 0 (counts_given s list area)
               → (Answer.Done n, (last, numbers)) ≡ call
           row-placed m {last} f g =
-              let same = f ∙ ap (λ (z : List ℕ). sets z 0 (row_given l.is_long s list area)) e ∙ sets_longer out (null_row l) (row_given l.is_long s list area) least-row (rw (length-null-row, length-is) least) in
+              let same = f ∙ ap (λ (z : List ℕ). sets z 0 (row_given l.is_long s list area)) e ∙ sets_longer out (null_row l) (row_given l.is_long s list area) least_row (rw (length-null-row, length-is) least) in
               ap (λ (z : List ℕ). (Answer.Done n, (last, z))) g ∙ ap (λ (z : List ℕ). (Answer.Done n, (z, sets counts 0 (counts_given s list area)))) same
               ∙ rw (length-is, many, le-ltb (row_limit l.is_long) n h, le-ltb (length out) n k, le-ltb (length counts) l.num_columns m) at whole

@@ -11,14 +11,14 @@ use Rattle.error.specs.declared.Refusal.TheVariants.{BadSchema}
 use Rattle.error.specs.Result.{ok, refused}
 use Rattle.laws.proofs.Truths.{cases}
 use Rattle.row_format.specs.Places.{minimum, offset_width, row_limit}
-use Rattle.row_format.proofs.Sizes.{packed-least}
+use Rattle.row_format.proofs.Sizes.{packed_least}
 use Rattle.datatype.specs.declared.DataType.{DataType}
 use Rattle.datatype.specs.declared.Record.{Record}
 use Rattle.datatype.specs.declared.Record.TheVariants.{Column, Refused}
 use Rattle.datatype.specs.Types.{shape_of}
 use Rattle.datatype.specs.Schema.{Parsed, column_records, limited, schema_of, column_record_at}
 use Rattle.datatype.proofs.Again.{all_aligned}
-use Rattle.datatype.proofs.Walk.{none_left, some_left, not_refused, first-left}
+use Rattle.datatype.proofs.Walk.{none_left, some_left, not_refused, first_left}
 
 -- ---- an accepted schema: its rows are within the limit, and its columns are at most 256
 
@@ -47,7 +47,7 @@ more_types : (m : ℕ) (s : List ℕ) (at : ℕ) (ts : List DataType) (q : Recor
     → ((next : ℕ) (us : List DataType) → column_records m s next ≡ ok us → length us ≤ m) → length ts ≤ suc m
 more_types m s at ts (Refused u) f h g rest = absurd (not_refused s at (suc m) g h f)
 more_types m s at ts (Column t next) f h g rest =
-    let p = first-left s at (suc m) g h m refl f in
+    let p = first_left s at (suc m) g h m refl f in
     let k = rest next p.tail p.ahead in
     rw p.split (omega (arith, k))
 
@@ -64,7 +64,7 @@ module _ (k : Bool) (s : List ℕ) {ts : List DataType} (f : schema_of k s ≡ o
   schema-records = of_schema.all
 
   pub schema-minimum : minimum (offset_width k) true (map shape_of ts) ≤ row_limit k
-  schema-minimum = omega (arith, of_schema.padded, packed-least (offset_width k) (all_aligned ts))
+  schema-minimum = omega (arith, of_schema.padded, packed_least (offset_width k) (all_aligned ts))
 
   pub schema-few : length ts ≤ 256
   schema-few = few_types 256 s 0 ts schema-records

@@ -17,13 +17,13 @@ use Rattle.datatype.specs.declared.Record.TheVariants.{Column}
 use Rattle.datatype.specs.Schema.{column_record_at, column_records}
 use Rattle.datatype.specs.Check.{type_at, types_in}
 use Rattle.datatype.proofs.Records.{few-digits}
-use Rattle.datatype.proofs.Walk.{First, none_left, some_left, not_refused, first-left}
+use Rattle.datatype.proofs.Walk.{First, none_left, some_left, not_refused, first_left}
 use Rattle.value.specs.declared.DataValue.{DataValue}
 use Rattle.value.specs.declared.DataValue.TheVariants.{Null}
 use Rattle.value_list.specs.declared.ValueRecord.{ValueRecord}
 use Rattle.value_list.specs.declared.ValueRecord.TheVariants as Value
 use Rattle.value_list.specs.Lists.{records as valueRecords, values_of}
-use Rattle.value_list.proofs.Lists.{First as FirstValue, records-first}
+use Rattle.value_list.proofs.Lists.{First as FirstValue, records_first}
 use Rattle.record_slot.specs.InnerSteps.{Given, Readable, ReadAt, value_in}
 use Rattle.row_build.specs.InnerSteps.{values_in, Buildable}
 
@@ -53,7 +53,7 @@ module _ {s : List ℕ} {i at : ℕ} (w : Columns s i at) (h : i < length (types
 
   module _ {t : DataType} {next : ℕ} (e : column_record_at s at ≡ Column t next) where
     first : First (256 - (i + 1)) s next t (drop i types)
-    first = first-left s at (256 - i) w.columns column_there (256 - (i + 1)) (omega (arith, few)) e
+    first = first_left s at (256 - i) w.columns column_there (256 - (i + 1)) (omega (arith, few)) e
 
     split : t ∷ first.tail ≡ type_at types i ∷ drop (i + 1) types
     split = sym first.split ∙ rw (add-one i) (drop-cons types i (T.Varchar false 0) h)
@@ -92,7 +92,7 @@ record Left (list : List ℕ) (from : ℕ) (v : DataValue) (vs : List DataValue)
 
 some-value : (fuel : ℕ) (list : List ℕ) (from : ℕ) {v : DataValue} {vs : List DataValue} → valueRecords fuel list from ≡ ok (v ∷ vs) → Left list from v vs
 some-value zero list from e = absurd (nothing_left e)
-some-value (suc n) list from e = record { fuel = n; first = records-first n list from e }
+some-value (suc n) list from e = record { fuel = n; first = records_first n list from e }
 
 module _ {s : List ℕ} {l : RowLayout} {list area : List ℕ} (b : Buildable s l list area) {i at from : ℕ} (w : Together s list i at from) (h : i < length (types_in s)) where
   abbrev ts : List DataType

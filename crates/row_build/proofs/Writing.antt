@@ -47,7 +47,7 @@ row_up_to k s list area i = built_row (offset_width k) (packed_marks k) (map sha
 pub record Writing (s : List ℕ) (l : RowLayout) (list area out₀ out : List ℕ) (i at from slot entry end : ℕ) : Type 0 where
   pub walk : Together s list i at from
   pub slot_is : slot ≡ fixed_start (offset_width l.is_long) l.num_columns l.num_varlen_cols + (layout_before (types_in s) i).packed_size
-  pub entry-is : entry ≡ table_start l.num_columns + (layout_before (types_in s) i).num_varlen_cols * offset_width l.is_long
+  pub entry_is : entry ≡ table_start l.num_columns + (layout_before (types_in s) i).num_varlen_cols * offset_width l.is_long
   pub written : out ≡ sets out₀ 0 (row_up_to l.is_long s list area i)
   pub end_is : end ≡ length (row_up_to l.is_long s list area i)
 
@@ -107,22 +107,22 @@ module _ {s : List ℕ} {l : RowLayout} {list area out₀ : List ℕ} (f : Filla
   start-row : row_up_to l.is_long s list area 0 ≡ fresh_row l.is_long ts
   start-row = ap (built_row (offset_width l.is_long) (packed_marks l.is_long) ss) (up_to_start cs ∙ rw (forall_length fit, length-map ts shape_of))
 
-  pub write-start : Writing s l list area out₀ out₀ 0 0 0 (fixed_start (offset_width l.is_long) l.num_columns l.num_varlen_cols) (table_start l.num_columns) (minimum_of l true)
-  write-start =
+  pub write_start : Writing s l list area out₀ out₀ 0 0 0 (fixed_start (offset_width l.is_long) l.num_columns l.num_varlen_cols) (table_start l.num_columns) (minimum_of l true)
+  write_start =
       record {
         walk = together-start f.given;
         slot_is = omega arith;
-        entry-is = omega arith;
+        entry_is = omega arith;
         written = f.nulls ∙ ap (sets out₀ 0) (sym start-row);
         end_is = minimum-is ∙ sym (length-fresh (offset_width l.is_long) (packed_marks l.is_long) ss) ∙ ap length (rw (← length-map ts shape_of) at (sym start-row));
       }
 
   module _ {out : List ℕ} {i at from slot entry end : ℕ} (k : Writing s l list area out₀ out i at from slot entry end) where
-    pub write-size : length out ≡ length out₀
-    write-size = rw (k.written, length-sets)
+    pub write_size : length out ≡ length out₀
+    write_size = rw (k.written, length-sets)
 
-    pub write-end : l.num_columns ≤ i → out ≡ sets out₀ 0 (row_given l.is_long s list area)
-    write-end h =
+    pub write_end : l.num_columns ≤ i → out ≡ sets out₀ 0 (row_given l.is_long s list area)
+    write_end h =
         let n : i ≡ length cs = rw (forall_length fit, length-map ts shape_of) (omega (arith, k.walk.side.within, columns-all f.given.accepted)) in
         k.written ∙ ap (λ (ds : List Cell). sets out₀ 0 (built_row (offset_width l.is_long) (packed_marks l.is_long) ss ds)) (ap (λ (j : ℕ). up_to j cs) n ∙ up_to_end cs)
 
@@ -141,7 +141,7 @@ module _ {s : List ℕ} {l : RowLayout} {list area out₀ : List ℕ} (f : Filla
       slot_at = k.slot_is ∙ rw (columns_are, varlens_are, start_is)
 
       entry_at : entry ≡ table_start (length ss) + rank_of ss i * offset_width l.is_long
-      entry_at = k.entry-is ∙ rw (columns_are, rank_is)
+      entry_at = k.entry_is ∙ rw (columns_are, rank_is)
 
       shape_is : get_or ss i Varlen ≡ shape_of g.ty
       shape_is = at_map shape_of i ts (T.Varchar false 0) ∙ ap shape_of (sym (type_given f.given k.walk h r))
@@ -168,8 +168,8 @@ module _ {s : List ℕ} {l : RowLayout} {list area out₀ : List ℕ} (f : Filla
       rank-next = ap (λ (q : RowLayout). q.num_varlen_cols * offset_width l.is_long) next-layout ∙ rank-more l.is_long (layout_before ts i) g.ty
 
       -- far from the machine's limit
-      pub write-places : (slot + size_of g.ty ≤ 40000000) × (entry ≤ 40000000)
-      write-places =
+      pub write_places : (slot + size_of g.ty ≤ 40000000) × (entry ≤ 40000000)
+      write_places =
           let b = f.given.accepted.bounded in
           let e = f.given.accepted.layout in
           let u = rw e at (grown l.is_long ts (i + 1) (omega (arith, h))) in
@@ -177,7 +177,7 @@ module _ {s : List ℕ} {l : RowLayout} {list area out₀ : List ℕ} (f : Filla
           let few : l.num_varlen_cols ≤ 256 = omega (arith, b.few, b.ranked) in
           let x = table-le l.is_long l.num_varlen_cols few in
           let y = table-le l.is_long (layout_before ts i).num_varlen_cols (omega (arith, v.varlens, few)) in
-          (rw k.slot_is (omega (arith, packed-next, u.packed, b.few, b.tight, x)), rw k.entry-is (omega (arith, b.few, y)))
+          (rw k.slot_is (omega (arith, packed-next, u.packed, b.few, b.tight, x)), rw k.entry_is (omega (arith, b.few, y)))
 
       -- ---- the stores
 
@@ -208,14 +208,14 @@ module _ {s : List ℕ} {l : RowLayout} {list area out₀ : List ℕ} (f : Filla
             by_shape true v p = varlen e v (ap (λ (z : ℕ × List ℕ). z.0) p) (ap (λ (z : ℕ × List ℕ). z.1) p)
             by_shape false v p = fixed e v (ap (λ (z : ℕ × List ℕ). z.0) p) (ap (λ (z : ℕ × List ℕ). z.1) p)
 
-        pub write-more : (res, out') ≡ column_stored l.is_long i slot entry g.ty g.value form end out
+        pub write_more : (res, out') ≡ column_stored l.is_long i slot entry g.ty g.value form end out
             → Writing s l list area out₀ out' (i + 1) g.next_type g.next-value (slot + size_of g.ty) (entry + cond (is_varlen g.ty) (offset_width l.is_long) 0) res
-        write-more o =
+        write_more o =
             let p = stepped (get_or cs i none) refl write_cell o in
             record {
               walk = together-next f.given k.walk h r;
               slot_is = rw k.slot_is (omega (arith, packed-next));
-              entry-is = rw k.entry-is (omega (arith, rank-next));
+              entry_is = rw k.entry_is (omega (arith, rank-next));
               written = rw (add-one i) p.0;
               end_is = rw (add-one i) p.1;
             }
@@ -223,7 +223,7 @@ module _ {s : List ℕ} {l : RowLayout} {list area out₀ : List ℕ} (f : Filla
       -- ---- there is room for them
 
       long : minimum (offset_width l.is_long) true ss ≤ length out
-      long = rw write-size (omega (arith, f.room, length-row (offset_width l.is_long) (header (packed_marks l.is_long) ss) (length-header (packed_marks l.is_long) ss) fit (slots_fit fit)))
+      long = rw write_size (omega (arith, f.room, length-row (offset_width l.is_long) (header (packed_marks l.is_long) ss) (length-header (packed_marks l.is_long) ss) fit (slots_fit fit)))
 
       payload-end : get_or cs i none ≡ some form → is_varlen g.ty ≡ true → end + length form ≤ length (row_given l.is_long s list area)
       payload-end e v = rw k.end_is (omega (arith, built-le (offset_width l.is_long) (packed_marks l.is_long) fit (suc i), length-built_varlen (offset_width l.is_long) (packed_marks l.is_long) fit i inside form e (varlen_is v)))
@@ -245,7 +245,7 @@ module _ {s : List ℕ} {l : RowLayout} {list area out₀ : List ℕ} (f : Filla
             suited = a;
             slot_in = λ v. rw slot_at (omega (arith, long, rw (ap slot_size (fixed-is v)) at (packed-inside ss i inside)));
             entry_in = λ v. rw entry_at (omega (arith, entry_more l.is_long (rank_of ss i), entry_in l.is_long (table_start (length ss)) (varlens ss) (rank_of ss i) (length out) (rank-inside ss i inside (varlen_is v)) (omega (arith, long))));
-            payload = λ v. rw write-size (omega (arith, f.room, payload-end e v));
+            payload = λ v. rw write_size (omega (arith, f.room, payload-end e v));
             end_fits = by_shape (is_varlen g.ty) refl;
           }
         where
@@ -253,5 +253,5 @@ module _ {s : List ℕ} {l : RowLayout} {list area out₀ : List ℕ} (f : Filla
           by_shape true v = omega (arith, f.short, payload-end e v)
           by_shape false v = omega (arith, end-small)
 
-      pub write-room : is_null g.value ≡ false → Storable l.is_long l.num_columns i slot entry g.ty g.value area end (length out)
-      write-room = room_for (get_or cs i none) refl write_cell
+      pub write_room : is_null g.value ≡ false → Storable l.is_long l.num_columns i slot entry g.ty g.value area end (length out)
+      write_room = room_for (get_or cs i none) refl write_cell

@@ -16,7 +16,7 @@ use Rattle.laws.proofs.Parts.{part_same}
 use Rattle.laws.proofs.Truths.{cases, by_cond}
 use Rattle.row_format.specs.Places.{varlens, rank_of, bitmap_start, table_start, slot_place, minimum, offset_width, row_limit}
 use Rattle.row_format.specs.Table.{first_offset, range_end}
-use Rattle.row_format.proofs.Table.{first-zero, first_some, first-none}
+use Rattle.row_format.proofs.Table.{first_zero, first_some, first_none}
 use Rattle.row_layout.specs.declared.VarlenRange.{VarlenRange}
 use Rattle.row_layout.specs.declared.VarlenRange.TheVariants as Range
 use Rattle.row_layout.specs.Range.{varlen_range}
@@ -53,8 +53,8 @@ module _ (w table v k : ℕ) (r r' : List ℕ) where
   same_at : (j o : ℕ) → j < v → o ≡ entry_at w table j r → o ≡ entry_at w table j r'
       → (o ≡ 0 → from r (j + 1) ≡ from r' (j + 1)) → from r j ≡ from r' j
   same_at j zero h a b more =
-      sym (first-zero w table v j (length r) 0 r h a refl) ∙ more refl
-      ∙ first-zero w table v j (length r) 0 r' h b refl
+      sym (first_zero w table v j (length r) 0 r h a refl) ∙ more refl
+      ∙ first_zero w table v j (length r) 0 r' h b refl
   same_at j (suc o) h a b more =
       sym (first_some w table v j (length r) (suc o) r h a (λ f. omega arith))
       ∙ first_some w table v j (length r) (suc o) r' h b (λ f. omega arith)
@@ -63,7 +63,7 @@ module _ (w table v k : ℕ) (r r' : List ℕ) where
     -- the n offsets from j on
     same_from : (n j : ℕ) → j + n ≡ v → k < j → Zeros w table k j r → from r j ≡ from r' j
     same_from zero j e h z =
-        sym (first-none w table v j (length r) r (omega arith)) ∙ first-none w table v j (length r) r' (omega arith)
+        sym (first_none w table v j (length r) r (omega arith)) ∙ first_none w table v j (length r) r' (omega arith)
     same_from (suc n) j e h z =
         let l : j < v = omega arith in
         same_at j (entry_at w table j r) l refl (s.higher j (omega arith) l z)
@@ -73,8 +73,8 @@ module _ (w table v k : ℕ) (r r' : List ℕ) where
     unfolding range_end
     same_end =
         cases k v (λ h. same_from (v - suc k) (suc k) (omega arith) (omega arith) (λ i a b. absurd (omega arith)))
-        (λ h. sym (first-none w table v (suc k) (length r) r (omega arith))
-        ∙ first-none w table v (suc k) (length r) r' (omega arith))
+        (λ h. sym (first_none w table v (suc k) (length r) r (omega arith))
+        ∙ first_none w table v (suc k) (length r) r' (omega arith))
         ∙ ap (first_offset (drop (suc k) (from_table w v (drop table r')))) s.size
 
   same-range : SameVarchar w table v k r r' → varlen_range w table v k r ≡ varlen_range w table v k r'

@@ -39,14 +39,14 @@ pub minimum_walked : (k : Bool) (ts : List DataType) (p : Bool) → minimum (off
     ≡ minimum_of (layout_for k ts) p
 minimum_walked k ts p = sym (layout-minimum k (map shape_of ts) p)
 
-least-same : (k : Bool) (n v : ℕ) (f g : Bool → ℕ) (r : List ℕ) → f (is_packed r) ≡ g (is_packed r)
+least_same : (k : Bool) (n v : ℕ) (f g : Bool → ℕ) (r : List ℕ) → f (is_packed r) ≡ g (is_packed r)
     → frame_with k n v f r ≡ frame_with k n v g r
-least-same k n v f g r e = rw e
+least_same k n v f g r e = rw e
 
 frame_same : (k : Bool) (ts : List DataType) (r : List ℕ) → frame_of k ts r ≡ walked_frame (layout_for k ts) r
 frame_same k ts r =
     let v : ℕ = varlens (map shape_of ts) in
-    least-same k (length ts) v (λ p. minimum (offset_width k) p (map shape_of ts)) (minimum_of (layout_for k ts)) r
+    least_same k (length ts) v (λ p. minimum (offset_width k) p (map shape_of ts)) (minimum_of (layout_for k ts)) r
     (minimum_walked k ts (is_packed r))
     ∙ ap (λ (n : ℕ). frame_with k n v (minimum_of (layout_for k ts)) r) (sym (length-map ts shape_of))
 

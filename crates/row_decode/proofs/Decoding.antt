@@ -44,9 +44,9 @@ abbrev prepend : List DataValue → Values → Values
 prepend vs (ok ws) = ok (vs ++ ws)
 prepend vs (refused e) = refused e
 
-prepend-next : (vs : List DataValue) (v : DataValue) (ws : Values) → prepend (vs ++ (v ∷ [])) ws ≡ prepend vs (before v ws)
-prepend-next vs v (ok ws) = ap ok (append_assoc vs (v ∷ []) ws)
-prepend-next vs v (refused e) = refl
+prepend_next : (vs : List DataValue) (v : DataValue) (ws : Values) → prepend (vs ++ (v ∷ [])) ws ≡ prepend vs (before v ws)
+prepend_next vs v (ok ws) = ap ok (append_assoc vs (v ∷ []) ws)
+prepend_next vs v (refused e) = refl
 
 list-append : (k : Bool) (vs ws : List DataValue) → list_of k (vs ++ ws) ≡ list_of k vs ++ list_of k ws
 list-append k [] ws = refl
@@ -150,7 +150,7 @@ module _ {s : List ℕ} {l : RowLayout} {p : Bool} {r marks buf₀ points₀ buf
               record {
                 walk = ahead_more k.walk h e small;
                 done = k.done ++ (v ∷ []);
-                rest = prepend-next k.done v (walked_read l p (is_marked marks) r (with_column b (shape_of t)) (drop (b.num_columns + 1) (types_in s))) ∙ rw (split, i) at k.rest;
+                rest = prepend_next k.done v (walked_read l p (is_marked marks) r (with_column b (shape_of t)) (drop (b.num_columns + 1) (types_in s))) ∙ rw (split, i) at k.rest;
                 written = c ∙ rw (k.written, k.so_far, list-one, sets-append, zero-add);
                 so_far = rw (o, k.so_far, list-one, length-append);
                 few = rw o (omega (arith, k.few, record_short l.is_long v));

@@ -29,13 +29,13 @@ one_step : (m : List ℕ) (w i : ℕ) (t b : Bool) → eqb w i ≡ b → i < len
 one_step m w i t true e h = rw (eqb-true w i e, get_or-set_same m i 1 0 h) (already t)
 one_step m w i t false e h = rw (get_or-set_other m w i 1 0 (λ f. eqb-false w i e (sym f)))
 
-marked-at : (m ws : List ℕ) (i : ℕ) → i < length m → get_or (marked m ws) i 0 ≡ cond (is_wanted ws i) 1 (get_or m i 0)
-marked-at m [] i h = refl
-marked-at m (w ∷ ws) i h = marked-at (set m w 1) ws i (rw length-set h) ∙ one_step m w i (is_wanted ws i) (eqb w i) refl h
+marked_at : (m ws : List ℕ) (i : ℕ) → i < length m → get_or (marked m ws) i 0 ≡ cond (is_wanted ws i) 1 (get_or m i 0)
+marked_at m [] i h = refl
+marked_at m (w ∷ ws) i h = marked_at (set m w 1) ws i (rw length-set h) ∙ one_step m w i (is_wanted ws i) (eqb w i) refl h
 
 told : (t : Bool) → eqb (cond t 1 0) 1 ≡ t
 told true = refl
 told false = refl
 
 pub marks_tell : (n : ℕ) (ws : List ℕ) (i : ℕ) → i < n → is_marked (marked (replicate n 0) ws) i ≡ is_wanted ws i
-marks_tell n ws i h = rw (marked-at (replicate n 0) ws i (rw (length-replicate {A = ℕ} n 0) h), get_or-replicate {A = ℕ} n i 0 0 h) (told (is_wanted ws i))
+marks_tell n ws i h = rw (marked_at (replicate n 0) ws i (rw (length-replicate {A = ℕ} n 0) h), get_or-replicate {A = ℕ} n i 0 0 h) (told (is_wanted ws i))

@@ -76,8 +76,8 @@ module _ (k : Bool) (t : DataType) (i : ℕ) (list area : List ℕ) where
   given-none e = ap (λ (q : Values). on_result q refused (λ vs. stored_in i t (get_or vs 0 Null) area)) e
 
 module _ (i : ℕ) (t : DataType) (v : DataValue) (area : List ℕ) where
-  pub kind-bad : matches t v ≡ false → stored_in i t v area ≡ refused (WrongKind i)
-  kind-bad e = rw e
+  pub kind_bad : matches t v ≡ false → stored_in i t v area ≡ refused (WrongKind i)
+  kind_bad e = rw e
 
   pub suit_bad : matches t v ≡ true → accepted t v area ≡ false → stored_in i t v area ≡ refused (Unsuitable i)
   suit_bad e f = rw (e, f)

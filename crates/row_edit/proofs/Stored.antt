@@ -41,22 +41,22 @@ module _ {s : List ℕ} {l : RowLayout} {p : Bool} {buf : List ℕ} {n i : ℕ} 
 
   -- a fixed column has no range
   module _ (fixed : is_varlen c.ty ≡ false) where
-    no-range : is_varlen c.ty ≡ true → RangeAt l c.before (take n buf) 0 0
-    no-range v = absurd (false≢true (sym fixed ∙ v))
+    no_range : is_varlen c.ty ≡ true → RangeAt l c.before (take n buf) 0 0
+    no_range v = absurd (false≢true (sym fixed ∙ v))
 
     pub fixed_ready : (z : ℕ) → Editable l p c.before c.ty (change n 0 0 z) buf
-    fixed_ready z = ready o f 0 0 no-range z (λ v. absurd (false≢true (sym fixed ∙ v)))
+    fixed_ready z = ready o f 0 0 no_range z (λ v. absurd (false≢true (sym fixed ∙ v)))
 
     pub fixed-done : {v : DataValue} {area q : List ℕ} {m : ℕ} → Suited c.ty v area → Holds buf (after 0 0 (some (form_of c.ty v area))) q m
         → (Done m, q) ≡ row_placed l.is_long buf (changed (some (form_of c.ty v area)))
     fixed-done {v} {area} {q} {m} t h =
         let x = some (form_of c.ty v area) in
-        let k : length (after 0 0 x) ≡ n = length-fixed o f 0 0 no-range fixed (form_of c.ty v area) (length-slot t fixed) in
-        subst (λ (r : List ℕ). (Done m, q) ≡ row_placed l.is_long buf r) (edited-is o f 0 0 no-range x) (placing buf (after 0 0 x) l.is_long q m h (rw k row_limit_lem) (rw k o.inside))
+        let k : length (after 0 0 x) ≡ n = length-fixed o f 0 0 no_range fixed (form_of c.ty v area) (length-slot t fixed) in
+        subst (λ (r : List ℕ). (Done m, q) ≡ row_placed l.is_long buf r) (edited-is o f 0 0 no_range x) (placing buf (after 0 0 x) l.is_long q m h (rw k row_limit_lem) (rw k o.inside))
 
     pub fixed-null : {q : List ℕ} {m : ℕ} → Holds buf (after 0 0 none) q m → (Done m, q) ≡ row_stored buf (changed none)
     fixed-null {q} {m} h =
-        subst (λ (r : List ℕ). (Done m, q) ≡ row_stored buf r) (edited-is o f 0 0 no-range none) (holding buf (after 0 0 none) q m h (rw (length-null o f 0 0 no-range fixed) o.inside))
+        subst (λ (r : List ℕ). (Done m, q) ≡ row_stored buf r) (edited-is o f 0 0 no_range none) (holding buf (after 0 0 none) q m h (rw (length-null o f 0 0 no_range fixed) o.inside))
 
   -- a Varchar's range goes from a to e
   module _ (varlen : is_varlen c.ty ≡ true) {a e : ℕ} (g : RangeAt l c.before (take n buf) a e) where

@@ -11,7 +11,7 @@ use lib.ListN.{length, get_or, take, drop, set, replicate, length-append, length
 use lib.Seq.{sets, set_at, length-sets, length-take-le, drop-length, drop-drop, set-get_or, take-append-le, drop-append-le, set-append_left}
 use Rattle.laws.specs.Bytes.{to_le, to_table, concat}
 use Rattle.laws.specs.InnerForall.{Forall₂, nil, cons}
-use Rattle.laws.proofs.Bytes.{length-to_le, length-to_table, to_table-append, sets-at}
+use Rattle.laws.proofs.Bytes.{length-to_le, length-to_table, to_table-append, sets_at}
 use Rattle.laws.proofs.Forall.{forall_length, forall_get}
 use Rattle.laws.proofs.Stores.{sets-splice, sets-left, sets_end, sets-start}
 use Rattle.row_format.specs.declared.Shape.{Shape}
@@ -56,7 +56,7 @@ module _ (w : ℕ) (front region : List ℕ) (us : List Cell) (m : ℕ) where
   null-given n b l =
       let at : length head ≡ length front + length us * w = rw (length-append, length-to_table, length-offsets) in
       let e : bottom + length (payloads us) ≡ n = rw (length-lay, length-append, length-replicate, payloads-append, payloads-nulls, append-nil) at l in
-      rw (row_parts none, row_parts (some b), ← e, append-nil) (ap (λ (x : List ℕ). x ++ b) (sets-at head (to_le w 0) rest (to_le w (bottom + length (payloads us))) (length front + length us * w) at (simp length-to_le)) ∙ simp append_assoc)
+      rw (row_parts none, row_parts (some b), ← e, append-nil) (ap (λ (x : List ℕ). x ++ b) (sets_at head (to_le w 0) rest (to_le w (bottom + length (payloads us))) (length front + length us * w) at (simp length-to_le)) ∙ simp append_assoc)
 
 -- the same at a rank k from which on all cells are null
 lay-next : (w : ℕ) (front region : List ℕ) (cs : List Cell) (k m n : ℕ) (b : List ℕ) → k ≤ length cs → drop k cs ≡ replicate (suc m) none → length (lay w front region cs) ≡ n

@@ -34,11 +34,11 @@ abbrev pub cell_at : ℕ → List Shape → ℕ → List ℕ → Cell
 cell_at w ss i r = unless_null (bit_at i (drop bitmap_start r)) (column_bytes w ss i (get_or ss i Varlen) r)
 
 -- slots that agree with the cells, at a column
-zeroed-at : {ss : List Shape} {cs : List Cell} {bs : List (List ℕ)} (i : ℕ) → Forall₂ FitsCell ss cs → Forall₂ FitsSlot ss bs → i < length ss
+zeroed_at : {ss : List Shape} {cs : List Cell} {bs : List (List ℕ)} (i : ℕ) → Forall₂ FitsCell ss cs → Forall₂ FitsSlot ss bs → i < length ss
     → get_or (slots_zeroed ss cs bs) i [] ≡ zeroed_slot (null_bit (get_or cs i none)) (slot_size (get_or ss i Varlen)) (get_or bs i [])
-zeroed-at i nil nil h = absurd (omega arith)
-zeroed-at zero (cons q f) (cons r e) h = refl
-zeroed-at (suc i) (cons q f) (cons r e) h = zeroed-at i f e (omega arith)
+zeroed_at i nil nil h = absurd (omega arith)
+zeroed_at zero (cons q f) (cons r e) h = refl
+zeroed_at (suc i) (cons q f) (cons r e) h = zeroed_at i f e (omega arith)
 
 pub slots_at : {ss : List Shape} {cs : List Cell} (i : ℕ) → Forall₂ FitsCell ss cs → i < length ss → get_or (slots_of ss cs) i [] ≡ slot_of (get_or ss i Varlen) (get_or cs i none)
 slots_at i nil h = absurd (omega arith)
@@ -52,15 +52,15 @@ get_d_any (x ∷ l) (suc i) c d h = get_d_any l i c d (omega arith)
 
 module _ (w : ℕ) (head : List ℕ) (four : length head ≡ 4) {ss : List Shape} {cs : List Cell} {bs : List (List ℕ)} (cells : Forall₂ FitsCell ss cs) (slots : Forall₂ FitsSlot ss bs) (agree : Agree ss cs bs) (i : ℕ) (h : i < length ss) (fits : length (row_with w head ss cs bs) < 256 ^ w) where
   slot-some : (z a : ℕ) (b : List ℕ) → get_or ss i Varlen ≡ Fixed z a → get_or cs i none ≡ some b → get_or bs i [] ≡ b
-  slot-some z a b s e = rw (e, s) at (sym (zeroed-at i cells slots h) ∙ ap (λ (l : List (List ℕ)). get_or l i []) agree ∙ slots_at i cells h)
+  slot-some z a b s e = rw (e, s) at (sym (zeroed_at i cells slots h) ∙ ap (λ (l : List (List ℕ)). get_or l i []) agree ∙ slots_at i cells h)
 
-  bytes-at : (s : Shape) → get_or ss i Varlen ≡ s → (b : List ℕ) → get_or cs i none ≡ some b → column_bytes w ss i s (row_with w head ss cs bs) ≡ b
-  bytes-at (Fixed z a) s b e = rw (ap slot_size s) at (slot_row w head four cells slots i h) ∙ slot-some z a b s e
-  bytes-at Varlen s b e = range-row w head four cells slots i h s fits b e
+  bytes_at : (s : Shape) → get_or ss i Varlen ≡ s → (b : List ℕ) → get_or cs i none ≡ some b → column_bytes w ss i s (row_with w head ss cs bs) ≡ b
+  bytes_at (Fixed z a) s b e = rw (ap slot_size s) at (slot_row w head four cells slots i h) ∙ slot-some z a b s e
+  bytes_at Varlen s b e = range-row w head four cells slots i h s fits b e
 
   cell_at_lem : (c : Cell) → get_or cs i none ≡ c → unless_null (null_bit c) (column_bytes w ss i (get_or ss i Varlen) (row_with w head ss cs bs)) ≡ c
   cell_at_lem none e = refl
-  cell_at_lem (some b) e = ap some (bytes-at (get_or ss i Varlen) refl b e)
+  cell_at_lem (some b) e = ap some (bytes_at (get_or ss i Varlen) refl b e)
 
   pub cell_row : cell_at w ss i (row_with w head ss cs bs) ≡ get_or cs i none
   cell_row = rw (bit-row w head four cells slots i h, get_d_any cs i (some []) none (rw (forall_length cells) h)) (cell_at_lem (get_or cs i none) refl)

@@ -18,7 +18,7 @@ use Rattle.row_format.specs.Places.{varlens, rank_of, slot_start, bitmap_size, t
 use Rattle.row_format.specs.Table.{Cell, bytes, payloads, offset, offsets, base, lay, or_else, range_end}
 use Rattle.row_format.specs.Row.{null_bit}
 use Rattle.row_format.specs.Edit.{offset_table, span, moved_by, moved_offsets, range_start, range_edit, varlen_edit, slot_edit, bit_edit, column_edit, edited_row}
-use Rattle.row_format.proofs.Table.{payloads-append, length-offsets, offsets-append, place, table_cut, entry-lay, end-lay, drop_past}
+use Rattle.row_format.proofs.Table.{payloads-append, length-offsets, offsets-append, place, table_cut, entry_lay, end-lay, drop_past}
 use Rattle.row_format.proofs.Places.{rank-inside}
 use Rattle.row_format.specs.InnerRow.{FitsCell}
 
@@ -90,7 +90,7 @@ module _ (w : ℕ) (front region : List ℕ) (us vs : List Cell) where
 module _ (w : ℕ) (front region : List ℕ) (pos : 0 < length front) where
   pub start-lay : (cs : List Cell) (k : ℕ) → k < length cs → length (lay w front region cs) < 256 ^ w → range_start w (length front) (length cs) k (lay w front region cs) ≡ place w front region pos cs k
   unfolding range_start
-  start-lay cs k h fits = rw (entry-lay w front region pos cs k h fits, end-lay w front region pos cs k h fits) (or_offset (get_or cs k none) (place w front region pos cs k) (omega arith))
+  start-lay cs k h fits = rw (entry_lay w front region pos cs k h fits, end-lay w front region pos cs k h fits) (or_offset (get_or cs k none) (place w front region pos cs k) (omega arith))
 
   -- the edit of rank k is the row of the changed cells
   pub lay_edit : (c : Cell) (cs : List Cell) (k : ℕ) → k < length cs → length (lay w front region cs) < 256 ^ w → varlen_edit w (length front) (length cs) k c (lay w front region cs) ≡ lay w front region (set cs k c)

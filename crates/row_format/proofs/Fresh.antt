@@ -59,10 +59,10 @@ table-zero : (w v : ℕ) → to_table w (replicate v 0) ≡ replicate (v * w) 0
 table-zero w zero = let e : 0 * w ≡ 0 = omega arith in rw e
 table-zero w (suc v) = let e : suc v * w ≡ w + v * w = omega arith in rw (e, le-zero w, table-zero w v, replicate-append-replicate)
 
-slots-zero : (ss : List Shape) → concat (slots_of ss (nulls ss)) ≡ replicate (fixed_size true ss) 0
-slots-zero [] = refl
-slots-zero (Fixed z a ∷ ss) = rw (packed-cons (Fixed z a) ss, slots-zero ss, replicate-append-replicate)
-slots-zero (Varlen ∷ ss) = slots-zero ss
+slots_zero : (ss : List Shape) → concat (slots_of ss (nulls ss)) ≡ replicate (fixed_size true ss) 0
+slots_zero [] = refl
+slots_zero (Fixed z a ∷ ss) = rw (packed-cons (Fixed z a) ss, slots_zero ss, replicate-append-replicate)
+slots_zero (Varlen ∷ ss) = slots_zero ss
 
 -- ---- the bitmap
 
@@ -102,7 +102,7 @@ bitmap-nulls n =
 pub fresh-row : (w marks : ℕ) (ss : List Shape) → built_row w marks ss (nulls ss) ≡ header marks ss ++ (set_bits (length ss) ++ replicate (varlens ss * w + fixed_size true ss) 0)
 unfolding row_with lay
 fresh-row w marks ss =
-    rw (bitmap-nulls, varlens-nulls, offsets-nulls, payloads-nulls, table-zero, slots-zero, append-nil, replicate-append-replicate) (simp append_assoc)
+    rw (bitmap-nulls, varlens-nulls, offsets-nulls, payloads-nulls, table-zero, slots_zero, append-nil, replicate-append-replicate) (simp append_assoc)
 
 pub length-fresh : (w marks : ℕ) (ss : List Shape) → length (built_row w marks ss (nulls ss)) ≡ minimum w true ss
 length-fresh w marks ss = length-row w (header marks ss) (length-header marks ss) (nulls_fit ss) (slots_fit (nulls_fit ss)) ∙ rw (varlens-nulls, payloads-nulls) (omega arith)

@@ -45,16 +45,16 @@ pub packed_adds : (s : Shape) (x y : ℕ) → end_after true s (x + y) ≡ x + e
 packed_adds (Fixed z a) x y = add_assoc x y z
 packed_adds Varlen x y = refl
 
-packed-first : (s : Shape) → end_after true s 0 ≡ slot_size s + 0
-packed-first (Fixed z a) = omega arith
-packed-first Varlen = refl
+packed_first : (s : Shape) → end_after true s 0 ≡ slot_size s + 0
+packed_first (Fixed z a) = omega arith
+packed_first Varlen = refl
 
 -- a column more in front
 pub varlens-cons : (s : Shape) (ss : List Shape) → varlens (s ∷ ss) ≡ rank_after s 0 + varlens ss
 varlens-cons s ss = let e : rank_after s 0 ≡ rank_after s 0 + 0 = sym (add-zero (rank_after s 0)) in ap (λ (x : ℕ). through rank_after x ss) e ∙ through-add rank_after rank_adds ss (rank_after s 0) 0
 
 pub packed-cons : (s : Shape) (ss : List Shape) → fixed_size true (s ∷ ss) ≡ slot_size s + fixed_size true ss
-packed-cons s ss = ap (λ (x : ℕ). through (end_after true) x ss) (packed-first s) ∙ through-add (end_after true) packed_adds ss (slot_size s) 0
+packed-cons s ss = ap (λ (x : ℕ). through (end_after true) x ss) (packed_first s) ∙ through-add (end_after true) packed_adds ss (slot_size s) 0
 
 -- a schema has no more Varchars than columns
 ranks_le : (ss : List Shape) (k : ℕ) → through rank_after k ss ≤ k + length ss
@@ -84,10 +84,10 @@ all_drop zero a = a
 all_drop (suc i) none = none
 all_drop (suc i) (more h a) = all_drop i a
 
-pub all-at : {ss : List Shape} (i : ℕ) → All ss → Aligned (get_or ss i Varlen)
-all-at i none = tt
-all-at zero (more h a) = h
-all-at (suc i) (more h a) = all-at i a
+pub all_at : {ss : List Shape} (i : ℕ) → All ss → Aligned (get_or ss i Varlen)
+all_at i none = tt
+all_at zero (more h a) = h
+all_at (suc i) (more h a) = all_at i a
 
 pub round_up_ge : (a at : ℕ) → 0 < a → at ≤ round_up a at
 round_up_ge a at h =
@@ -129,7 +129,7 @@ module _ (p : Bool) where
   slots_apart ss i j a h k =
       let l : i < length ss = omega arith in
       let e : fixed_size p (take (suc i) ss) ≤ fixed_size p (take j ss) = rw (take-take (suc i) j ss h) at (size-take (take j ss) (suc i) (all_take j a)) in
-      rw (slot-end ss i l) (le_trans e (slot_ge p (get_or ss j Varlen) (fixed_size p (take j ss)) (all-at j a)))
+      rw (slot-end ss i l) (le_trans e (slot_ge p (get_or ss j Varlen) (fixed_size p (take j ss)) (all_at j a)))
 
 -- packed, whatever the alignments
 pub packed-take : (ss : List Shape) (i : ℕ) → fixed_size true (take i ss) ≤ fixed_size true ss

@@ -9,7 +9,7 @@ use native.Mathlib.Omega.{arith}
 use lib.ListN.{length, get_or, take, drop, length-drop, take-append-drop}
 use lib.Seq.{drop-drop, drop-length, drop-cons, length-take-le, take-add, get_or-drop}
 use Rattle.laws.specs.Bytes.{to_le, from_le, to_table, from_table, entry_at}
-use Rattle.laws.proofs.Bytes.{Below, below-drop, below-take, to_from, length-from_table, table-entry}
+use Rattle.laws.proofs.Bytes.{Below, below-drop, below-take, to_from, length-from_table, table_entry}
 use Rattle.row_format.specs.Table.{payloads, offsets, lay, or_else, first_offset, range_end}
 use Rattle.row_format.specs.Edit.{range_start}
 use Rattle.row_format.specs.InnerRising.{Rising, held_at, held_cells, Between}
@@ -17,10 +17,10 @@ use Rattle.row_format.specs.InnerRising.{Rising, held_at, held_cells, Between}
 -- ---- offsets that rise up to e
 
 module _ (e : ℕ) where
-  pub first-le : (os : List ℕ) → Rising e os → first_offset os e ≤ e
-  first-le [] u = le_refl e
-  first-le (zero ∷ os) u = first-le os u
-  first-le (suc o ∷ os) u = le_trans u.0 (first-le os u.1)
+  pub first_le : (os : List ℕ) → Rising e os → first_offset os e ≤ e
+  first_le [] u = le_refl e
+  first_le (zero ∷ os) u = first_le os u
+  first_le (suc o ∷ os) u = le_trans u.0 (first_le os u.1)
 
   rising_drop : (os : List ℕ) (k : ℕ) → Rising e os → Rising e (drop k os)
   rising_drop os zero u = u
@@ -28,27 +28,27 @@ module _ (e : ℕ) where
   rising_drop (zero ∷ os) (suc k) u = rising_drop os k u
   rising_drop (suc o ∷ os) (suc k) u = rising_drop os k u.1
 
-  first-drop : (os : List ℕ) (k : ℕ) → Rising e os → first_offset os e ≤ first_offset (drop k os) e
-  first-drop os zero u = le_refl (first_offset os e)
-  first-drop [] (suc k) u = le_refl e
-  first-drop (zero ∷ os) (suc k) u = first-drop os k u
-  first-drop (suc o ∷ os) (suc k) u = le_trans u.0 (first-drop os k u.1)
+  first_drop : (os : List ℕ) (k : ℕ) → Rising e os → first_offset os e ≤ first_offset (drop k os) e
+  first_drop os zero u = le_refl (first_offset os e)
+  first_drop [] (suc k) u = le_refl e
+  first_drop (zero ∷ os) (suc k) u = first_drop os k u
+  first_drop (suc o ∷ os) (suc k) u = le_trans u.0 (first_drop os k u.1)
 
   -- an offset that is not 0 is at least the first of them, and at most those behind it
-  first-least : (os : List ℕ) (j : ℕ) → Rising e os → j < length os → (get_or os j 0 ≡ 0 → ⊥) → first_offset os e ≤ get_or os j 0
-  first-least [] j u h n = absurd (omega arith)
-  first-least (zero ∷ os) zero u h n = absurd (n refl)
-  first-least (suc o ∷ os) zero u h n = le_refl (suc o)
-  first-least (zero ∷ os) (suc j) u h n = first-least os j u (omega arith) n
-  first-least (suc o ∷ os) (suc j) u h n = le_trans u.0 (first-least os j u.1 (omega arith) n)
+  first_least : (os : List ℕ) (j : ℕ) → Rising e os → j < length os → (get_or os j 0 ≡ 0 → ⊥) → first_offset os e ≤ get_or os j 0
+  first_least [] j u h n = absurd (omega arith)
+  first_least (zero ∷ os) zero u h n = absurd (n refl)
+  first_least (suc o ∷ os) zero u h n = le_refl (suc o)
+  first_least (zero ∷ os) (suc j) u h n = first_least os j u (omega arith) n
+  first_least (suc o ∷ os) (suc j) u h n = le_trans u.0 (first_least os j u.1 (omega arith) n)
 
-  first-behind : (os : List ℕ) (j k : ℕ) → Rising e os → j < k → (get_or os j 0 ≡ 0 → ⊥) → get_or os j 0 ≤ first_offset (drop k os) e
-  first-behind os j zero u h n = absurd (omega arith)
-  first-behind [] j (suc k) u h n = absurd (n refl)
-  first-behind (zero ∷ os) zero (suc k) u h n = absurd (n refl)
-  first-behind (suc o ∷ os) zero (suc k) u h n = le_trans u.0 (first-drop os k u.1)
-  first-behind (zero ∷ os) (suc j) (suc k) u h n = first-behind os j k u (omega arith) n
-  first-behind (suc o ∷ os) (suc j) (suc k) u h n = first-behind os j k u.1 (omega arith) n
+  first_behind : (os : List ℕ) (j k : ℕ) → Rising e os → j < k → (get_or os j 0 ≡ 0 → ⊥) → get_or os j 0 ≤ first_offset (drop k os) e
+  first_behind os j zero u h n = absurd (omega arith)
+  first_behind [] j (suc k) u h n = absurd (n refl)
+  first_behind (zero ∷ os) zero (suc k) u h n = absurd (n refl)
+  first_behind (suc o ∷ os) zero (suc k) u h n = le_trans u.0 (first_drop os k u.1)
+  first_behind (zero ∷ os) (suc j) (suc k) u h n = first_behind os j k u (omega arith) n
+  first_behind (suc o ∷ os) (suc j) (suc k) u h n = first_behind os j k u.1 (omega arith) n
 
 -- ---- the ranges
 
@@ -60,25 +60,25 @@ module _ (w t v : ℕ) (r : List ℕ) where
   pub start_first : (k : ℕ) → k < v → range_start w t v k r ≡ first_offset (drop k table) (length r)
   unfolding range_start range_end
   start_first k h =
-      sym (rw (drop-cons table k 0 (rw length-from_table h)) (ap (λ (x : ℕ). or_else x (first_offset (drop (suc k) table) (length r))) (table-entry w v t k r h)))
+      sym (rw (drop-cons table k 0 (rw length-from_table h)) (ap (λ (x : ℕ). or_else x (first_offset (drop (suc k) table) (length r))) (table_entry w v t k r h)))
 
   pub ranges_between : Rising (length r) table → (k : ℕ) → k < v → Between w t v k (first_offset table (length r)) r
   unfolding range_end
   ranges_between u k h =
       let start = start_first k h in
       let next : first_offset (drop k table) (length r) ≤ first_offset (drop (suc k) table) (length r)
-      = rw (drop-drop 1 k table, add-one) at (first-drop (length r) (drop k table) 1 (rising_drop (length r) table k u)) in
+      = rw (drop-drop 1 k table, add-one) at (first_drop (length r) (drop k table) 1 (rising_drop (length r) table k u)) in
       record {
-        past = rw start (first-drop (length r) table k u);
+        past = rw start (first_drop (length r) table k u);
         rises = rw start next;
-        within = first-le (length r) (drop (suc k) table) (rising_drop (length r) table (suc k) u);
+        within = first_le (length r) (drop (suc k) table) (rising_drop (length r) table (suc k) u);
         higher = λ j a b n.
             let i : suc k + (j - suc k) ≡ j = omega arith in
-            let is : get_or (drop (suc k) table) (j - suc k) 0 ≡ entry_at w t j r = get_or-drop (suc k) table (j - suc k) 0 ∙ ap (λ (m : ℕ). get_or table m 0) i ∙ table-entry w v t j r b in
-            rw is at (first-least (length r) (drop (suc k) table) (j - suc k) (rising_drop (length r) table (suc k) u) (rw (length-drop, length-from_table) (omega arith)) (λ z. n (sym is ∙ z)));
+            let is : get_or (drop (suc k) table) (j - suc k) 0 ≡ entry_at w t j r = get_or-drop (suc k) table (j - suc k) 0 ∙ ap (λ (m : ℕ). get_or table m 0) i ∙ table_entry w v t j r b in
+            rw is at (first_least (length r) (drop (suc k) table) (j - suc k) (rising_drop (length r) table (suc k) u) (rw (length-drop, length-from_table) (omega arith)) (λ z. n (sym is ∙ z)));
         lower = λ j a n.
-            let is : get_or table j 0 ≡ entry_at w t j r = table-entry w v t j r (omega arith) in
-            rw start (rw is at (first-behind (length r) table j k u a (λ z. n (sym is ∙ z))));
+            let is : get_or table j 0 ≡ entry_at w t j r = table_entry w v t j r (omega arith) in
+            rw start (rw is at (first_behind (length r) table j k u a (λ z. n (sym is ∙ z))));
       }
 
 -- ---- the cells that a row holds

@@ -19,7 +19,7 @@ use Rattle.row_format.specs.Table.{Cell, bytes, payloads, offset, lay, range_end
 use Rattle.row_format.specs.Row.{header, null_bit, bitmap, varlen_cells, row_with, slots_of, slot_size}
 use Rattle.row_format.specs.Header.{column_count, varlen_field}
 use Rattle.row_format.proofs.Places.{varlens-cons, packed-cons}
-use Rattle.row_format.proofs.Table.{length-lay, past-table, entry-lay, end-lay, range-lay}
+use Rattle.row_format.proofs.Table.{length-lay, past-table, entry_lay, end-lay, range-lay}
 use Rattle.row_format.proofs.Bitmap.{length-bitmap, bitmap-bit}
 use Rattle.row_format.specs.InnerTable.{range_bytes}
 use Rattle.row_format.specs.InnerRow.{FitsCell, FitsSlot}
@@ -44,12 +44,12 @@ pub concat-append : (xs ys : List (List ℕ)) → concat (xs ++ ys) ≡ concat x
 concat-append [] ys = refl
 concat-append (x ∷ xs) ys = rw (concat-append xs ys, append_assoc)
 
-pub concat-at : (xs : List (List ℕ)) (i : ℕ) → i < length xs → concat xs ≡ concat (take i xs) ++ (get_or xs i [] ++ concat (drop (suc i) xs))
-concat-at xs i h = ap concat (split_at xs i [] h) ∙ concat-append (take i xs) (get_or xs i [] ∷ drop (suc i) xs)
+pub concat_at : (xs : List (List ℕ)) (i : ℕ) → i < length xs → concat xs ≡ concat (take i xs) ++ (get_or xs i [] ++ concat (drop (suc i) xs))
+concat_at xs i h = ap concat (split_at xs i [] h) ∙ concat-append (take i xs) (get_or xs i [] ∷ drop (suc i) xs)
 
-pub length-slots : {ss : List Shape} {bs : List (List ℕ)} → Forall₂ FitsSlot ss bs → length (concat bs) ≡ fixed_size true ss
-length-slots nil = refl
-length-slots (cons {a = s} {xs = ss} r e) = rw (length-append, length-slots e, r, packed-cons s ss)
+pub length_slots : {ss : List Shape} {bs : List (List ℕ)} → Forall₂ FitsSlot ss bs → length (concat bs) ≡ fixed_size true ss
+length_slots nil = refl
+length_slots (cons {a = s} {xs = ss} r e) = rw (length-append, length_slots e, r, packed-cons s ss)
 
 pub forall_take : {ss : List Shape} {bs : List (List ℕ)} (i : ℕ) → Forall₂ FitsSlot ss bs → Forall₂ FitsSlot (take i ss) (take i bs)
 forall_take zero e = nil
@@ -101,7 +101,7 @@ module _ (w : ℕ) (h : List ℕ) (four : length h ≡ 4) {ss : List Shape} {cs 
   -- 01: the minimum and the payloads of the Varchars that are not null
   pub length-row : length (row_with w h ss cs bs) ≡ minimum w true ss + length (payloads (varlen_cells ss cs))
   unfolding row_with
-  length-row = rw (length-lay, length_front, length-varlens cells, length-slots slots)
+  length-row = rw (length-lay, length_front, length-varlens cells, length_slots slots)
 
   -- the header stands in front
   pub count_row : column_count (row_with w h ss cs bs) ≡ column_count h
@@ -127,8 +127,8 @@ module _ (w : ℕ) (h : List ℕ) (four : length h ≡ 4) {ss : List Shape} {cs 
   unfolding row_with
   slot_row i k =
       let at : fixed_start w n (varlens ss) + slot_start true ss i ≡ length front + length (varlen_cells ss cs) * w + length (concat (take i bs))
-      = rw (length_front, length-varlens cells, packed_start, length-slots (forall_take i slots)) in
-      rw (at, ← drop-drop, past-table, concat-at bs i (rw (forall_length slots) k), append_assoc, drop-append_seam, append_assoc)
+      = rw (length_front, length-varlens cells, packed_start, length_slots (forall_take i slots)) in
+      rw (at, ← drop-drop, past-table, concat_at bs i (rw (forall_length slots) k), append_assoc, drop-append_seam, append_assoc)
       (take_at (get_or bs i []) _ (slot_size (get_or ss i Varlen)) (forall_at i slots))
 
   -- where the payload of column i stands
@@ -141,13 +141,13 @@ module _ (w : ℕ) (h : List ℕ) (four : length h ≡ 4) {ss : List Shape} {cs 
     unfolding row_with
     entry_row =
         let o = of_rank i cells k v in
-        rw (← length_front, entry-lay w front (concat bs) (omega (arith, length_front)) (varlen_cells ss cs) (rank_of ss i) o.inside fits, o.cell, length-varlens cells, length-slots slots)
+        rw (← length_front, entry_lay w front (concat bs) (omega (arith, length_front)) (varlen_cells ss cs) (rank_of ss i) o.inside fits, o.cell, length-varlens cells, length_slots slots)
 
     pub end_row : range_end w (table_start n) (varlens ss) (rank_of ss i) (row_with w h ss cs bs) ≡ payload_at i + length (bytes (get_or cs i none))
     unfolding row_with
     end_row =
         let o = of_rank i cells k v in
-        rw (← length_front, ← length-varlens cells, ← length-slots slots, ← o.cell) (end-lay w front (concat bs) (omega (arith, length_front)) (varlen_cells ss cs) (rank_of ss i) o.inside fits)
+        rw (← length_front, ← length-varlens cells, ← length_slots slots, ← o.cell) (end-lay w front (concat bs) (omega (arith, length_front)) (varlen_cells ss cs) (rank_of ss i) o.inside fits)
 
     pub range-row : (b : List ℕ) → get_or cs i none ≡ some b → range_bytes w (table_start n) (varlens ss) (rank_of ss i) (row_with w h ss cs bs) ≡ b
     unfolding row_with

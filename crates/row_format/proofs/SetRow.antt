@@ -20,7 +20,7 @@ use Rattle.row_format.specs.Row.{bitmap, varlen_cells, null_bit, row_with, slot_
 use Rattle.row_format.specs.Edit.{slot_edit, edited_row}
 use Rattle.row_format.proofs.Places.{varlens-cons, packed-inside}
 use Rattle.row_format.proofs.Bitmap.{length-bitmap, put-bitmap}
-use Rattle.row_format.proofs.Row.{concat-append, concat-at, forall_take, forall_at, length-slots, length-varlens, packed_start}
+use Rattle.row_format.proofs.Row.{concat-append, concat_at, forall_take, forall_at, length_slots, length-varlens, packed_start}
 use Rattle.row_format.proofs.Edit.{edit_fixed, edit_varlen}
 use Rattle.row_format.specs.InnerRow.{FitsCell, FitsSlot}
 use Rattle.row_format.specs.InnerEdit.{slot_kept, slots_kept}
@@ -67,9 +67,9 @@ slots_edit {ss} {bs} i z a (some b) slots h s =
     let l : i < length bs = rw (forall_length slots) h in
     let low : List ℕ = concat (take i bs) in
     let high : List ℕ = concat (drop (suc i) bs) in
-    let at : length low ≡ slot_start true ss i = rw (packed_start, length-slots (forall_take i slots)) in
+    let at : length low ≡ slot_start true ss i = rw (packed_start, length_slots (forall_take i slots)) in
     let n : length (get_or bs i []) ≡ z = forall_at i slots ∙ rw s in
-    rw (set_split bs i b l, concat-append (take i bs) (b ∷ drop (suc i) bs)) (ap (slot_edit (slot_start true ss i) z (some b)) (concat-at bs i l) ∙ splice_at low (get_or bs i []) high b (slot_start true ss i) (slot_start true ss i + z) at (rw (at, n)))
+    rw (set_split bs i b l, concat-append (take i bs) (b ∷ drop (suc i) bs)) (ap (slot_edit (slot_start true ss i) z (some b)) (concat_at bs i l) ∙ splice_at low (get_or bs i []) high b (slot_start true ss i) (slot_start true ss i + z) at (rw (at, n)))
 
 -- the bits
 pub bits_set : {ss : List Shape} {cs : List Cell} (i : ℕ) (c : Cell) → Forall₂ FitsCell ss cs → i < length ss → put_bit_at (null_bit c) i (bitmap (bitmap_size (length ss)) cs) ≡ bitmap (bitmap_size (length ss)) (set cs i c)
@@ -85,7 +85,7 @@ module _ (w : ℕ) (head : List ℕ) (four : length head ≡ 4) {ss : List Shape
   pub set-fixed : (z a : ℕ) → get_or ss i Varlen ≡ Fixed z a → FitsCell (Fixed z a) c → edited_row w true ss i c (row_with w head ss cs bs) ≡ row_with w head ss (set cs i c) (set bs i (slot_kept (Fixed z a) c (get_or bs i [])))
   unfolding row_with
   set-fixed z a s q =
-      let inside : slot_start true ss i + z ≤ length (concat bs) = rw (length-slots slots) (rw (ap slot_size s) at (packed-inside ss i h)) in
+      let inside : slot_start true ss i + z ≤ length (concat bs) = rw (length_slots slots) (rw (ap slot_size s) at (packed-inside ss i h)) in
       edit_fixed w true ss i h head bits (concat bs) (varlen_cells ss cs) four (length-bitmap (bitmap_size (length ss)) cs) (length-varlens cells) c z a s q inside
       ∙ rw (bits_set i c cells h, slots_edit i z a c slots h s, fixed-set i z a c cells s)
 

@@ -26,8 +26,8 @@ ends_le : {ss : List Shape} → All ss → (x y : ℕ) → x ≤ y → through (
 ends_le no-shapes x y h = h
 ends_le (more {s = s} g a) x y h = ends_le a (end_after true s x) (end_after false s y) (end-le s x y g h)
 
-pub packed-least : (w : ℕ) {ss : List Shape} → All ss → minimum w true ss ≤ minimum w false ss
-packed-least w a = omega (arith, ends_le a 0 0 (le_refl 0))
+pub packed_least : (w : ℕ) {ss : List Shape} → All ss → minimum w true ss ≤ minimum w false ss
+packed_least w a = omega (arith, ends_le a 0 0 (le_refl 0))
 
 -- ---- payloads
 

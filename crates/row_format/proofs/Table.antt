@@ -9,7 +9,7 @@ use native.Mathlib.Omega.{arith}
 use lib.ListN.{length, get_or, take, drop, length-append, drop_of_length-le}
 use lib.Seq.{drop-drop, take_at, drop_at, drop-append_seam, take-append_seam, get_or_at, get_or-append_seam, append_snoc, split_at, drop-cons}
 use Rattle.laws.specs.Bytes.{to_table, from_table, entry_at}
-use Rattle.laws.proofs.Bytes.{Below, length-to_table, length-from_table, table-from_to, table-entry}
+use Rattle.laws.proofs.Bytes.{Below, length-to_table, length-from_table, table-from_to, table_entry}
 use Rattle.laws.proofs.Forall.{by_cut}
 use Rattle.row_format.specs.Table.{Cell, bytes, payloads, offset, offsets, base, lay, or_else, first_offset, range_end}
 use Rattle.row_format.specs.InnerTable.{range_bytes}
@@ -21,8 +21,8 @@ payloads-append [] ds = refl
 payloads-append (c ∷ cs) ds = rw (payloads-append cs ds, append_assoc)
 
 -- from the payload of rank k on
-payloads-at : (cs : List Cell) (k : ℕ) → k < length cs → drop (length (payloads (take k cs))) (payloads cs) ≡ bytes (get_or cs k none) ++ payloads (drop (suc k) cs)
-payloads-at cs k h = ap (λ (ds : List Cell). drop (length (payloads (take k cs))) (payloads ds)) (split_at cs k none h) ∙ rw (payloads-append, drop-append_seam)
+payloads_at : (cs : List Cell) (k : ℕ) → k < length cs → drop (length (payloads (take k cs))) (payloads cs) ≡ bytes (get_or cs k none) ++ payloads (drop (suc k) cs)
+payloads_at cs k h = ap (λ (ds : List Cell). drop (length (payloads (take k cs))) (payloads ds)) (split_at cs k none h) ∙ rw (payloads-append, drop-append_seam)
 
 pub length-offsets : (at : ℕ) (cs : List Cell) → length (offsets at cs) ≡ length cs
 length-offsets at [] = refl
@@ -38,11 +38,11 @@ offsets-below m at (none ∷ cs) h = (omega arith, offsets-below m (at + 0) cs (
 offsets-below m at (some b ∷ cs) h = let l : at + (length b + length (payloads cs)) < m = rw length-append at h in (omega arith, offsets-below m (at + length b) cs (omega arith))
 
 -- the first offset that is not 0 is where the first payload stands
-pub first-offsets : (e at : ℕ) (cs : List Cell) → 0 < at → at + length (payloads cs) ≡ e → first_offset (offsets at cs) e ≡ at
-first-offsets e at [] z h = omega arith
-first-offsets e at (none ∷ cs) z h = first-offsets e (at + 0) cs (omega arith) (omega arith) ∙ add-zero at
-first-offsets e zero (some b ∷ cs) z h = omega arith
-first-offsets e (suc at) (some b ∷ cs) z h = refl
+pub first_offsets : (e at : ℕ) (cs : List Cell) → 0 < at → at + length (payloads cs) ≡ e → first_offset (offsets at cs) e ≡ at
+first_offsets e at [] z h = omega arith
+first_offsets e at (none ∷ cs) z h = first_offsets e (at + 0) cs (omega arith) (omega arith) ∙ add-zero at
+first_offsets e zero (some b ∷ cs) z h = omega arith
+first_offsets e (suc at) (some b ∷ cs) z h = refl
 
 pub drop_past : (xs : List ℕ) (y : ℕ) (ys : List ℕ) (k : ℕ) → length xs ≡ k → drop (suc k) (xs ++ y ∷ ys) ≡ ys
 drop_past xs y ys k e = rw (← append_snoc xs y ys) (drop_at (xs ++ (y ∷ [])) ys (suc k) (simp length-append (omega arith)))
@@ -101,11 +101,11 @@ module _ (w : ℕ) (front region : List ℕ) (pos : 0 < length front) where
   length_cut us c vs = length-lay w front region (us ++ c ∷ vs) ∙ rw (payloads-append, take-append_seam) (simp length-append (omega arith))
 
   -- its entry is the payload's place, or 0 for a null
-  pub entry-lay : (cs : List Cell) (k : ℕ) → k < length cs → length (row cs) < 256 ^ w → entry_at w (length front) k (row cs) ≡ offset (get_or cs k none) (place cs k)
-  entry-lay = by_cut (λ cs k. length (row cs) < 256 ^ w → entry_at w (length front) k (row cs) ≡ offset (get_or cs k none) (place cs k))
+  pub entry_lay : (cs : List Cell) (k : ℕ) → k < length cs → length (row cs) < 256 ^ w → entry_at w (length front) k (row cs) ≡ offset (get_or cs k none) (place cs k)
+  entry_lay = by_cut (λ cs k. length (row cs) < 256 ^ w → entry_at w (length front) k (row cs) ≡ offset (get_or cs k none) (place cs k))
       λ us c vs fits.
       let n : length us < length (us ++ c ∷ vs) = rw length-append (omega arith) in
-      sym (table-entry w (length (us ++ c ∷ vs)) (length front) (length us) (row (us ++ c ∷ vs)) n)
+      sym (table_entry w (length (us ++ c ∷ vs)) (length front) (length us) (row (us ++ c ∷ vs)) n)
       ∙ rw (table_cut us c vs fits, get_or-append_seam) (get_or_at (offsets _ us) _ _ 0 (length us) (length-offsets _ us))
 
   -- the range ends where the payload ends
@@ -115,14 +115,14 @@ module _ (w : ℕ) (front region : List ℕ) (pos : 0 < length front) where
       λ us c vs fits.
       let at : ℕ = place (us ++ c ∷ vs) (length us) in
       rw (table_cut us c vs fits, length_cut us c vs, get_or-append_seam, drop_past (offsets _ us) _ _ (length us) (length-offsets _ us))
-      (first-offsets (at + length (bytes c) + length (payloads vs)) (at + length (bytes c)) vs (omega arith) refl)
+      (first_offsets (at + length (bytes c) + length (payloads vs)) (at + length (bytes c)) vs (omega arith) refl)
 
   -- and holds the cell's bytes
   pub range-lay : (cs : List Cell) (k : ℕ) (b : List ℕ) → k < length cs → get_or cs k none ≡ some b → length (row cs) < 256 ^ w → range_bytes w (length front) (length cs) k (row cs) ≡ b
   unfolding range_bytes
   range-lay cs k b h e fits =
       let n : place cs k + length b - place cs k ≡ length b = omega arith in
-      rw (end-lay cs k h fits, entry-lay cs k h fits, e, n, ← drop-drop (length (payloads (take k cs))) (base w front region cs) (row cs), payload_region, payloads-at cs k h, e)
+      rw (end-lay cs k h fits, entry_lay cs k h fits, e, n, ← drop-drop (length (payloads (take k cs))) (base w front region cs) (row cs), payload_region, payloads_at cs k h, e)
       (take-append_seam b (payloads (drop (suc k) cs)))
 
 -- ---- a turn of the loop that looks for the first offset that is not 0
@@ -138,13 +138,13 @@ module _ (w t v j e o : ℕ) (r : List ℕ) where
 
   first_next : j < v → o ≡ entry_at w t j r → from j ≡ or_else o (from (j + 1))
   first_next h k =
-      rw (add-one, drop-cons (from_table w v (drop t r)) j 0 (rw length-from_table h)) (ap (λ (x : ℕ). or_else x (from (suc j))) (table-entry w v t j r h ∙ sym k))
+      rw (add-one, drop-cons (from_table w v (drop t r)) j 0 (rw length-from_table h)) (ap (λ (x : ℕ). or_else x (from (suc j))) (table_entry w v t j r h ∙ sym k))
 
-  pub first-zero : j < v → o ≡ entry_at w t j r → o ≡ 0 → from (j + 1) ≡ from j
-  first-zero h k z = sym (first_next h k ∙ rw z)
+  pub first_zero : j < v → o ≡ entry_at w t j r → o ≡ 0 → from (j + 1) ≡ from j
+  first_zero h k z = sym (first_next h k ∙ rw z)
 
   pub first_some : j < v → o ≡ entry_at w t j r → (o ≡ 0 → ⊥) → o ≡ from j
   first_some h k n = sym (first_next h k ∙ or_some o (from (j + 1)) n)
 
-pub first-none : (w t v j e : ℕ) (r : List ℕ) → v ≤ j → e ≡ first_offset (drop j (from_table w v (drop t r))) e
-first-none w t v j e r h = ap (λ (os : List ℕ). first_offset os e) (sym (drop_of_length-le (from_table w v (drop t r)) {i = j} (rw length-from_table h)))
+pub first_none : (w t v j e : ℕ) (r : List ℕ) → v ≤ j → e ≡ first_offset (drop j (from_table w v (drop t r))) e
+first_none w t v j e r h = ap (λ (os : List ℕ). first_offset os e) (sym (drop_of_length-le (from_table w v (drop t r)) {i = j} (rw length-from_table h)))

@@ -19,7 +19,7 @@ use Rattle.row_format.specs.Table.{Cell, payloads, offsets, lay}
 use Rattle.row_format.specs.Row.{header, null_bit, bitmap, varlen_cells, row_with, slot_of, slots_of, built_row, slot_size}
 use Rattle.row_format.specs.Zeroed.{zeroed_slot, zeroed_from, zeroed_row}
 use Rattle.row_format.proofs.Table.{length-offsets}
-use Rattle.row_format.proofs.Row.{length-header, length-slots, length-varlens, length_front, bit-row, forall_at}
+use Rattle.row_format.proofs.Row.{length-header, length_slots, length-varlens, length_front, bit-row, forall_at}
 use Rattle.row_format.specs.InnerRow.{FitsCell, FitsSlot}
 use Rattle.row_format.specs.InnerEdit.{slot_kept, slots_kept}
 
@@ -58,7 +58,7 @@ module _ (w : ℕ) (head : List ℕ) (four : length head ≡ 4) {ss : List Shape
   -- the row, cut at its fixed columns, with the offsets for any slots that fit
   row_cut : (ds : List (List ℕ)) → Forall₂ FitsSlot ss ds → row_with w head ss cs ds ≡ (front ++ to_table w (offsets (minimum w true ss) (varlen_cells ss cs))) ++ (concat ds ++ payloads (varlen_cells ss cs))
   unfolding row_with lay
-  row_cut ds fit = rw (length_front w head four cells slots, length-varlens cells, length-slots fit, append_assoc front)
+  row_cut ds fit = rw (length_front w head four cells slots, length-varlens cells, length_slots fit, append_assoc front)
 
   -- by the row's bits or by the cells, it is the same
   pub zeroed-row : zeroed_row w ss (row_with w head ss cs bs) ≡ row_with w head ss cs (slots_zeroed ss cs bs)

@@ -81,9 +81,9 @@ module _ (bits : List ℕ) where
         before = omega arith;
       }
 
-  slot-first : (i : ℕ) (s : Shape) (ss : List Shape) (j : ℕ) → bit_at i bits ≡ 1 → j < slot_size s
+  slot_first : (i : ℕ) (s : Shape) (ss : List Shape) (j : ℕ) → bit_at i bits ≡ 1 → j < slot_size s
       → InSlot i (s ∷ ss) 0 j
-  slot-first i s ss j b l =
+  slot_first i s ss j b l =
       let e = slot-here s 0 in
       record { inside = omega arith; null = rw add-zero b; from = omega arith; before = omega arith }
 
@@ -92,8 +92,8 @@ module _ (bits : List ℕ) where
     abbrev first : List ℕ
     first = zeroed_slot (bit_at i bits) (slot_size s) (take (slot_size s) r)
 
-    first-long : length first ≡ slot_size s
-    first-long =
+    first_long : length first ≡ slot_size s
+    first_long =
         slot-long (bit_at i bits) (slot_size s) (take (slot_size s) r)
         (length-take-le (slot_size s) r (omega (arith, packed-cons s ss)))
 
@@ -105,7 +105,7 @@ module _ (bits : List ℕ) where
   from-long i [] r room = refl
   from-long i (s ∷ ss) r room =
       let e = from-long (suc i) ss (drop (slot_size s) r) (rest_room i s ss r room) in
-      rw (length-append, first-long i s ss r room, e, length-drop)
+      rw (length-append, first_long i s ss r room, e, length-drop)
       (omega (arith, packed-cons s ss))
 
   from-zeros : (i : ℕ) (ss : List Shape) (r : List ℕ) → fixed_size true ss ≤ length r → (k j : ℕ) → InSlot i ss k j
@@ -117,7 +117,7 @@ module _ (bits : List ℕ) where
       rw bit
       (get_or-append (replicate (slot_size s) 0) _ 0 j (rw length-replicate l) ∙ get_or-replicate (slot_size s) j 0 0 l)
   from-zeros i (s ∷ ss) r room (suc k) j h =
-      behind (first i s ss r room) _ (slot_size s) j (first-long i s ss r room) (omega (arith, start-cons s ss k))
+      behind (first i s ss r room) _ (slot_size s) j (first_long i s ss r room) (omega (arith, start-cons s ss k))
       ∙ from-zeros (suc i) ss (drop (slot_size s) r) (rest_room i s ss r room) k (j - slot_size s)
       (slot_rest i s ss k j h)
 
@@ -127,13 +127,13 @@ module _ (bits : List ℕ) where
   from-others i (s ∷ ss) r room j out =
       cases j (slot_size s)
       (λ l.
-      let clear : bit_at i bits ≡ 1 → ⊥ = λ b. out 0 (slot-first i s ss j b l) in
+      let clear : bit_at i bits ≡ 1 → ⊥ = λ b. out 0 (slot_first i s ss j b l) in
       let same = slot_same (bit_at i bits) (slot_size s) (take (slot_size s) r) (mod-lt _ (omega arith)) clear in
-      get_or-append (first i s ss r room) _ 0 j (rw (first-long i s ss r room) l)
+      get_or-append (first i s ss r room) _ 0 j (rw (first_long i s ss r room) l)
       ∙ ap (λ (x : List ℕ). get_or x j 0) same ∙ get_or-take (slot_size s) r j 0 l)
       (λ g.
       let there : slot_size s + (j - slot_size s) ≡ j = omega arith in
-      behind (first i s ss r room) _ (slot_size s) j (first-long i s ss r room) g
+      behind (first i s ss r room) _ (slot_size s) j (first_long i s ss r room) g
       ∙ from-others (suc i) ss (drop (slot_size s) r) (rest_room i s ss r room) (j - slot_size s)
       (λ k h. out (suc k) (slot_next i s ss k j g h))
       ∙ get_or-drop (slot_size s) r (j - slot_size s) 0 ∙ rw there)
@@ -150,8 +150,8 @@ module _ (w : ℕ) (ss : List Shape) (r : List ℕ) (room : minimum w true ss �
   front_long : length (take start r) ≡ start
   front_long = length-take-le start r (omega arith)
 
-  slots-room : fixed_size true ss ≤ length (drop start r)
-  slots-room = rw length-drop (omega arith)
+  slots_room : fixed_size true ss ≤ length (drop start r)
+  slots_room = rw length-drop (omega arith)
 
   row-slot : (k j : ℕ) → start ≤ j → InSlot bits 0 ss k (j - start) → InNullSlot w ss r j
   row-slot k j g h =
@@ -163,11 +163,11 @@ module _ (w : ℕ) (ss : List Shape) (r : List ℕ) (room : minimum w true ss �
   zeroed-places =
       record {
         long =
-            let e = from-long bits 0 ss (drop start r) slots-room in
+            let e = from-long bits 0 ss (drop start r) slots_room in
             rw (length-append, front_long, e, length-drop) (omega arith);
         zeros = λ j h.
             behind (take start r) _ start j front_long (omega arith)
-            ∙ from-zeros bits 0 ss (drop start r) slots-room h.column (j - start)
+            ∙ from-zeros bits 0 ss (drop start r) slots_room h.column (j - start)
             (record { inside = h.inside; null = rw zero-add h.null; from = omega arith; before = omega arith });
         others = λ j out.
             cases j start
@@ -175,7 +175,7 @@ module _ (w : ℕ) (ss : List Shape) (r : List ℕ) (room : minimum w true ss �
             (λ g.
             let there : start + (j - start) ≡ j = omega arith in
             behind (take start r) _ start j front_long g
-            ∙ from-others bits 0 ss (drop start r) slots-room (j - start)
+            ∙ from-others bits 0 ss (drop start r) slots_room (j - start)
             (λ k h. out (row-slot k j g h))
             ∙ get_or-drop start r (j - start) 0 ∙ rw there);
       }

@@ -1,4 +1,4 @@
--- What the laws on places ask of shapes (`slot-inside`, `slots_apart`, `packed-least`): each alignment is 1 or more.
+-- What the laws on places ask of shapes (`slot-inside`, `slots_apart`, `packed_least`): each alignment is 1 or more.
 use Rattle.std.specs.Prelude.{◌<◌, List, [], ◌∷◌}
 use Rattle.row_format.specs.declared.Shape.{Shape}
 use Rattle.row_format.specs.declared.Shape.TheVariants.{Fixed, Varlen}

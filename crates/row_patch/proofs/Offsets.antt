@@ -49,11 +49,11 @@ module _ {w t v k e f : ℕ} {r : List ℕ} (m : HigherMove w t v k e f r) where
     pub moving_inside : j < v → t + (j + 1) * w ≤ length q
     moving_inside h = let n : j + 1 ≤ v = omega arith in omega (arith, m.inside, s.long, mul-le-mul_right w n)
 
-    same-entry : entry_at w t j q ≡ entry_at w t j r
-    same-entry = ap (λ (l : List ℕ). from_le (take w l)) s.ahead
+    same_entry : entry_at w t j q ≡ entry_at w t j r
+    same_entry = ap (λ (l : List ℕ). from_le (take w l)) s.ahead
 
     pub moving_may : j < v → CanMove w e f (entry_at w t j q)
-    moving_may h = rw same-entry (m.higher j s.past h)
+    moving_may h = rw same_entry (m.higher j s.past h)
 
     pub moving_more : j < v → (p : List ℕ) → p ≡ sets q (t + j * w) (to_le w (moved_by e f (entry_at w t j q))) → Moving w t v k e f r p (j + 1)
     moving_more h p d =

@@ -7,7 +7,7 @@ use native.Mathlib.Omega.{arith}
 use lib.ListN.{length, get_or, take, drop, length-drop}
 use lib.Seq.{length-take-le}
 use Rattle.laws.specs.Bytes.{from_table, entry_at, splice}
-use Rattle.laws.proofs.Bytes.{table-entry}
+use Rattle.laws.proofs.Bytes.{table_entry}
 use Rattle.laws.proofs.Entries.{table_before}
 use Rattle.row_format.specs.Places.{offset_width}
 use Rattle.row_format.specs.Table.{Cell, bytes, offset}
@@ -55,8 +55,8 @@ module _ {k : Bool} {t v rank n a e z : ℕ} {b : List ℕ} (g : RangeReady k t 
   same-table : from_table w v (drop t spliced) ≡ from_table w v (drop t row)
   same-table = table_before w t v a e (bytes c) row g.behind (rw row-length (omega (arith, g.replaceable.range, g.replaceable.within)))
 
-  same-entry : (j : ℕ) → j < v → entry_at w t j spliced ≡ entry_at w t j row
-  same-entry j h = sym (table-entry w v t j spliced h) ∙ ap (λ (os : List ℕ). get_or os j 0) same-table ∙ table-entry w v t j row h
+  same_entry : (j : ℕ) → j < v → entry_at w t j spliced ≡ entry_at w t j row
+  same_entry j h = sym (table_entry w v t j spliced h) ∙ ap (λ (os : List ℕ). get_or os j 0) same-table ∙ table_entry w v t j row h
 
   can_move : (j : ℕ) → rank < j → j < v → CanMove w e f (entry_at w t j row)
   can_move j h l n = let y = g.higher j h l n in (y.0, omega (arith, y, ef, g.short, g.replaceable.within, limit_fits k))
@@ -70,7 +70,7 @@ module _ {k : Bool} {t v rank n a e z : ℕ} {b : List ℕ} (g : RangeReady k t 
       (record {
         ranked = g.ranked;
         inside = rw spliced_length (omega (arith, em, g.behind));
-        higher = λ j h l. rw (same-entry j l) (can_move j h l);
+        higher = λ j h l. rw (same_entry j l) (can_move j h l);
       })
 
   pub table_done : (x : List ℕ) → x ≡ table_edit (offset_table w t v) rank (offset c a) e f (take m q) → Holds b (range_edit (offset_table w t v) rank c (span a e) row) (x ++ drop m q) m

@@ -128,8 +128,8 @@ module _ {s : List ℕ} {l : RowLayout} {p : Bool} {r : List ℕ} {answer : Bool
           let n = ahead-column k.walk h in
           rw (ap type_in n.is) (rw (ahead-split k.walk h n.is) at k.rest)
 
-      pub read-bad : reads column ≡ false → refusal_in column ≡ whole
-      read-bad q = stops answer column later q ∙ split
+      pub read_bad : reads column ≡ false → refusal_in column ≡ whole
+      read_bad q = stops answer column later q ∙ split
 
       pub read_more : reads column ≡ true → {q : Step} → q ≡ passed at b (column_record_at s at) → Bounded q.before
           → Reading s l p r start answer q.before q.at

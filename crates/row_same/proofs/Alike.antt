@@ -12,7 +12,7 @@ use Rattle.laws.proofs.Same.{same-eq}
 use Rattle.laws.proofs.Lent.{drop-take}
 use Rattle.error.specs.declared.Flag.TheVariants.{Is}
 use Rattle.row_format.specs.Places.{table_start, start_at, offset_width}
-use Rattle.row_format.proofs.Places.{all-at, start_ge}
+use Rattle.row_format.proofs.Places.{all_at, start_ge}
 use Rattle.row_layout.specs.declared.RowLayout.{RowLayout}
 use Rattle.row_layout.specs.declared.VarlenRange.{VarlenRange}
 use Rattle.row_layout.specs.declared.VarlenRange.TheVariants as Range
@@ -44,9 +44,9 @@ module _ (t : DataType) (i : ℕ) (a b : List ℕ) where
   Same c d = reads c ≡ true → compared t a c b d ≡ Is true
 
   -- the same bytes, from s up to e of row a and from f up to g of row b
-  bytes-alike : (s e f g : ℕ) → s ≤ e → e ≤ length a → f ≤ g → g ≤ length b
+  bytes_alike : (s e f g : ℕ) → s ≤ e → e ≤ length a → f ≤ g → g ≤ length b
       → take (e - s) (drop s a) ≡ take (g - f) (drop f b) → Same (read_bytes t i a s e) (read_bytes t i b f g)
-  bytes-alike s e f g h k m n eq =
+  bytes_alike s e f g h k m n eq =
       let x : length bytes ≡ e - s = length-take-le (e - s) (drop s a) (rw length-drop (omega arith)) in
       let y : length (take (g - f) (drop f b)) ≡ g - f =
       length-take-le (g - f) (drop f b) (rw length-drop (omega arith)) in
@@ -71,15 +71,15 @@ module _ (t : DataType) (i : ℕ) (a b : List ℕ) where
   ranges_alike (Range.Bytes s e) Range.Null h k d = absurd (false≢true d)
   ranges_alike (Range.Bytes s e) Range.Outside h k d = absurd (false≢true d)
   ranges_alike (Range.Bytes s e) (Range.Bytes f g) h k d =
-      bytes-alike s e f g h.0 h.1 k.0 k.1 (same-eq (take (e - s) (drop s a)) (take (g - f) (drop f b)) d)
+      bytes_alike s e f g h.0 h.1 k.0 k.1 (same-eq (take (e - s) (drop s a)) (take (g - f) (drop f b)) d)
 
   -- the bits first: both null, or neither
-  marked-alike : (x y alike : Bool) (c d : ColumnRead) → (alike ≡ true → Same c d)
+  marked_alike : (x y alike : Bool) (c d : ColumnRead) → (alike ≡ true → Same c d)
       → cond x y (cond y false alike) ≡ true → Same (cond x (Value Null) c) (cond y (Value Null) d)
-  marked-alike true true alike c d h e r = refl
-  marked-alike true false alike c d h e r = absurd (false≢true e)
-  marked-alike false true alike c d h e r = absurd (false≢true e)
-  marked-alike false false alike c d h e r = h e r
+  marked_alike true true alike c d h e r = refl
+  marked_alike true false alike c d h e r = absurd (false≢true e)
+  marked_alike false true alike c d h e r = absurd (false≢true e)
+  marked_alike false false alike c d h e r = h e r
 
 -- ---- where the bytes of a fixed column stand
 
@@ -90,7 +90,7 @@ size_with x t false v = rw v
 
 starts_ge : (x : RowLayout) (t : DataType) (p : Bool) → is_varlen t ≡ false
     → size_in x p ≤ start_at p (alignment_of t) (size_in x p)
-starts_ge x t p v = start_ge p (alignment_of t) (size_in x p) (rw v at (all-at 0 (all_aligned (t ∷ []))))
+starts_ge x t p v = start_ge p (alignment_of t) (size_in x p) (rw v at (all_at 0 (all_aligned (t ∷ []))))
 
 -- a slot of z bytes at st is the end of the part from sx on
 module _ (base sx st z : ℕ) (r : List ℕ) (h : sx ≤ st) (k : base + st + z ≤ length r) where
@@ -149,9 +149,9 @@ module _ (x : RowLayout) (t : DataType) where
     abbrev part_to : RowLayout → Bool → List ℕ → List ℕ
     part_to n o r = take (fixed_in n + (start o + size_of t) - (fixed_in n + size_in x o)) (drop (fixed_in n + size_in x o) r)
 
-    slots-alike : is_varlen t ≡ false → fixed_part x y l p a ≡ fixed_part x y m q b
+    slots_alike : is_varlen t ≡ false → fixed_part x y l p a ≡ fixed_part x y m q b
         → take (size_of t) (drop (walked_place l p x t) a) ≡ take (size_of t) (drop (walked_place m q x t) b)
-    slots-alike v e =
+    slots_alike v e =
         let z : ℕ = size_of t in
         let f : size_in x p ≤ start p = starts_ge x t p v in
         let g : size_in x q ≤ start q = starts_ge x t q v in
@@ -185,11 +185,11 @@ module _ (x : RowLayout) (t : DataType) where
         let rank : ℕ = x.num_varlen_cols in
         let n : ltb rank y.num_varlen_cols ≡ false = le-ltb rank y.num_varlen_cols (rw v (omega arith)) in
         let f = same-eq (fixed_part x y l p a) (fixed_part x y m q b) (rw n at e) in
-        bytes-alike t i a b s (s + z) u (u + z) (omega arith) (h.slot v) (omega arith) (k.slot v)
-        (rw (so_many s z, so_many u z) (slots-alike v f))
+        bytes_alike t i a b s (s + z) u (u + z) (omega arith) (h.slot v) (omega arith) (k.slot v)
+        (rw (so_many s z, so_many u z) (slots_alike v f))
 
     pub stored-alike : stored_alike x y l p a m q b ≡ true → reads (walked_column l p x t a) ≡ true
         → compared t a (walked_column l p x t a) b (walked_column m q x t b) ≡ Is true
     stored-alike =
-        marked-alike t i a b (is_marked x a) (is_marked x b) (present_alike x y l p a m q b) _ _
+        marked_alike t i a b (is_marked x a) (is_marked x b) (present_alike x y l p a m q b) _ _
         (present_alike_lem (is_varlen t) refl)

@@ -102,14 +102,14 @@ schema-refused s a b f =
 
 -- ---- a row that is refused as a whole
 
-pub first-refused : (first : Values) {e : Refusal} → read_all true first ≡ Refused e → first ≡ refused e
-first-refused (ok vs) h = absurd (let z : ◌≡◌ {A = ℕ} 0 1 = cc in omega arith)
-first-refused (refused r) h = cc
+pub first_refused : (first : Values) {e : Refusal} → read_all true first ≡ Refused e → first ≡ refused e
+first_refused (ok vs) h = absurd (let z : ◌≡◌ {A = ℕ} 0 1 = cc in omega arith)
+first_refused (refused r) h = cc
 
-pub second-refused : (ts : List DataType) (a b : List ℕ) (first : Values) (e : Refusal) → AllRead first
+pub second_refused : (ts : List DataType) (a b : List ℕ) (first : Values) (e : Refusal) → AllRead first
     → Refused e ≡ both_read ts a first b (refused e)
-second-refused ts a b (ok vs) e h = refl
-second-refused ts a b (refused r) e h = absurd h
+second_refused ts a b (ok vs) e h = refl
+second_refused ts a b (refused r) e h = absurd h
 
 pub all_read : (first : Values) {t : Bool} → read_all true first ≡ Is t → AllRead first
 all_read (ok vs) h = tt

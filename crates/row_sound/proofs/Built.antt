@@ -20,7 +20,7 @@ use Rattle.row_format.specs.Table.{Cell, bytes, lay}
 use Rattle.row_format.specs.Row.{packed_marks, least_mark, header, null_bit, bitmap, varlen_cells, row_with, slot_size}
 use Rattle.row_format.proofs.Places.{packed-inside, varlens-le}
 use Rattle.row_format.proofs.Bitmap.{length-bitmap, bitmap-bit}
-use Rattle.row_format.proofs.Row.{length-header, header-columns, header-varlens, length-row, length-slots, length-varlens, of_rank}
+use Rattle.row_format.proofs.Row.{length-header, header-columns, header-varlens, length-row, length_slots, length-varlens, of_rank}
 use Rattle.row_format.proofs.Cells.{unless_null, column_bytes, cell_row}
 use Rattle.row_format.proofs.Zeroed.{Agree}
 use Rattle.row_format.proofs.Sorts.{fits_limit, marks_small, marks_count, marks_packed}
@@ -125,7 +125,7 @@ module _ (w marks : ℕ) {ts : List DataType} {cs : List Cell} {slots : List (Li
   row_parts = refl
 
   parts : Parts w true ts head bits (concat slots) (varlen_cells ss cs)
-  parts = record { four = length-header marks ss; bitmap = length-bitmap (bitmap_size (length ss)) cs; fixed = length-slots fit; cells = length-varlens cells; fits = rw row_parts at fits }
+  parts = record { four = length-header marks ss; bitmap = length-bitmap (bitmap_size (length ss)) cs; fixed = length_slots fit; cells = length-varlens cells; fits = rw row_parts at fits }
 
   module _ (i : ℕ) (h : i < length ts) where
     abbrev cell : Cell

@@ -18,7 +18,7 @@ use Rattle.datatype.specs.declared.Record.TheVariants.{Column, Refused}
 use Rattle.datatype.specs.Types.{size_of, alignment_of, is_varlen}
 use Rattle.datatype.specs.Schema.{Kind, unknown, plain, sized, digits, column_kind, good_digits, column_record_of, column_record_at}
 use Rattle.datatype.specs.InnerSteps.{plain_size, plain_type, is_varchar_kind, type_in}
-use Rattle.datatype.proofs.KindTable.{Bodied, no, word, pair, bodied, varchar-kind, no-varchar}
+use Rattle.datatype.proofs.KindTable.{Bodied, no, word, pair, bodied, varchar-kind, no_varchar}
 use Rattle.datatype.proofs.Again.{Ahead, ahead-column}
 use Rattle.stored_form.specs.Read.{read_slot}
 use Rattle.row_sound.specs.InnerSlots.{Recorded}
@@ -106,7 +106,7 @@ module _ (s : List ℕ) (at k : ℕ) where
 
   pub body_fixed : is_varchar_kind k ≡ false → is_varlen (body_type s at (column_kind k)) ≡ false
   body_fixed h =
-      let no = no-varchar k h in
+      let no = no_varchar k h in
       rw (ne_eqb k 11 no.0, ne_eqb k 16 no.1)
       (fixed-line (eqb k 1) (plain T.SmallInt) _ refl
       (fixed-line (eqb k 2) (plain T.Int) _ refl

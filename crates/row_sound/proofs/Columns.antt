@@ -12,14 +12,14 @@ use lib.ListN.{length, get_or, take, drop, drop_of_length-le, length-map}
 use lib.Seq.{drop-cons, take_all}
 use Rattle.laws.specs.Bits.{bit_at}
 use Rattle.laws.specs.Bytes.{from_table, entry_at}
-use Rattle.laws.proofs.Bytes.{Below, length-from_table, table-entry}
+use Rattle.laws.proofs.Bytes.{Below, length-from_table, table_entry}
 use Rattle.laws.proofs.Truths.{both, by_cond, same_or}
 use Rattle.row_format.specs.Places.{varlens, rank_after, fixed_size, rank_of, bitmap_start, table_start, fixed_start, minimum}
 use Rattle.row_format.specs.declared.Shape.{Shape}
 use Rattle.row_format.proofs.Places.{through-next, rank-inside}
 use Rattle.row_format.specs.Table.{lay, first_offset, range_end}
 use Rattle.row_format.specs.InnerRising.{Rising, held_cells, Between}
-use Rattle.row_format.proofs.Rising.{first-le, ranges_between, rising_lay}
+use Rattle.row_format.proofs.Rising.{first_le, ranges_between, rising_lay}
 use Rattle.row_layout.specs.declared.VarlenRange.{VarlenRange}
 use Rattle.row_layout.specs.declared.VarlenRange.TheVariants as Range
 use Rattle.row_layout.specs.Range.{part_of, varlen_range}
@@ -105,7 +105,7 @@ module _ (w : ℕ) (p : Bool) (r : List ℕ) (ts : List DataType) where
         let next : rank (suc i) ≡ suc (rank i) = rank-next i h ∙ rw v (add-one (rank i)) in
         let k : rank i < varlens (map shape_of ts) = rank-inside ss i (rw (length-map ts shape_of) h)
         (shape_at ts i ∙ rw v) in
-        let is : get_or (offsets_of w ts r) (rank i) 0 ≡ entry_at w (table_start (length (map shape_of ts))) (rank i) r = table-entry w (varlens (map shape_of ts)) (table_start (length (map shape_of ts))) (rank i) r k in
+        let is : get_or (offsets_of w ts r) (rank i) 0 ≡ entry_at w (table_start (length (map shape_of ts))) (rank i) r = table_entry w (varlens (map shape_of ts)) (table_start (length (map shape_of ts))) (rank i) r k in
         rw (drop-cons (offsets_of w ts r) (rank i) 0 (rw length-from_table k), is) (rising_cons (length r) _ (drop (suc (rank i)) (offsets_of w ts r)) (own-rises i h v) (rw next at u))
 
     rising_from : (n i : ℕ) → i + n ≡ length ts → Rising (length r) (drop (rank i) (offsets_of w ts r))
@@ -124,31 +124,31 @@ module _ (w : ℕ) (p : Bool) (ts : List DataType) (r : List ℕ) (s : is_sound_
       (minimum w p (map shape_of ts)) ≡ true)
   parts = both (sound_from w p ts r 0 (length ts)) _ s
 
-  pub sound-at : (i : ℕ) → i < length ts → sound_column w p ts i r ≡ true
-  sound-at = sound-column w p ts r parts.0
+  pub sound_at : (i : ℕ) → i < length ts → sound_column w p ts i r ≡ true
+  sound_at = sound-column w p ts r parts.0
 
   -- the offsets rise, and the first payload stands at the minimum
-  pub sound-first : first_offset (offsets_of w ts r) (length r) ≡ minimum w p (map shape_of ts)
-  sound-first =
+  pub sound_first : first_offset (offsets_of w ts r) (length r) ≡ minimum w p (map shape_of ts)
+  sound_first =
       ap (λ (n : ℕ). first_payload w (table_start n) (varlens (map shape_of ts)) r) (length-map ts shape_of)
       ∙ eqb-true (first_payload w (table_start (length ts)) (varlens (map shape_of ts)) r)
       (minimum w p (map shape_of ts)) parts.1
 
   pub sound_rising : Rising (length r) (offsets_of w ts r)
-  sound_rising = rising_from w p r ts sound-at (length ts) 0 (omega arith)
+  sound_rising = rising_from w p r ts sound_at (length ts) 0 (omega arith)
 
   -- so each range lies between the payloads of lower and of higher rank
   pub sound_ranges : (k : ℕ) → k < varlens (map shape_of ts)
       → Between w (table_start (length (map shape_of ts))) (varlens (map shape_of ts)) k
       (minimum w p (map shape_of ts)) r
-  sound_ranges k h = rw sound-first at (ranges_between w (table_start (length (map shape_of ts))) (varlens (map shape_of ts)) r sound_rising k h)
+  sound_ranges k h = rw sound_first at (ranges_between w (table_start (length (map shape_of ts))) (varlens (map shape_of ts)) r sound_rising k h)
 
   pub sound-long : minimum w p (map shape_of ts) ≤ length r
-  sound-long = rw (← sound-first) (first-le (length r) (offsets_of w ts r) sound_rising)
+  sound-long = rw (← sound_first) (first_le (length r) (offsets_of w ts r) sound_rising)
 
   -- the row is laid out of its header and bitmap, its fixed columns, and the cells of its Varchars
   pub sound-lay : Below 256 r → r ≡ lay w (take (table_start (length (map shape_of ts))) r) (take
       (fixed_size p (map shape_of ts)) (drop
       (fixed_start w (length (map shape_of ts)) (varlens (map shape_of ts))) r)) (held_cells (offsets_of w ts r) r)
   sound-lay bytes = rising_lay w (table_start (length (map shape_of ts))) (varlens (map shape_of ts))
-      (fixed_size p (map shape_of ts)) r bytes sound_rising sound-first
+      (fixed_size p (map shape_of ts)) r bytes sound_rising sound_first

@@ -59,14 +59,14 @@ module _ (i at : ℕ) (r bs : List ℕ) (stand : take (length bs) (drop at r) �
   content_twins varchar = with_text (D.Varchar (whole 0 bs))
   content_twins bit = with_text (D.Bit (whole 0 bs))
 
-  content-both : (x y : SlotRead) → Both at 0 bs x y → content r (slot_value i x) ≡ content bs (slot_value i y)
-  content-both (Slot.Value v) (Slot.Value w) h = content_twins h
-  content-both (Slot.Value v) Slot.NoValue h = absurd h
-  content-both Slot.NoValue (Slot.Value w) h = absurd h
-  content-both Slot.NoValue Slot.NoValue h = refl
+  content_both : (x y : SlotRead) → Both at 0 bs x y → content r (slot_value i x) ≡ content bs (slot_value i y)
+  content_both (Slot.Value v) (Slot.Value w) h = content_twins h
+  content_both (Slot.Value v) Slot.NoValue h = absurd h
+  content_both Slot.NoValue (Slot.Value w) h = absurd h
+  content_both Slot.NoValue Slot.NoValue h = refl
 
   content_anywhere : (t : DataType) → content r (slot_value i (read_slot t at bs)) ≡ content bs (slot_value i (read_slot t 0 bs))
-  content_anywhere t = content-both (read_slot t at bs) (read_slot t 0 bs) (both at 0 bs t)
+  content_anywhere t = content_both (read_slot t at bs) (read_slot t 0 bs) (both at 0 bs t)
 
 -- ---- a column that holds a cell, by whether its bit is set
 

@@ -35,7 +35,7 @@ use Rattle.row_sound.specs.Laid.{Parts, held_content, held_part, sound_part}
 use Rattle.row_sound.proofs.Contents.{null-held, written-content}
 use Rattle.row_sound.proofs.Laid.{laid_length, content-lay, payload-lay, laid_sound, payload-length}
 use Rattle.row_sound.proofs.Built.{none-some, writes_form, writes_fits, written_cell, written-slot}
-use Rattle.row_sound.proofs.PutBits.{bit-at-put, bit-at-kept}
+use Rattle.row_sound.proofs.PutBits.{bit_at_put, bit_at_kept}
 
 -- ---- a slot of a region replaced
 
@@ -91,10 +91,10 @@ module _ {w : ℕ} {p : Bool} {ts : List DataType} {head bits region : List ℕ}
   byte_inside = rw q.bitmap (omega (arith, below i h))
 
   bit_new : bit_at i new_bits ≡ null_bit c
-  bit_new = bit-at-put (null_bit c) i bits (null-bit-le c) byte_inside
+  bit_new = bit_at_put (null_bit c) i bits (null-bit-le c) byte_inside
 
   bit_kept : (j : ℕ) → (i ≡ j → ⊥) → bit_at j new_bits ≡ bit_at j bits
-  bit_kept j ne = bit-at-kept (null_bit c) i bits (null-bit-le c) byte_inside j ne
+  bit_kept j ne = bit_at_kept (null_bit c) i bits (null-bit-le c) byte_inside j ne
 
   length_bits : length new_bits ≡ bitmap_size (length ss)
   length_bits = length-set bits (i / 8) _ ∙ q.bitmap

@@ -19,7 +19,7 @@ use Rattle.row_format.specs.Places.{rank_after, varlens, rank_of, slot_start, bi
 use Rattle.row_format.specs.Table.{Cell, bytes, payloads, offset, base, lay, first_offset, range_end}
 use Rattle.row_format.specs.Row.{slot_size}
 use Rattle.row_format.proofs.Places.{through-next, slot-inside, rank-inside}
-use Rattle.row_format.proofs.Table.{payloads-append, length-lay, past-table, table-read, first-offsets, place, entry-lay, end-lay, range-lay}
+use Rattle.row_format.proofs.Table.{payloads-append, length-lay, past-table, table-read, first_offsets, place, entry_lay, end-lay, range-lay}
 use Rattle.row_format.specs.InnerTable.{range_bytes}
 use Rattle.row_layout.specs.Range.{varlen_range}
 use Rattle.datatype.specs.declared.DataType.{DataType}
@@ -124,16 +124,16 @@ module _ {w : ℕ} {p : Bool} {ts : List DataType} {head bits region : List ℕ}
       rank : k < length ps
       rank = rw q.cells (rank-inside ss i below (shape_at ts i ∙ rw v))
 
-      at-is : place w (head ++ bits) region pos ps k ≡ at
-      at-is = ap (λ (n : ℕ). n + length (payloads (take k ps))) base-is
+      at_is : place w (head ++ bits) region pos ps k ≡ at
+      at_is = ap (λ (n : ℕ). n + length (payloads (take k ps))) base-is
 
       entry : entry_at w (table_start (length ss)) k row ≡ offset cell at
-      entry = ap (λ (n : ℕ). entry_at w n k row) (sym length_front) ∙ entry-lay w (head ++ bits) region pos ps k rank q.fits ∙ ap (offset cell) at-is
+      entry = ap (λ (n : ℕ). entry_at w n k row) (sym length_front) ∙ entry_lay w (head ++ bits) region pos ps k rank q.fits ∙ ap (offset cell) at_is
 
       end : range_end w (table_start (length ss)) (varlens ss) k row ≡ at + length (bytes cell)
       end =
           ap₂ (λ (n m : ℕ). range_end w n m k row) (sym length_front) (sym q.cells) ∙ end-lay w (head ++ bits) region pos ps k rank q.fits
-          ∙ ap (λ (n : ℕ). n + length (bytes cell)) at-is
+          ∙ ap (λ (n : ℕ). n + length (bytes cell)) at_is
 
       within : at + length (bytes cell) ≤ length row
       within = rw laid_length (omega (arith, payload-inside ps k rank))
@@ -225,13 +225,13 @@ module _ {w : ℕ} {p : Bool} {ts : List DataType} {head bits region : List ℕ}
         by_kind true v = rw v (offset-lay v)
         by_kind false v = rw v (slot-sound t i null (slot v))
 
-  pub first-lay : first_payload w (table_start (length ts)) (varlens ss) row
+  pub first_lay : first_payload w (table_start (length ts)) (varlens ss) row
       ≡ minimum w p (map shape_of ts)
-  first-lay =
+  first_lay =
       let front : List ℕ = head ++ bits in
       ap₂ (λ (n m : ℕ). first_offset (from_table w m (drop n row)) (length row))
       (ap table_start (sym (length-map ts shape_of)) ∙ sym length_front) (sym q.cells)
-      ∙ rw (table-read w front region ps q.fits) (first-offsets (length row) (base w front region ps) ps (omega (arith, pos)) (sym (length-lay w front region ps)))
+      ∙ rw (table-read w front region ps q.fits) (first_offsets (length row) (base w front region ps) ps (omega (arith, pos)) (sym (length-lay w front region ps)))
       ∙ base-is
 
   -- the row is sound if each of its columns is
@@ -240,7 +240,7 @@ module _ {w : ℕ} {p : Bool} {ts : List DataType} {head bits region : List ℕ}
   laid_sound all =
       rw (columns-sound w p ts row (λ i h. column-lay i h ∙ all i h))
       (eq-eqb (first_payload w (table_start (length ts)) (varlens ss) row)
-      (minimum w p ss) first-lay)
+      (minimum w p ss) first_lay)
 
   -- its length, by the payloads that are read
   module _ (all : (i : ℕ) → i < length ts → sound_part p ts bits region ps i ≡ true) where

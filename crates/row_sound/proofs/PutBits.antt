@@ -57,8 +57,8 @@ bit_kept v k j b le ne =
 -- ---- a run of bytes
 
 module _ (v i : ℕ) (bs : List ℕ) (le : v ≤ 1) (h : i / 8 < length bs) where
-  pub bit-at-put : bit_at i (put_bit_at v i bs) ≡ v
-  bit-at-put = ap (bit_of (i % 8)) (get_or-set_same bs (i / 8) _ 0 h) ∙ bit-put v (i % 8) (get_or bs (i / 8) 0) le
+  pub bit_at_put : bit_at i (put_bit_at v i bs) ≡ v
+  bit_at_put = ap (bit_of (i % 8)) (get_or-set_same bs (i / 8) _ 0 h) ∙ bit-put v (i % 8) (get_or bs (i / 8) 0) le
 
   other_byte : (j : ℕ) → (j / 8 ≡ i / 8 → ⊥) → bit_at j (put_bit_at v i bs) ≡ bit_at j bs
   other_byte j ne = ap (bit_of (j % 8)) (get_or-set_other bs (i / 8) (j / 8) _ 0 ne)
@@ -66,5 +66,5 @@ module _ (v i : ℕ) (bs : List ℕ) (le : v ≤ 1) (h : i / 8 < length bs) wher
   same_byte : (j : ℕ) → j / 8 ≡ i / 8 → (i ≡ j → ⊥) → bit_at j (put_bit_at v i bs) ≡ bit_at j bs
   same_byte j e ne = rw e (ap (bit_of (j % 8)) (get_or-set_same bs (i / 8) _ 0 h) ∙ bit_kept v (i % 8) (j % 8) (get_or bs (i / 8) 0) le (λ q. ne (omega arith)))
 
-  pub bit-at-kept : (j : ℕ) → (i ≡ j → ⊥) → bit_at j (put_bit_at v i bs) ≡ bit_at j bs
-  bit-at-kept j ne = cases (j / 8) (i / 8) (λ a. other_byte j (λ e. omega arith)) (λ a. cases (i / 8) (j / 8) (λ b. other_byte j (λ e. omega arith)) (λ b. same_byte j (omega arith) ne))
+  pub bit_at_kept : (j : ℕ) → (i ≡ j → ⊥) → bit_at j (put_bit_at v i bs) ≡ bit_at j bs
+  bit_at_kept j ne = cases (j / 8) (i / 8) (λ a. other_byte j (λ e. omega arith)) (λ a. cases (i / 8) (j / 8) (λ b. other_byte j (λ e. omega arith)) (λ b. same_byte j (omega arith) ne))

@@ -9,7 +9,7 @@ use lib.ListN.{length, get_or, take, drop, length-drop, length-map}
 use lib.Seq.{take-add, length-take-le}
 use Rattle.laws.specs.Bytes.{entry_at}
 use Rattle.laws.specs.InnerForall.{Forall₂}
-use Rattle.laws.proofs.Bytes.{Below, length-from_table, table-entry}
+use Rattle.laws.proofs.Bytes.{Below, length-from_table, table_entry}
 use Rattle.row_format.specs.declared.Shape.{Shape}
 use Rattle.row_format.specs.declared.Shape.TheVariants.{Fixed, Varlen}
 use Rattle.row_format.specs.Places.{varlens, fixed_size, rank_of, slot_start, bitmap_start, bitmap_size, table_start, fixed_start, minimum, offset_width, row_limit}
@@ -42,7 +42,7 @@ use Rattle.row_sound.specs.Sound.{sound_column, is_sound_in, sound_in, soundness
 use Rattle.row_sound.specs.Written.{Writes, null}
 use Rattle.row_sound.specs.Reread.{written_content, length_in, Reread}
 use Rattle.row_sound.specs.Laid.{Parts, sound_part}
-use Rattle.row_sound.proofs.Columns.{offsets_of, sound-at, sound_ranges, sound-long, sound-lay}
+use Rattle.row_sound.proofs.Columns.{offsets_of, sound_at, sound_ranges, sound-long, sound-lay}
 use Rattle.row_sound.proofs.Laid.{column-lay, payload-length}
 use Rattle.row_sound.proofs.Built.{writes_fits, fits_all, cells-frame, cells-sound_in}
 use Rattle.row_sound.proofs.Edits.{Edited, edited, edited-long, edited-sound, reread}
@@ -120,7 +120,7 @@ module _ {k : Bool} {ts : List DataType} {p : Bool} {r : List ℕ} (s : SoundRow
   pub row_cell : (j : ℕ) → j < varlens ss → get_or cells j none ≡ held_at (entry_at w (table_start (length ss)) j r) (range_end w (table_start (length ss)) (varlens ss) j r) r
   unfolding range_end
   row_cell j h =
-      held-at (offsets_of w ts r) r j (rw length-from_table h) ∙ ap (λ (o : ℕ). held_at o (first_offset (drop (suc j) (offsets_of w ts r)) (length r)) r) (table-entry w (varlens ss) (table_start (length ss)) j r h)
+      held-at (offsets_of w ts r) r j (rw length-from_table h) ∙ ap (λ (o : ℕ). held_at o (first_offset (drop (suc j) (offsets_of w ts r)) (length r)) r) (table_entry w (varlens ss) (table_start (length ss)) j r h)
 
   -- ---- the length of an edited row
 
@@ -174,7 +174,7 @@ module _ {k : Bool} {ts : List DataType} {p : Bool} {r : List ℕ} (s : SoundRow
     pub row-columns : (j : ℕ) → j < length ts → sound_part p ts bits region cells j ≡ true
     row-columns j l =
         sym (column-lay row_parts j l) ∙ ap (λ (x : List ℕ). sound_column w p ts j x) (sym row_cut)
-        ∙ sound-at w p ts r s.sound j l
+        ∙ sound_at w p ts r s.sound j l
 
     -- its length, as 01 says it
     pub sound-length : length r ≡ length_in w p ts r

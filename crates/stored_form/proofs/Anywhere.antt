@@ -48,9 +48,9 @@ module _ (a b : ℕ) (bs : List ℕ) where
   both_number s (Bcd.Value negative high low) = alike refl
   both_number s Bcd.Broken = by_both (eqb (length bs) 17) (Value (D.Numeric (twos_complement bs))) NoValue (Value (D.Numeric (twos_complement bs))) NoValue (alike refl) tt
 
-  both-time : (d : TimeOfDay) → Both (timed d) (timed d)
-  both-time (Micros z) = alike refl
-  both-time OutOfRange = tt
+  both_time : (d : TimeOfDay) → Both (timed d) (timed d)
+  both_time (Micros z) = alike refl
+  both_time OutOfRange = tt
 
   both_if : (t : Bool) (v w : DataValue) → Twins v w → Both (cond t (Value v) NoValue) (cond t (Value w) NoValue)
   both_if t v w h = by_both t (Value v) NoValue (Value w) NoValue h tt
@@ -68,6 +68,6 @@ module _ (a b : ℕ) (bs : List ℕ) where
   both (T.Character n) = both_if (is_text bs) (D.Char (whole a bs)) (D.Char (whole b bs)) char
   both (T.Varchar p n) = both_if (fits_text p n bs) (D.Varchar (whole a bs)) (D.Varchar (whole b bs)) varchar
   both T.Date = both_if (is_date (to_z w32 (from_le bs))) (D.Date (to_z w32 (from_le bs))) (D.Date (to_z w32 (from_le bs))) (alike refl)
-  both T.Time = both-time (time_of (to_z w64 (from_le bs)))
+  both T.Time = both_time (time_of (to_z w64 (from_le bs)))
   both (T.Bit n) = bit
   both T.Timestamp = both_if (is_timestamp (to_z w64 (from_le bs))) (D.Timestamp (to_z w64 (from_le bs))) (D.Timestamp (to_z w64 (from_le bs))) (alike refl)

@@ -42,9 +42,9 @@ use Rattle.stored_form.proofs.Lengths.{length_char}
 use Rattle.stored_form.proofs.Numbers.{unsigned_back, signed_back, bool_back, number_back}
 
 -- the digits of a number that fits
-numeric-back : (p s : ℕ) (n : NumericValue) (bs : List ℕ) → cond (eqb n.scale s) (ltb (magnitude n.high n.low) (10 ^ p)) false ≡ true → SizedNumeric n
+numeric_back : (p s : ℕ) (n : NumericValue) (bs : List ℕ) → cond (eqb n.scale s) (ltb (magnitude n.high n.low) (10 ^ p)) false ≡ true → SizedNumeric n
     → decoded s bs (decode_bcd p (encode_bcd p (is_negative n.high) (magnitude n.high n.low))) ≡ Value (D.Numeric n)
-numeric-back p s n bs e f =
+numeric_back p s n bs e f =
     let m : ℕ = magnitude n.high n.low in
     let fits = both (eqb n.scale s) (ltb m (10 ^ p)) e in
     ap (decoded s bs) (decode_encode p (is_negative n.high) m (ltb-true m (10 ^ p) fits.1))
@@ -67,8 +67,8 @@ of_matched t v x start (int z) e f = ap (λ (y : ℤ). Value (D.Int y)) (signed_
 of_matched t v x start (bigint z) e f = ap (λ (y : ℤ). Value (D.BigInt y)) (signed_back w64 8 refl z f)
 of_matched t v x start (real b) e f = ap (λ (y : ℕ). Value (D.Real y)) (unsigned_back w32 4 refl b f)
 of_matched t v x start (double b) e f = ap (λ (y : ℕ). Value (D.DoublePrecision y)) (unsigned_back w64 8 refl b f)
-of_matched t v x start (numeric p s n) e f = numeric-back p s n (stored_form t v x) e f
-of_matched t v x start (decimal p s n) e f = numeric-back p s n (stored_form t v x) e f
+of_matched t v x start (numeric p s n) e f = numeric_back p s n (stored_form t v x) e f
+of_matched t v x start (decimal p s n) e f = numeric_back p s n (stored_form t v x) e f
 of_matched t v x start (bool b) e f = ap (λ (y : ℕ). Value (D.Bool y)) (bool_back b e)
 of_matched t v x start (char n r) e f = char_back n start x e
 of_matched t v x start (character n r) e f = char_back n start x e

@@ -12,8 +12,8 @@ use Rattle.text_limit.specs.Limit.{fits_text}
 use Rattle.text_limit.specs.Characters.{AtMost, FitsCharacters, FitsEither}
 use Rattle.text_limit.proofs.Limits.{size-le, fits-valid, fits-size}
 
-fits-at_most : (n : ℕ) (x : List ℕ) → fits_text true n x ≡ true → AtMost n x
-fits-at_most n x e =
+fits_at_most : (n : ℕ) (x : List ℕ) → fits_text true n x ≡ true → AtMost n x
+fits_at_most n x e =
     record {
       count = points x;
       all = (characters x (points x)).0 (points-some x (fits-valid true n x e));
@@ -26,7 +26,7 @@ at_most_fits n x a =
     rw (s) (le-leb a.count n a.few)
 
 pub fits-characters : FitsCharacters
-fits-characters n x = (fits-at_most n x, at_most_fits n x)
+fits-characters n x = (fits_at_most n x, at_most_fits n x)
 
 pub fits_either : FitsEither
 fits_either n x e =

@@ -74,8 +74,8 @@ pub record First (n : ℕ) (s : List ℕ) (at : ℕ) (v : DataValue) (vs : List 
   pub first : record_at s at ≡ Value v next
   pub rest : records n s next ≡ ok vs
 
-pub records-first : (n : ℕ) (s : List ℕ) (at : ℕ) {v : DataValue} {vs : List DataValue} → records (suc n) s at ≡ ok (v ∷ vs) → First n s at v vs
-records-first n s at {v} {vs} e =
+pub records_first : (n : ℕ) (s : List ℕ) (at : ℕ) {v : DataValue} {vs : List DataValue} → records (suc n) s at ≡ ok (v ∷ vs) → First n s at v vs
+records_first n s at {v} {vs} e =
     cases at (length s) (λ h. of_record (record_at s at) refl h (rw (lt-ltb at (length s) h) at e))
     (λ h. absurd (empty-none (rw (le-ltb at (length s) h) at e)))
   where
@@ -93,7 +93,7 @@ records-first n s at {v} {vs} e =
 records-sized : (n : ℕ) (s : List ℕ) (at : ℕ) (vs : List DataValue) → AllBytes s → records n s at ≡ ok vs → AllSized vs
 records-sized n s at [] a e = tt
 records-sized zero s at (v ∷ vs) a e = absurd (empty-none e)
-records-sized (suc n) s at (v ∷ vs) a e = let f = records-first n s at e in (value-sized s at a f.first, records-sized n s f.next vs a f.rest)
+records-sized (suc n) s at (v ∷ vs) a e = let f = records_first n s at e in (value-sized s at a f.first, records-sized n s f.next vs a f.rest)
 
 pub values-sized : (s : List ℕ) {vs : List DataValue} → AllBytes s → values_of s ≡ ok vs → AllSized vs
 unfolding values_of

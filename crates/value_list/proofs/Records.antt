@@ -55,8 +55,8 @@ range-read w p q at e r f =
     ∙ from_at w r.length (p ++ to_le w r.start) q (at + w) (length-append p (to_le w r.start) ∙ rw (length-to_le w r.start, e)) f.size in
     rw (one, two)
 
-numeric-read : (p q : List ℕ) (at : ℕ) → length p ≡ at → (n : NumericValue) → SizedNumeric n → numeric_at (p ++ (numeric_bytes n ++ q)) at ≡ n
-numeric-read p q at e n f =
+numeric_read : (p q : List ℕ) (at : ℕ) → length p ≡ at → (n : NumericValue) → SizedNumeric n → numeric_at (p ++ (numeric_bytes n ++ q)) at ≡ n
+numeric_read p q at e n f =
     let low = to_le 8 n.low in
     let high = to_le 8 (of_z w64 n.high) in
     let past : length (p ++ low) ≡ at + 8 = length-append p low ∙ ap (λ (m : ℕ). m + 8) e in
@@ -90,7 +90,7 @@ form_of k (D.Int x) f n = plain refl refl refl (λ p q at e. ap D.Int (signed-re
 form_of k (D.BigInt x) f n = plain refl refl refl (λ p q at e. ap D.BigInt (signed-read p q at e w64 8 refl x f))
 form_of k (D.Real x) f n = plain refl refl refl (λ p q at e. ap D.Real (unsigned_read p q at e w32 4 refl x f))
 form_of k (D.DoublePrecision x) f n = plain refl refl refl (λ p q at e. ap D.DoublePrecision (unsigned_read p q at e w64 8 refl x f))
-form_of k (D.Numeric m) f n = plain refl refl refl (λ p q at e. ap D.Numeric (numeric-read p q at e m f))
+form_of k (D.Numeric m) f n = plain refl refl refl (λ p q at e. ap D.Numeric (numeric_read p q at e m f))
 form_of k (D.Bool b) f n = plain refl refl refl (λ p q at e. ap D.Bool (get_or_at p b q 0 at e))
 form_of false (D.Char r) f n = plain refl refl refl (λ p q at e. ap D.Char (range-read 2 p q at e r n))
 form_of true (D.Char r) f n = record { kind = 17; body = range_body 4 r; whole = refl; known = refl; size = refl; back = λ p q at e. ap D.Char (range-read 4 p q at e r n) }
@@ -147,8 +147,8 @@ module _ (s : List ℕ) (a : AllBytes s) where
   int_8 : (at : ℕ) → SFits w64 (to_z w64 (number_at 8 s at))
   int_8 at = to_z-Fits w64 (number_at 8 s at) (fits_8 at)
 
-  numeric-sized : (at : ℕ) → SizedNumeric (numeric_at s at)
-  numeric-sized at = record { high = int_8 (at + 8); low = fits_8 at; scale = a (at + 16) }
+  numeric_sized : (at : ℕ) → SizedNumeric (numeric_at s at)
+  numeric_sized at = record { high = int_8 (at + 8); low = fits_8 at; scale = a (at + 16) }
 
   range-sized : (k : Bool) (at : ℕ) → NarrowRange 4 (range_at (offset_width k) s at)
   range-sized k at =
@@ -169,7 +169,7 @@ module _ (s : List ℕ) (a : AllBytes s) where
       (one_of (eqb k 3) _ _ (int_8 at)
       (one_of (eqb k 4) _ _ (fits_4 at)
       (one_of (eqb k 5) _ _ (fits_8 at)
-      (one_of (eqb k 6) _ _ (numeric-sized at)
+      (one_of (eqb k 6) _ _ (numeric_sized at)
       (one_of (eqb k 7) _ _ (a at)
       (one_of (eqb k 8) _ _ (range-sized t at)
       (one_of (eqb k 9) _ _ (range-sized t at)

@@ -4,7 +4,7 @@ use mathlib.Core.Path.{◌≡◌, ap}
 use mathlib.Core.List.{List}
 use native.Mathlib.Omega.{arith}
 use borrow.Author.Tests.{lt-ltb, le-ltb}
-use mathlib.Core.Bool.{true, false}
+use mathlib.Core.Bool.{true}
 use lib.ListN.{length, get_or}
 use Rattle.value.specs.declared.DataValue.{DataValue}
 use Rattle.error.specs.declared.Refusal.TheVariants.{BadValueList}

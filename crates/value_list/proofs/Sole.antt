@@ -11,7 +11,7 @@ use Rattle.value_list.specs.declared.ValueRecord.TheVariants.{Value, Refused}
 use Rattle.value_list.specs.declared.ListCheck.TheVariants as Check
 use Rattle.value_list.specs.Records.{record_at}
 use Rattle.value_list.specs.Lists.{Values, records, values_of, checked}
-use Rattle.value_list.proofs.Lists.{records-first, checked-taken}
+use Rattle.value_list.proofs.Lists.{records_first, checked-taken}
 use Rattle.value_list.specs.InnerLists.{answer}
 use mathlib.Core.Bool.{Bool}
 
@@ -22,7 +22,7 @@ record First (s : List ℕ) (v : DataValue) : Type 0 where
 
 first_of : (n : ℕ) (s : List ℕ) (v : DataValue) → records n s 0 ≡ ok (v ∷ []) → First s v
 first_of zero s v e = let z : ◌≡◌ {A = ℕ} 0 1 = cc in absurd (omega arith)
-first_of (suc n) s v e = let f = records-first n s 0 e in record { next = f.next; within = f.within; first = f.first }
+first_of (suc n) s v e = let f = records_first n s 0 e in record { next = f.next; within = f.within; first = f.first }
 
 all_first : (s : List ℕ) (v : DataValue) → values_of s ≡ ok (v ∷ []) → First s v
 unfolding values_of

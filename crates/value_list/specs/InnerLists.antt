@@ -1,6 +1,5 @@
 -- For the proofs: the check's answer, and values that records can hold.
 use Rattle.error.specs.Result.{ok, refused}
-use Rattle.value_list.specs.declared.ValueRecord.TheVariants.{Refused}
 use Rattle.value_list.specs.declared.ListCheck.{ListCheck}
 use Rattle.value_list.specs.declared.ListCheck.TheVariants as Check
 use Rattle.value_list.specs.Lists.{Values}

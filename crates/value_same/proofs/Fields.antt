@@ -56,10 +56,10 @@ all_three true false c = refl
 all_three false b c = refl
 
 module _ (w l l' u u' s s' : ℕ) where
-  numeric-same : cond (eqb (from_le (to_le w l)) (from_le (to_le w l')))
+  numeric_same : cond (eqb (from_le (to_le w l)) (from_le (to_le w l')))
       (cond (eqb (from_le (to_le w u)) (from_le (to_le w u'))) (eqb s s') false) false
       ≡ same_bytes (to_le w l ++ (to_le w u ++ (s ∷ []))) (to_le w l' ++ (to_le w u' ++ (s' ∷ [])))
-  numeric-same =
+  numeric_same =
       let lengths : (a b : ℕ) → length (to_le w a) ≡ length (to_le w b)
       = λ a b. length-to_le w a ∙ sym (length-to_le w b) in
       rw (
@@ -81,7 +81,7 @@ module _ (n : ℕ) (r s : List ℕ) where
   of_kind (Kinded.real a) (Kinded.real b) = refl
   of_kind (Kinded.double a) (Kinded.double b) = refl
   of_kind (Kinded.numeric m) (Kinded.numeric o) =
-      numeric-same 8 m.low o.low (of_z w64 m.high) (of_z w64 o.high) m.scale o.scale
+      numeric_same 8 m.low o.low (of_z w64 m.high) (of_z w64 o.high) m.scale o.scale
   of_kind (Kinded.bool a) (Kinded.bool b) = byte_same a b
   of_kind (Kinded.char p) (Kinded.char q) = cond_self _
   of_kind (Kinded.varchar p) (Kinded.varchar q) = cond_self _

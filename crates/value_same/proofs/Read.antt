@@ -56,10 +56,10 @@ module _ (P : DataValue → Type 0) where
   if_holds true v e = e
   if_holds false v e = tt
 
-  numeric-holds : (s : ℕ) (bs : List ℕ) (d : Decoded) → ((m : NumericValue) → P (D.Numeric m))
+  numeric_holds : (s : ℕ) (bs : List ℕ) (d : Decoded) → ((m : NumericValue) → P (D.Numeric m))
       → Holds P (decoded s bs d)
-  numeric-holds s bs (Bcd.Value negative high low) e = e (numeric_of negative (halves high low) s)
-  numeric-holds s bs Bcd.Broken e =
+  numeric_holds s bs (Bcd.Value negative high low) e = e (numeric_of negative (halves high low) s)
+  numeric_holds s bs Bcd.Broken e =
       if_holds (eqb (length bs) 17) (D.Numeric (twos_complement bs)) (e (twos_complement bs))
 
   time-holds : (d : TimeOfDay) → ((z : ℤ) → P (D.Time z)) → Holds P (timed d)
@@ -98,9 +98,9 @@ module _ (start : ℕ) (bs row : List ℕ) (h : start + length bs ≤ length row
   slot_placed T.Real l = none (D.Real (from_le bs)) refl refl refl
   slot_placed T.DoublePrecision l = none (D.DoublePrecision (from_le bs)) refl refl refl
   slot_placed (T.Numeric p s) l =
-      numeric-holds (Placed (T.Numeric p s) row) s bs (decode_bcd p bs) (λ m. none (D.Numeric m) refl refl refl)
+      numeric_holds (Placed (T.Numeric p s) row) s bs (decode_bcd p bs) (λ m. none (D.Numeric m) refl refl refl)
   slot_placed (T.Decimal p s) l =
-      numeric-holds (Placed (T.Decimal p s) row) s bs (decode_bcd p bs) (λ m. none (D.Numeric m) refl refl refl)
+      numeric_holds (Placed (T.Decimal p s) row) s bs (decode_bcd p bs) (λ m. none (D.Numeric m) refl refl refl)
   slot_placed T.Bool l = none (D.Bool (cond (eqb (get_or bs 0 0) 0) 0 1)) refl refl refl
   slot_placed (T.Char n) l = if_holds (Placed (T.Char n) row) (is_text bs) (D.Char (whole start bs)) (char (l refl))
   slot_placed (T.Character n) l =
@@ -175,8 +175,8 @@ module _ (start : ℕ) (bs : List ℕ) (a : AllBytes bs) where
   twos_sized =
       record { high = to_z-Fits w64 (from_le (take 8 (drop 8 bs))) (part-fits 8); low = part-fits 0; scale = a 16 }
 
-  numeric-sized : (p s : ℕ) → p ≤ 38 → s < 256 → Holds Sized (decoded s bs (decode_bcd p bs))
-  numeric-sized p s h k =
+  numeric_sized : (p s : ℕ) → p ≤ 38 → s < 256 → Holds Sized (decoded s bs (decode_bcd p bs))
+  numeric_sized p s h k =
       by_number (λ d. Holds Sized (decoded s bs d)) p bs h
       (if_holds Sized (eqb (length bs) 17) (D.Numeric (twos_complement bs)) twos_sized)
       (λ negative x l. let whole : halves (x / 2 ^ 64) (x % 2 ^ 64) ≡ x = omega arith in
@@ -189,8 +189,8 @@ module _ (start : ℕ) (bs : List ℕ) (a : AllBytes bs) where
   slot-sized T.BigInt l n p s = signed w64 8 refl (l refl)
   slot-sized T.Real l n p s = unsigned w32 4 refl (l refl)
   slot-sized T.DoublePrecision l n p s = unsigned w64 8 refl (l refl)
-  slot-sized (T.Numeric q r) l n p s = numeric-sized q r p s
-  slot-sized (T.Decimal q r) l n p s = numeric-sized q r p s
+  slot-sized (T.Numeric q r) l n p s = numeric_sized q r p s
+  slot-sized (T.Decimal q r) l n p s = numeric_sized q r p s
   slot-sized T.Bool l n p s =
       by_cond (Fits w8) (eqb (get_or bs 0 0) 0) 0 1 (λ _. record { fits = omega arith })
       (λ _. record { fits = omega arith })

@@ -1,7 +1,7 @@
 -- What the same content means for stored forms: they are equal, but for two NaNs and two zeros.
 use Prim.Native.Nat.{ℕ}
 use mathlib.Core.Path.{◌≡◌, refl, sym, ap, ◌∙◌, subst}
-use mathlib.Core.Bool.{true, false}
+use mathlib.Core.Bool.{true}
 use mathlib.Core.List.{List, [], ◌++◌}
 use lib.Dec.{eqb}
 use lib.Ieee.{Format, binary32, binary64}
@@ -11,7 +11,7 @@ use Rattle.laws.specs.Bytes.{to_le, from_le}
 use Rattle.laws.proofs.Same.{same-eq}
 use Rattle.laws.proofs.Truths.{both}
 use Rattle.float.specs.Same.{same_value}
-use Rattle.float.proofs.ByBits.{value-alike}
+use Rattle.float.proofs.ByBits.{value_alike}
 use Rattle.bit_utils.specs.Bits.{pack_bits, unpack_bits}
 use Rattle.datatype.specs.declared.DataType.{DataType}
 use Rattle.datatype.specs.Types.{length_of}
@@ -40,7 +40,7 @@ module _ (t : DataType) (x y : List ℕ) where
       → same_value f (from_le (body_of v)) (from_le (body_of w)) ≡ true → SameStored t v x w y
   floats f v w p q e g h =
       alike_floats f p q
-      (rw (e, g) (value-alike f (from_le (body_of v)) (from_le (body_of w)) (pattern f v p) (pattern f w q) h))
+      (rw (e, g) (value_alike f (from_le (body_of v)) (from_le (body_of w)) (pattern f v p) (pattern f w q) h))
 
   of_kind : {k : ℕ} {v w : DataValue} → Kinded v k → Kinded w k → (k ≡ 6 → Sized v) → (k ≡ 6 → Sized w)
       → same_of_kind k (length_of t) v x w y ≡ true → SameStored t v x w y

@@ -5,11 +5,11 @@ use mathlib.Core.Path.{refl, sym, ap, ◌∙◌, subst}
 use Rattle.datatype.specs.declared.DataType.{DataType}
 use Rattle.datatype.specs.declared.DataType.TheVariants.{Char, Character, Varchar}
 use Rattle.datatype.specs.Check.{type_at, types_in}
-use Rattle.datatype.proofs.KindTable.{varchar-kind, no-varchar}
+use Rattle.datatype.proofs.KindTable.{varchar-kind, no_varchar}
 use Rattle.datatype.proofs.Plain.{sized_record}
 use Rattle.value.specs.Kinds.{holds_text}
 use Rattle.row_column.specs.InnerWalk.{Reachable}
-use Rattle.column_decode.proofs.Counts.{other_no-text, column_uncounted}
+use Rattle.column_decode.proofs.Counts.{other_no_text, column_uncounted}
 use Rattle.column_decode.proofs.Present.{as_char}
 use Rattle.column_decode.proofs.decode_body.Goals as goal
 
@@ -72,8 +72,8 @@ returns-in-10 c =
 pub returns-in_default : goal.returns-in_default
 returns-in_default c =
     let a = c.args in
-    let no = no-varchar (get_or a.schema.now a.at 0) (sym c.is_varchar.ensures ∙ c.if-is_varchar.false) in
-    let other = other_no-text a.schema.now a.at (c.in_default.in_default-own.rest.0.1, (c.in_default.in_default-own.rest.1, no)) c.requires.0.good in
+    let no = no_varchar (get_or a.schema.now a.at 0) (sym c.is_varchar.ensures ∙ c.if-is_varchar.false) in
+    let other = other_no_text a.schema.now a.at (c.in_default.in_default-own.rest.0.1, (c.in_default.in_default-own.rest.1, no)) c.requires.0.good in
     c.decode_value.ensures
     ∙ column_uncounted a.layout.is_long a.buf.now a.end a.layout a.packed a.before (type_at (types_in a.schema.now) a.before.num_columns) a.row.now
     (ap holds_text (sym c.requires.0.typed) ∙ other)

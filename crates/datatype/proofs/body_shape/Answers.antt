@@ -1,6 +1,6 @@
 use mathlib.Core.Path.{sym, ◌∙◌}
 use native.Mathlib.Omega.{arith}
-use Rattle.datatype.proofs.KindTable.{varchar-kind, no-varchar}
+use Rattle.datatype.proofs.KindTable.{varchar-kind, no_varchar}
 use Rattle.datatype.proofs.Plain.{short-kind, long-kind}
 use Rattle.datatype.proofs.body_shape.Goals as goal
 
@@ -19,5 +19,5 @@ returns-then-kind-eq-BIT c = (rw c.if-kind-eq-BIT.true, omega arith)
 pub returns : goal.returns
 returns c =
     let a = c.args in
-    let no = no-varchar a.kind (sym c.is_varchar.ensures ∙ c.if-is_varchar.false) in
+    let no = no_varchar a.kind (sym c.is_varchar.ensures ∙ c.if-is_varchar.false) in
     (long-kind a.kind c.requires.0 c.requires.1 a.first a.n c.if-kind-le-DECIMAL.false no.0 c.if-kind-eq-BIT.false no.1, omega arith)

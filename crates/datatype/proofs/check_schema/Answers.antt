@@ -1,7 +1,6 @@
 use native.Mathlib.Omega.{arith}
 use mathlib.Core.Path.{sym, ◌∙◌}
-use Prim.Native.Nat.{◌-◌}
-use Rattle.datatype.proofs.Walk.{Walking, walk_start, walk_end, walk_over, walk_bad, walk_more}
+use Rattle.datatype.proofs.Walk.{walk_start, walk_end, walk_over, walk_bad, walk_more}
 use Rattle.datatype.proofs.Plain.{plain_record, plain_added}
 use borrow.Author.Rules.{rules}
 use Rattle.datatype.proofs.check_schema.Goals as goal

@@ -1,6 +1,4 @@
-use Rattle.laws.proofs.Same.{Comparing, same_lengths, compare_more, compare_other, compare_end}
-use lib.ListN.{length}
-use Prim.Native.Nat.{◌-◌}
+use Rattle.laws.proofs.Same.{same_lengths, compare_more, compare_other, compare_end}
 use mathlib.Core.Path.{sym}
 use borrow.Author.Rules.{rules}
 use Rattle.endian.proofs.same_bytes.Goals as goal

@@ -1,8 +1,6 @@
-use Rattle.laws.proofs.Same.{Comparing, same_lengths, compare_more, compare_other, compare_end}
+use Rattle.laws.proofs.Same.{Comparing}
 use lib.ListN.{length}
 use Prim.Native.Nat.{◌-◌}
-use mathlib.Core.Path.{sym}
-use borrow.Author.Rules.{rules}
 use Rattle.endian.proofs.same_bytes.Given as goal
 
 abbrev pub invariant-loop-i : goal.invariant-loop-i

@@ -1,6 +1,4 @@
-use Rattle.laws.proofs.Same.{Comparing, compare_start, compare_number}
-use lib.ListN.{length}
-use Prim.Native.Nat.{◌-◌}
+use Rattle.laws.proofs.Same.{compare_start, compare_number}
 use mathlib.Core.Path.{sym, ◌∙◌}
 use borrow.Author.Rules.{rules}
 use Rattle.endian.proofs.same_words.Goals as goal

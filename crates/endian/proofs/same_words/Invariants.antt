@@ -1,8 +1,6 @@
-use Rattle.laws.proofs.Same.{Comparing, compare_start, compare_number}
+use Rattle.laws.proofs.Same.{Comparing}
 use lib.ListN.{length}
 use Prim.Native.Nat.{◌-◌}
-use mathlib.Core.Path.{sym, ◌∙◌}
-use borrow.Author.Rules.{rules}
 use Rattle.endian.proofs.same_words.Given as goal
 
 abbrev pub invariant-loop-i : goal.invariant-loop-i

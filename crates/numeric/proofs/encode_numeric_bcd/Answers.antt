@@ -1,14 +1,13 @@
-use Prim.Native.Nat.{◌+◌, ◌-◌, ◌/◌, ◌≤◌}
+use Prim.Native.Nat.{◌+◌, ◌/◌, ◌≤◌}
 use mathlib.Core.Path.{◌≡◌, refl, sym, ◌∙◌}
 use native.Mathlib.Nat.{add-zero}
 use native.Mathlib.Omega.{arith}
 use borrow.Author.Rules.{rules}
-use lib.ListN.{length, get_or, set, drop, length-set}
-use lib.Seq.{sets}
+use lib.ListN.{get_or, set, length-set}
 use Rattle.laws.proofs.Stores.{copied, copied_all}
 use Rattle.numeric.specs.Decimal.{halves}
 use Rattle.numeric.specs.Packed.{encode_bcd}
-use Rattle.numeric.proofs.Packing.{length_encode, digits-at, digits_last, last_digit}
+use Rattle.numeric.proofs.Packing.{length_encode, digits_at, digits_last, last_digit}
 use Rattle.numeric.proofs.encode_numeric_bcd.Goals as goal
 
 pub loop-j-init : goal.loop-j-init
@@ -20,7 +19,7 @@ loop-j-preserved c =
     let pre = c.requires in
     let l = c.loop-j in
     let x = halves a.high a.low in
-    let e = digits-at a.p x pre.1.0 pre.0 a.negative l.j c.loop-j-test.true in
+    let e = digits_at a.p x pre.1.0 pre.0 a.negative l.j c.loop-j-test.true in
     (simp length-set l.invariant.0, (search rules, rw (c.digits_of-d.ensures, e) (copied l.s (encode_bcd a.p a.negative x) a.at l.j (rw length_encode (search rules))) ∙ l.invariant.1.1))
 
 pub overflow_add-s-2 : goal.overflow_add-s-2

@@ -1,14 +1,9 @@
-use Prim.Native.Nat.{◌+◌, ◌-◌, ◌/◌, ◌≤◌}
-use mathlib.Core.Path.{◌≡◌, refl, sym, ◌∙◌}
-use native.Mathlib.Nat.{add-zero}
-use native.Mathlib.Omega.{arith}
-use borrow.Author.Rules.{rules}
-use lib.ListN.{length, get_or, set, drop, length-set}
+use Prim.Native.Nat.{◌+◌, ◌-◌, ◌≤◌}
+use mathlib.Core.Path.{◌≡◌}
+use lib.ListN.{length, drop}
 use lib.Seq.{sets}
-use Rattle.laws.proofs.Stores.{copied, copied_all}
 use Rattle.numeric.specs.Decimal.{halves}
 use Rattle.numeric.specs.Packed.{encode_bcd}
-use Rattle.numeric.proofs.Packing.{length_encode, digits-at, digits_last, last_digit}
 use Rattle.numeric.proofs.encode_numeric_bcd.Given as goal
 
 abbrev pub invariant-loop-j : goal.invariant-loop-j

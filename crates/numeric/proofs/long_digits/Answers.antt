@@ -3,10 +3,9 @@ use native.Mathlib.Omega.{arith}
 use borrow.Author.Rules.{rules}
 use lib.Dec.{lit≤}
 use lib.ListN.{length, length-set}
-use Rattle.numeric.specs.Decimal.{halves, digits}
-use Rattle.numeric.specs.Packed.{pairs}
-use Rattle.numeric.proofs.Digits.{no-high}
-use Rattle.numeric.proofs.Packing.{length_thirty_nine, Filling, halves-room, fill_nine, fill_long, fill_eight}
+use Rattle.numeric.specs.Decimal.{halves}
+use Rattle.numeric.proofs.Digits.{no_high}
+use Rattle.numeric.proofs.Packing.{length_thirty_nine, halves-room, fill_nine, fill_long, fill_eight}
 use Rattle.numeric.proofs.long_digits.Goals as goal
 
 pub divided_by-first-requires : goal.divided_by-first-requires
@@ -50,13 +49,13 @@ loop-h-preserved c =
 
 pub put_pairs-requires : goal.put_pairs-requires
 put_pairs-requires c =
-    let e = no-high c.loop-h.h c.loop-h.l (omega (arith, c.loop-h-test.false)) in
+    let e = no_high c.loop-h.h c.loop-h.l (omega (arith, c.loop-h-test.false)) in
     rw e c.loop-h.invariant.fresh
 
 pub returns : goal.returns
 returns c =
     let l = c.loop-h in
-    let e = no-high l.h l.l (omega (arith, c.loop-h-test.false)) in
+    let e = no_high l.h l.l (omega (arith, c.loop-h-test.false)) in
     c.put_pairs.ensures ∙ rw e l.invariant.stored
 
 pub shape_of-s : goal.shape_of-s

@@ -1,9 +1,5 @@
-use Prim.Native.Nat.{◌-◌, ◌^◌, ◌<◌}
-use lib.ListN.{take, drop}
 use borrow.Author.Rules.{rules}
-use Rattle.numeric.specs.Decimal.{halves}
-use Rattle.numeric.specs.Packed.{nibbles}
-use Rattle.numeric.proofs.Reading.{Reading, reading_start, window_more, window_bad, window_long, long-fits}
+use Rattle.numeric.proofs.Reading.{reading_start, window_more, window_bad, window_long, long-fits}
 use Rattle.numeric.proofs.long_magnitude.Goals as goal
 
 pub loop-k-init : goal.loop-k-init

@@ -1,7 +1,7 @@
 use borrow.Author.Rules.{rules}
 use lib.ListN.{length-set}
 use native.Mathlib.Numerals.{unary_clauses}
-use Rattle.numeric.proofs.Packing.{hundreds-eight}
+use Rattle.numeric.proofs.Packing.{hundreds_eight}
 use Rattle.numeric.proofs.put_eight.Goals as goal
 
 pub bounds-s-at-2 : goal.bounds-s-at-2
@@ -15,4 +15,4 @@ bounds-s-at-4 c = simp length-set (search rules)
 
 pub returns : goal.returns
 returns c =
-    simp unary_clauses (rw (hundreds-eight c.args.n c.requires.0, c.two_digits.ensures, c.two_digits-2.ensures, c.two_digits-3.ensures, c.two_digits-4.ensures))
+    simp unary_clauses (rw (hundreds_eight c.args.n c.requires.0, c.two_digits.ensures, c.two_digits-2.ensures, c.two_digits-3.ensures, c.two_digits-4.ensures))

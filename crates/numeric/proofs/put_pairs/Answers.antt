@@ -1,8 +1,8 @@
 use mathlib.Core.Path.{refl, ◌∙◌}
-use lib.Seq.{sets, length-sets}
+use lib.Seq.{length-sets}
 use native.Mathlib.Omega.{arith}
 use Rattle.numeric.specs.InnerPacked.{hundreds}
-use Rattle.numeric.proofs.Packing.{Filling, fill_room, fill_two, fill_length, fill_end}
+use Rattle.numeric.proofs.Packing.{fill_room, fill_two, fill_length, fill_end}
 use Rattle.numeric.proofs.put_pairs.Goals as goal
 
 pub loop-rest-init : goal.loop-rest-init

@@ -1,9 +1,6 @@
-use mathlib.Core.Path.{refl, ◌∙◌}
-use lib.Seq.{sets, length-sets}
-use borrow.Author.Rules.{rules}
-use native.Mathlib.Omega.{arith}
+use lib.Seq.{sets}
 use Rattle.numeric.specs.InnerPacked.{hundreds}
-use Rattle.numeric.proofs.Packing.{Filling, fill_room, fill_two, fill_length, fill_end}
+use Rattle.numeric.proofs.Packing.{Filling}
 use Rattle.numeric.proofs.put_pairs.Given as goal
 
 abbrev pub invariant-loop-rest : goal.invariant-loop-rest

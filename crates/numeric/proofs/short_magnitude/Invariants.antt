@@ -1,8 +1,7 @@
 use Prim.Native.Nat.{◌-◌}
 use lib.ListN.{take, drop}
-use borrow.Author.Rules.{rules}
 use Rattle.numeric.specs.Packed.{nibbles}
-use Rattle.numeric.proofs.Reading.{Reading, reading_start, window_more, window_bad, window_short, short-fits}
+use Rattle.numeric.proofs.Reading.{Reading}
 use Rattle.numeric.proofs.short_magnitude.Given as goal
 
 abbrev pub invariant-loop-k : goal.invariant-loop-k

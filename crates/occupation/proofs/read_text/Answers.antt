@@ -2,7 +2,7 @@
 use mathlib.Core.Path.{sym, ◌∙◌}
 use native.Mathlib.Omega.{arith}
 use lib.ListN.{length}
-use Rattle.occupation.proofs.Reading.{text-long, text-good, text-bad, text-null, text_outside, text_in_lem, null_in}
+use Rattle.occupation.proofs.Reading.{text-long, text-good, text_bad, text-null, text_outside, text_in_lem, null_in}
 use borrow.Author.Rules.{rules}
 use Rattle.occupation.proofs.read_text.Goals as goal
 
@@ -47,4 +47,4 @@ returns-else-is_valid c =
     let a = c.args in
     let q = sym c.in-Bytes.is ∙ c.text_range.ensures.0 in
     let w = rw c.in-Bytes.is at c.text_range.ensures.1 in
-    (text-bad a.is_long a.n a.column a.row.now q w (search rules) (sym c.is_valid.ensures ∙ c.if-is_valid.false), tt)
+    (text_bad a.is_long a.n a.column a.row.now q w (search rules) (sym c.is_valid.ensures ∙ c.if-is_valid.false), tt)

@@ -1,7 +1,7 @@
 use native.Mathlib.Omega.{arith}
 use mathlib.Core.Path.{◌≡◌, ◌∙◌, sym, ap}
 use lib.ListN.{get_or}
-use borrow.Author.Tests.{eqb-true, eqb-false, not-true, not-false}
+use borrow.Author.Tests.{eqb-true, eqb-false}
 use Rattle.value.specs.Kinds.{plain_kind}
 use Rattle.record_slot.proofs.Held.{null-plain, body_within}
 use Rattle.record_slot.proofs.Forms.{null-payload, wrong_kind, testable, unsuitable, found_payload, found_short}

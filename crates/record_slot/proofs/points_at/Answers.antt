@@ -7,7 +7,7 @@ use Prim.Native.Nat.{◌+◌}
 use lib.ListN.{get_or}
 use Rattle.value_list.specs.Records.{range_at, range_width}
 use Rattle.record_slot.specs.InnerSteps.{declared_at}
-use Rattle.record_slot.proofs.Forms.{within-at, text_there}
+use Rattle.record_slot.proofs.Forms.{within_at, text_there}
 use Rattle.record_slot.proofs.Points.{text_ready, char_counted, varchar-counted, none-counted}
 use Rattle.record_slot.proofs.Forms.{given-null, given-value, held_found}
 use borrow.Author.Rules.{rules}
@@ -25,7 +25,7 @@ char_points-requires c =
     let g = held_found p.0 m c.held_kind-kind.ensures in
     let d = c.declared_length.ensures in
     let k = sym g ∙ c.in-8.is in
-    rw c.is_long_kind-is_long.ensures (within-at p.0 8 k, (d.1, rw d.0 (text_ready p.0 p.1 8 k (omega arith))))
+    rw c.is_long_kind-is_long.ensures (within_at p.0 8 k, (d.1, rw d.0 (text_ready p.0 p.1 8 k (omega arith))))
 
 pub overflow_cast-result : goal.overflow_cast-result
 overflow_cast-result c =
@@ -41,7 +41,7 @@ text_points-requires c =
     let g = held_found p.0 m c.held_kind-kind.ensures in
     let k = sym g ∙ c.in-9.is in
     rw c.is_long_kind-is_long.ensures
-    (within-at p.0 9 k, text_there (counts_points (type_in (column_record_at a.schema.now a.at))) (declared_at a.schema.now a.at) (range_at (range_width (get_or a.values.now a.from 0)) a.values.now (a.from + 1)) a.text.now (text_ready p.0 p.1 9 k (omega arith)))
+    (within_at p.0 9 k, text_there (counts_points (type_in (column_record_at a.schema.now a.at))) (declared_at a.schema.now a.at) (range_at (range_width (get_or a.values.now a.from 0)) a.values.now (a.from + 1)) a.text.now (text_ready p.0 p.1 9 k (omega arith)))
 
 pub overflow_cast-result-in-9 : goal.overflow_cast-result-in-9
 overflow_cast-result-in-9 c =

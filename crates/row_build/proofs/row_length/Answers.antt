@@ -2,18 +2,18 @@ use Prim.Native.Nat.{◌-◌}
 use borrow.Author.Rules.{rules}
 use native.Mathlib.Omega.{arith}
 use Rattle.row_format.proofs.Sorts.{limit_le}
-use Rattle.row_build.proofs.Measuring.{Walking, walk_start, walk_none, walk_readable, walk_bad, walk_room, walk_more, walk_left, walk_end, no-length-told, bad-told}
+use Rattle.row_build.proofs.Measuring.{Walking, walk_start, walk_none, walk_readable, walk_bad, walk_room, walk_more, walk_left, walk_end, no_length-told, bad_told}
 use Rattle.row_build.proofs.row_length.Goals as goal
 
 pub returns-then-row_limit-text : goal.returns-then-row_limit-text
-returns-then-row_limit-text c = no-length-told c.requires (λ b. omega (arith, c.if-row_limit-text.true, b.short, c.row_limit.ensures.0))
+returns-then-row_limit-text c = no_length-told c.requires (λ b. omega (arith, c.if-row_limit-text.true, b.short, c.row_limit.ensures.0))
 
 pub loop-column-init : goal.loop-column-init
 loop-column-init c = rw c.min_row_size-size.ensures (walk_start c.requires (rw c.row_limit.ensures.0 at c.if-row_limit-text.false))
 
 pub returns-then-length-eq0 : goal.returns-then-length-eq0
 returns-then-length-eq0 c =
-    no-length-told c.requires (walk_none c.requires c.loop-column.invariant c.loop-column-test.true c.record_length-length.ensures c.if-length-eq0.true)
+    no_length-told c.requires (walk_none c.requires c.loop-column.invariant c.loop-column-test.true c.record_length-length.ensures c.if-length-eq0.true)
 
 pub payload_at-requires : goal.payload_at-requires
 payload_at-requires c =
@@ -21,7 +21,7 @@ payload_at-requires c =
 
 pub returns-in-Refused : goal.returns-in-Refused
 returns-in-Refused c =
-    bad-told c.requires (walk_bad c.requires c.loop-column.invariant c.loop-column-test.true c.record_length-length.ensures c.if-length-eq0.false c.payload_at.result c.payload_at.ensures.0 c.in-Refused.is)
+    bad_told c.requires (walk_bad c.requires c.loop-column.invariant c.loop-column-test.true c.record_length-length.ensures c.if-length-eq0.false c.payload_at.result c.payload_at.ensures.0 c.in-Refused.is)
 
 pub overflow_add-size : goal.overflow_add-size
 overflow_add-size c = let q = walk_room c.requires c.loop-column.invariant c.loop-column-test.true c.record_length-length.ensures c.if-length-eq0.false c.payload_at.result c.payload_at.ensures.0 c.in-Done.is c.payload_at.ensures.1 in search rules
@@ -37,7 +37,7 @@ loop-column-preserved c = rw c.after_column-at.ensures (walk_more c.requires c.l
 
 pub returns-then-from-values : goal.returns-then-from-values
 returns-then-from-values c =
-    no-length-told c.requires (walk_left c.requires c.loop-column.invariant c.loop-column-test.false c.if-from-values.true)
+    no_length-told c.requires (walk_left c.requires c.loop-column.invariant c.loop-column-test.false c.if-from-values.true)
 
 pub returns : goal.returns
 returns c = walk_end c.requires c.loop-column.invariant c.loop-column-test.false c.if-from-values.false

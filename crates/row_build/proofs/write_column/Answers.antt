@@ -1,6 +1,6 @@
 use mathlib.Core.Path.{sym, ◌∙◌}
 use Rattle.row_build.proofs.Columns.{slot_ready, slot-stored, payload_ready, varchar-stored}
-use Rattle.record_slot.proofs.Forms.{given-null, given-value, held_found, within-at}
+use Rattle.record_slot.proofs.Forms.{given-null, given-value, held_found, within_at}
 use Rattle.row_build.proofs.write_column.Goals as goal
 
 pub returns-then-given-eq-NULL : goal.returns-then-given-eq-NULL
@@ -12,7 +12,7 @@ range_at-range-requires c =
     let p = c.requires in
     let q = p.1 (given-value p.0 c.if-given-eq-NULL.false) in
     let g = held_found p.0 q.match c.held_kind.ensures in
-    let h = within-at p.0 9 (sym g ∙ c.if-held_kind-eq-VARCHAR.true) in
+    let h = within_at p.0 9 (sym g ∙ c.if-held_kind-eq-VARCHAR.true) in
     rw c.is_long_kind.ensures h
 
 pub write_varchar-requires : goal.write_varchar-requires

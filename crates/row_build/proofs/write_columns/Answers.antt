@@ -1,11 +1,11 @@
-use Rattle.row_build.proofs.Writing.{Writing, write-start, write-size, write-end, write-more, write-room, write-places}
+use Rattle.row_build.proofs.Writing.{Writing, write_start, write_size, write_end, write_more, write_room, write_places}
 use Rattle.row_build.proofs.Columns.{storable_suited}
 use Rattle.row_build.proofs.Counting.{Counting, count-start, count-size, count-more, count-end}
 use Rattle.row_build.proofs.Measuring.{left}
 use Rattle.row_build.proofs.Walk.{readable}
 use Rattle.row_format.specs.Places.{offset_width}
 use Rattle.record_slot.proofs.Held.{has_type, read_at}
-use Rattle.record_slot.proofs.Forms.{entry-bytes}
+use Rattle.record_slot.proofs.Forms.{entry_bytes}
 use Prim.Native.Nat.{◌-◌}
 use native.Mathlib.Omega.{arith}
 use borrow.Author.Rules.{rules}
@@ -21,14 +21,14 @@ pub min_row_size-end-requires : goal.min_row_size-end-requires
 min_row_size-end-requires c = c.requires.0.given.accepted.bounded
 
 pub loop-column-init : goal.loop-column-init
-loop-column-init c = rw (c.fixed_data_start-slot.ensures.0, c.varlen_table_offset-entry.ensures, c.min_row_size-end.ensures) (write-start c.requires.0, count-start)
+loop-column-init c = rw (c.fixed_data_start-slot.ensures.0, c.varlen_table_offset-entry.ensures, c.min_row_size-end.ensures) (write_start c.requires.0, count-start)
 
 pub write_column-end-requires : goal.write_column-end-requires
 write_column-end-requires c =
     let p = c.requires.0 in
     let h = left p.given c.loop-column-test.true in
     let r = readable p.given c.loop-column.invariant.0.walk h in
-    (r, write-room p c.loop-column.invariant.0 h (read_at r))
+    (r, write_room p c.loop-column.invariant.0 h (read_at r))
 
 pub points_at-points-requires : goal.points_at-points-requires
 points_at-points-requires c =
@@ -36,7 +36,7 @@ points_at-points-requires c =
     let w = c.loop-column.invariant.0 in
     let h = left p.given c.loop-column-test.true in
     let r = readable p.given w.walk h in
-    (r, λ z. storable_suited (write-room p w h (read_at r) z))
+    (r, λ z. storable_suited (write_room p w h (read_at r) z))
 
 pub bounds-counts-column : goal.bounds-counts-column
 bounds-counts-column c =
@@ -52,7 +52,7 @@ pub overflow_add-slot : goal.overflow_add-slot
 overflow_add-slot c =
     let p = c.requires.0 in
     let h = left p.given c.loop-column-test.true in
-    let q = rw (← c.slot_size-slot.ensures) at (write-places p c.loop-column.invariant.0 h (read_at (readable p.given c.loop-column.invariant.0.walk h))).0 in
+    let q = rw (← c.slot_size-slot.ensures) at (write_places p c.loop-column.invariant.0 h (read_at (readable p.given c.loop-column.invariant.0.walk h))).0 in
     search rules
 
 pub bounds-schema-at : goal.bounds-schema-at
@@ -63,7 +63,7 @@ pub overflow_add-entry : goal.overflow_add-entry
 overflow_add-entry c =
     let p = c.requires.0 in
     let h = left p.given c.loop-column-test.true in
-    let q = (write-places p c.loop-column.invariant.0 h (read_at (readable p.given c.loop-column.invariant.0.walk h))).1 in
+    let q = (write_places p c.loop-column.invariant.0 h (read_at (readable p.given c.loop-column.invariant.0.walk h))).1 in
     search rules
 
 pub after_column-at-requires : goal.after_column-at-requires
@@ -90,10 +90,10 @@ loop-column-preserved c =
     let p = c.requires.0 in
     let h = left p.given c.loop-column-test.true in
     let r = readable p.given c.loop-column.invariant.0.walk h in
-    (rw (c.after_column-at.ensures, c.body_length.ensures.0, c.slot_size-slot.ensures, entry-bytes r (offset_width c.args.layout.is_long) c.held_kind.ensures c.entry_size-entry.ensures.0) (write-more p c.loop-column.invariant.0 h (read_at r) c.write_column-end.result _ c.write_column-end.ensures), count-more c.loop-column.invariant.1 p c.loop-column.invariant.0 h (read_at r) c.points_at-points.result c.points_at-points.ensures)
+    (rw (c.after_column-at.ensures, c.body_length.ensures.0, c.slot_size-slot.ensures, entry_bytes r (offset_width c.args.layout.is_long) c.held_kind.ensures c.entry_size-entry.ensures.0) (write_more p c.loop-column.invariant.0 h (read_at r) c.write_column-end.result _ c.write_column-end.ensures), count-more c.loop-column.invariant.1 p c.loop-column.invariant.0 h (read_at r) c.points_at-points.result c.points_at-points.ensures)
 
 pub shape_of-out : goal.shape_of-out
-shape_of-out c = write-size c.requires.0 c.loop-column.invariant.0
+shape_of-out c = write_size c.requires.0 c.loop-column.invariant.0
 
 pub shape_of-counts : goal.shape_of-counts
 shape_of-counts c = count-size c.loop-column.invariant.1
@@ -102,4 +102,4 @@ pub returns : goal.returns
 returns c =
     let p = c.requires.0 in
     let i = c.loop-column.invariant in
-    (write-end p i.0 c.loop-column-test.false, count-end i.1 p c.loop-column-test.false)
+    (write_end p i.0 c.loop-column-test.false, count-end i.1 p c.loop-column-test.false)

@@ -1,6 +1,5 @@
 use native.Mathlib.Omega.{arith}
-use Prim.Native.Nat.{◌-◌, ◌≤◌}
-use Rattle.datatype.proofs.Again.{Ahead, ahead-start, ahead-few, ahead_passable, ahead_there, ahead_step, step_column}
+use Rattle.datatype.proofs.Again.{ahead-start, ahead-few, ahead_passable, ahead_there, ahead_step, step_column}
 use Rattle.row_column.proofs.Reach.{found}
 use Rattle.row_column.proofs.column_at.Goals as goal
 

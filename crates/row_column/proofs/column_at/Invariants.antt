@@ -1,8 +1,5 @@
-use native.Mathlib.Omega.{arith}
 use Prim.Native.Nat.{◌-◌, ◌≤◌}
-use Rattle.datatype.proofs.Again.{Ahead, ahead-start, ahead-few, ahead_passable, ahead_there, ahead_step, step_column}
-use Rattle.row_column.proofs.Reach.{found}
-use borrow.Author.Rules.{rules}
+use Rattle.datatype.proofs.Again.{Ahead}
 use Rattle.row_column.proofs.column_at.Given as goal
 
 abbrev pub invariant-loop-before : goal.invariant-loop-before

@@ -1,13 +1,11 @@
 use borrow.Author.Rules.{rules}
-use Prim.Native.Nat.{◌-◌, ◌≤◌}
-use mathlib.Core.Path.{◌≡◌, ◌∙◌}
+use mathlib.Core.Path.{◌∙◌}
 use native.Mathlib.Numerals.{add-one}
-use lib.ListN.{length, drop}
-use Rattle.laws.specs.Bytes.{from_table}
+use lib.ListN.{length}
 use Rattle.row_format.specs.Places.{offset_width}
-use Rattle.row_format.specs.Table.{first_offset, range_end}
+use Rattle.row_format.specs.Table.{range_end}
 use Rattle.row_format.proofs.Sorts.{entry_in}
-use Rattle.row_format.proofs.Table.{first-zero, first_some, first-none}
+use Rattle.row_format.proofs.Table.{first_zero, first_some, first_none}
 use Rattle.row_layout.proofs.range_end.Goals as goal
 
 pub loop-k-init : goal.loop-k-init
@@ -25,13 +23,13 @@ loop-k-preserved c =
     let a = c.args in
     let l = c.loop-k in
     let o = c.offset_at-o in
-    (search rules, first-zero (offset_width a.is_long) a.table a.varlens l.k (length a.row.now) o.result a.row.now (search rules) o.ensures.0 (search rules) ∙ l.invariant.1)
+    (search rules, first_zero (offset_width a.is_long) a.table a.varlens l.k (length a.row.now) o.result a.row.now (search rules) o.ensures.0 (search rules) ∙ l.invariant.1)
 
 pub returns-then-varlens-k : goal.returns-then-varlens-k
 returns-then-varlens-k c =
     let a = c.args in
     let l = c.loop-k in
-    first-none (offset_width a.is_long) a.table a.varlens l.k (length a.row.now) a.row.now (search rules) ∙ l.invariant.1
+    first_none (offset_width a.is_long) a.table a.varlens l.k (length a.row.now) a.row.now (search rules) ∙ l.invariant.1
 
 pub returns-then-o-ne0 : goal.returns-then-o-ne0
 returns-then-o-ne0 c =

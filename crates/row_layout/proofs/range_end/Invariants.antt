@@ -1,13 +1,9 @@
-use borrow.Author.Rules.{rules}
 use Prim.Native.Nat.{◌-◌, ◌≤◌}
-use mathlib.Core.Path.{◌≡◌, ◌∙◌}
-use native.Mathlib.Numerals.{add-one}
+use mathlib.Core.Path.{◌≡◌}
 use lib.ListN.{length, drop}
 use Rattle.laws.specs.Bytes.{from_table}
 use Rattle.row_format.specs.Places.{offset_width}
 use Rattle.row_format.specs.Table.{first_offset, range_end}
-use Rattle.row_format.proofs.Sorts.{entry_in}
-use Rattle.row_format.proofs.Table.{first-zero, first_some, first-none}
 use Rattle.row_layout.proofs.range_end.Given as goal
 
 abbrev pub invariant-loop-k : goal.invariant-loop-k

@@ -1,9 +1,6 @@
 use Prim.Native.Nat.{◌-◌}
-use native.Mathlib.Omega.{arith}
-use borrow.Author.Rules.{rules}
-use borrow.Author.Tests.{lt-ltb}
 use lib.ListN.{length}
-use Rattle.row_list.proofs.Checking.{Checking, check_start, check_end, check_full, check_cut, check_more}
+use Rattle.row_list.proofs.Checking.{Checking}
 use Rattle.row_list.proofs.check.Given as goal
 
 abbrev pub invariant-loop-at : goal.invariant-loop-at

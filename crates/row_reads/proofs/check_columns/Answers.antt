@@ -5,7 +5,7 @@ use borrow.Author.Tests.{not-true, not-false}
 use Rattle.datatype.proofs.Again.{ahead-few, ahead_passable, step_column}
 use Rattle.row_column.proofs.Reach.{reach-next}
 use Rattle.row_sound.proofs.ByKind.{recorded}
-use Rattle.row_reads.proofs.Reading.{Reading, read-start, read-end, read-bad, read_more}
+use Rattle.row_reads.proofs.Reading.{Reading, read-start, read-end, read_bad, read_more}
 use Rattle.row_reads.proofs.check_columns.Goals as goal
 
 pub loop-at-init : goal.loop-at-init
@@ -26,7 +26,7 @@ column_refusal-requires c =
 pub returns-then-not-column_reads : goal.returns-then-not-column_reads
 returns-then-not-column_reads c =
     c.column_refusal.ensures
-    ∙ read-bad c.loop-at.invariant c.loop-at-test.true
+    ∙ read_bad c.loop-at.invariant c.loop-at-test.true
     (sym c.column_reads.ensures ∙ c.if-not-column_reads.true)
 
 pub next_column-step-requires : goal.next_column-step-requires

@@ -6,7 +6,7 @@ use borrow.Author.Tests.{not-true, not-false}
 use Rattle.datatype.proofs.Again.{ahead-few, ahead_passable, step_column}
 use Rattle.row_column.proofs.Reach.{reach-next}
 use Rattle.row_sound.proofs.ByKind.{recorded}
-use Rattle.row_reads.proofs.Reading.{Reading, read-start, read-end, read-bad, read_more}
+use Rattle.row_reads.proofs.Reading.{Reading, read-start, read-end, read_bad, read_more}
 use Rattle.row_reads.proofs.check_columns.Given as goal
 
 abbrev pub invariant-loop-at : goal.invariant-loop-at

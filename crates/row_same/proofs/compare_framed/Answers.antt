@@ -2,7 +2,7 @@ use mathlib.Core.Path.{sym, ◌∙◌}
 use Rattle.datatype.specs.Check.{types_in}
 use Rattle.row_column.proofs.Framing.{framed}
 use Rattle.row_same.specs.InnerWalk.{walked_all}
-use Rattle.row_same.proofs.Compared.{second-refused}
+use Rattle.row_same.proofs.Compared.{second_refused}
 use Rattle.row_same.proofs.compare_framed.Goals as goal
 
 pub compare_columns-requires : goal.compare_columns-requires
@@ -15,7 +15,7 @@ pub returns-in-Refused : goal.returns-in-Refused
 returns-in-Refused c =
     let a = c.args in
     rw (← c.check_frame.ensures, c.in-Refused.is)
-    (second-refused (types_in a.schema.now) a.a.now a.b.now
+    (second_refused (types_in a.schema.now) a.a.now a.b.now
     (walked_all (types_in a.schema.now) a.layout a.a.now a.p) c.in-Refused.e c.requires.1.1)
 
 pub returns-in-Good : goal.returns-in-Good

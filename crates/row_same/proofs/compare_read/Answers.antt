@@ -3,7 +3,7 @@ use Rattle.datatype.specs.Check.{types_in}
 use Rattle.datatype.proofs.Again.{ahead-start}
 use Rattle.row_same.specs.InnerWalk.{walked_all}
 use Rattle.row_reads.proofs.Reading.{ahead_walk}
-use Rattle.row_same.proofs.Compared.{first-refused, all_read}
+use Rattle.row_same.proofs.Compared.{first_refused, all_read}
 use Rattle.row_same.proofs.compare_read.Goals as goal
 
 pub check_columns-requires : goal.check_columns-requires
@@ -23,7 +23,7 @@ pub returns-in-Refused : goal.returns-in-Refused
 returns-in-Refused c =
     let a = c.args in
     let said = rw c.new.ensures at c.check_columns.ensures in
-    rw (first-refused (walked_all (types_in a.schema.now) a.layout a.a.now a.p)
+    rw (first_refused (walked_all (types_in a.schema.now) a.layout a.a.now a.p)
     (sym said ∙ c.in-Refused.is))
 
 pub returns-in-Is : goal.returns-in-Is

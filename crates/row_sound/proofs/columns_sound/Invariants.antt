@@ -1,12 +1,5 @@
-use native.Mathlib.Omega.{arith}
-use mathlib.Core.Path.{sym, ◌∙◌}
 use Prim.Native.Nat.{◌-◌}
-use borrow.Author.Tests.{not-true, not-false}
-use Rattle.datatype.proofs.Again.{ahead-few, ahead_passable, step_column}
-use Rattle.row_column.proofs.Reach.{reach-next}
-use Rattle.row_sound.proofs.ByKind.{recorded}
-use Rattle.row_sound.proofs.Checking.{Checking, check_start, check_end, check_next, check_bad}
-use borrow.Author.Rules.{rules}
+use Rattle.row_sound.proofs.Checking.{Checking}
 use Rattle.row_sound.proofs.columns_sound.Given as goal
 
 abbrev pub invariant-loop-at : goal.invariant-loop-at

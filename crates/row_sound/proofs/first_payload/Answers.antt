@@ -4,7 +4,7 @@ use mathlib.Core.Path.{◌∙◌}
 use lib.ListN.{length}
 use Rattle.row_format.specs.Places.{table_start, offset_width}
 use Rattle.row_format.specs.Table.{range_end}
-use Rattle.row_format.proofs.Table.{first-zero, first_some}
+use Rattle.row_format.proofs.Table.{first_zero, first_some}
 use Rattle.row_sound.proofs.first_payload.Goals as goal
 
 pub returns-then-varlens-eq0 : goal.returns-then-varlens-eq0
@@ -27,4 +27,4 @@ unfolding range_end
 returns c =
     let a = c.args in
     let some = c.if-varlens-eq0.false in
-    rw (← c.varlen_table_offset-table.ensures) (c.range_end.ensures ∙ first-zero (offset_width a.layout.is_long) c.varlen_table_offset-table.result a.layout.num_varlen_cols 0 (length a.row.now) c.offset_at-first.result a.row.now (omega (arith, some)) c.offset_at-first.ensures.0 c.if-first-ne0.false)
+    rw (← c.varlen_table_offset-table.ensures) (c.range_end.ensures ∙ first_zero (offset_width a.layout.is_long) c.varlen_table_offset-table.result a.layout.num_varlen_cols 0 (length a.row.now) c.offset_at-first.result a.row.now (omega (arith, some)) c.offset_at-first.ensures.0 c.if-first-ne0.false)

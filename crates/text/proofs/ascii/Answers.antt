@@ -1,11 +1,6 @@
 -- `ascii` meets its contract. After k turns ok tells whether the first k of the bytes are ASCII.
-use Prim.Native.Nat.{◌≤◌, ◌-◌, ◌+◌}
-use mathlib.Core.Bool.{true}
-use mathlib.Core.Logic.{◌↔◌}
 use mathlib.Core.Path.{◌≡◌}
 use native.Mathlib.Omega.{arith}
-use Rattle.text.specs.InnerEach.{Each}
-use Rattle.text.specs.InnerRuns.{is_ascii}
 use Rattle.text.proofs.Laws.{each_none, each_more}
 use borrow.Author.Rules.{rules}
 use Rattle.text.proofs.ascii.Goals as goal

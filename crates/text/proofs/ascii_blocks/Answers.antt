@@ -1,9 +1,5 @@
 -- `ascii_blocks` meets its contract. The bytes from first to i are ASCII.
-use Prim.Native.Nat.{◌-◌}
 use native.Mathlib.Omega.{arith}
-use lib.ListN.{length}
-use borrow.Author.Tests.{not-false}
-use Rattle.text.specs.InnerRuns.{Ascii}
 use Rattle.text.proofs.Runs.{ascii-none, ascii_join}
 use Rattle.text.proofs.ascii_blocks.Goals as goal
 

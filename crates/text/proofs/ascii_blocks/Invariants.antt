@@ -1,10 +1,6 @@
 use Prim.Native.Nat.{◌-◌}
-use native.Mathlib.Omega.{arith}
 use lib.ListN.{length}
-use borrow.Author.Tests.{not-false}
 use Rattle.text.specs.InnerRuns.{Ascii}
-use Rattle.text.proofs.Runs.{ascii-none, ascii_join}
-use borrow.Author.Rules.{rules}
 use Rattle.text.proofs.ascii_blocks.Given as goal
 
 abbrev pub invariant-loop-i : goal.invariant-loop-i

@@ -1,9 +1,6 @@
 -- `ascii_bytes` meets its contract. The bytes from first to i are ASCII.
-use Prim.Native.Nat.{◌≤◌, ◌-◌}
 use mathlib.Core.Path.{sym, ◌∙◌}
 use native.Mathlib.Omega.{arith}
-use borrow.Author.Tests.{not-true, not-false}
-use Rattle.text.specs.InnerRuns.{Ascii}
 use Rattle.text.proofs.Runs.{ascii-none, ascii_more}
 use borrow.Author.Rules.{rules}
 use Rattle.text.proofs.ascii_bytes.Goals as goal

@@ -1,10 +1,5 @@
 use Prim.Native.Nat.{◌≤◌, ◌-◌}
-use mathlib.Core.Path.{sym, ◌∙◌}
-use native.Mathlib.Omega.{arith}
-use borrow.Author.Tests.{not-true, not-false}
 use Rattle.text.specs.InnerRuns.{Ascii}
-use Rattle.text.proofs.Runs.{ascii-none, ascii_more}
-use borrow.Author.Rules.{rules}
 use Rattle.text.proofs.ascii_bytes.Given as goal
 
 abbrev pub invariant-loop-i : goal.invariant-loop-i

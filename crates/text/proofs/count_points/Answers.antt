@@ -1,8 +1,7 @@
 -- `count_points` meets its contract. Of the bytes before i, `count` are tails.
-use Prim.Native.Nat.{◌≤◌, ◌+◌, ◌-◌}
-use mathlib.Core.Path.{◌≡◌, sym}
+use Prim.Native.Nat.{◌+◌}
+use mathlib.Core.Path.{sym}
 use lib.ListN.{length}
-use Rattle.text.specs.InnerTails.{tails_of}
 use Rattle.text.proofs.Counts.{tails_none, tails_le, tails_join, tails_all, tails_fit}
 use Rattle.text.proofs.Points.{points-counted}
 use borrow.Author.Rules.{rules}

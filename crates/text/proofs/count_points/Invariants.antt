@@ -1,10 +1,7 @@
-use Prim.Native.Nat.{◌≤◌, ◌+◌, ◌-◌}
-use mathlib.Core.Path.{◌≡◌, sym}
+use Prim.Native.Nat.{◌≤◌, ◌-◌}
+use mathlib.Core.Path.{◌≡◌}
 use lib.ListN.{length}
 use Rattle.text.specs.InnerTails.{tails_of}
-use Rattle.text.proofs.Counts.{tails_none, tails_le, tails_join, tails_all, tails_fit}
-use Rattle.text.proofs.Points.{points-counted}
-use borrow.Author.Rules.{rules}
 use Rattle.text.proofs.count_points.Given as goal
 
 abbrev pub invariant-loop-i : goal.invariant-loop-i

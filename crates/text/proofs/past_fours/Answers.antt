@@ -1,9 +1,5 @@
 -- `past_fours` meets its contract. The bytes from first to i are characters UTF8-4.
-use Prim.Native.Nat.{◌-◌}
 use native.Mathlib.Omega.{arith}
-use lib.ListN.{length}
-use borrow.Author.Tests.{not-true, not-false}
-use Rattle.text.specs.InnerRuns.{Going}
 use Rattle.text.proofs.Runs.{start, run_more, run-over, run_short, bytes_4}
 use Rattle.text.proofs.past_fours.Goals as goal
 

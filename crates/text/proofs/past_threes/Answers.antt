@@ -1,9 +1,5 @@
 -- `past_threes` meets its contract. The bytes from first to i are characters UTF8-3.
-use Prim.Native.Nat.{◌-◌}
 use native.Mathlib.Omega.{arith}
-use lib.ListN.{length}
-use borrow.Author.Tests.{not-true, not-false}
-use Rattle.text.specs.InnerRuns.{Going}
 use Rattle.text.proofs.Runs.{start, run_more, run-over, run_short, bytes_3}
 use Rattle.text.proofs.past_threes.Goals as goal
 

@@ -1,10 +1,6 @@
 use Prim.Native.Nat.{◌-◌}
-use native.Mathlib.Omega.{arith}
 use lib.ListN.{length}
-use borrow.Author.Tests.{not-true, not-false}
 use Rattle.text.specs.InnerRuns.{Going}
-use Rattle.text.proofs.Runs.{start, run_more, run-over, run_short, bytes_3}
-use borrow.Author.Rules.{rules}
 use Rattle.text.proofs.past_threes.Given as goal
 
 abbrev pub invariant-loop-i : goal.invariant-loop-i

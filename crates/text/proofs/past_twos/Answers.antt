@@ -1,9 +1,5 @@
 -- `past_twos` meets its contract. The bytes from first to i are characters UTF8-2.
-use Prim.Native.Nat.{◌-◌}
 use native.Mathlib.Omega.{arith}
-use lib.ListN.{length}
-use borrow.Author.Tests.{not-true, not-false}
-use Rattle.text.specs.InnerRuns.{Going}
 use Rattle.text.proofs.Runs.{start, run_more, run-over, run_short, bytes_2}
 use Rattle.text.proofs.past_twos.Goals as goal
 

@@ -1,8 +1,6 @@
 -- `tails` meets its contract. After k turns the first k of the bytes are counted.
-use Prim.Native.Nat.{◌≤◌, ◌-◌}
 use mathlib.Core.Path.{◌≡◌, sym}
 use native.Mathlib.Omega.{arith}
-use Rattle.text.specs.InnerTails.{tails_of}
 use Rattle.text.proofs.Counts.{byte_fits, tails_none, tails_more, tails_le}
 use borrow.Author.Rules.{rules}
 use Rattle.text.proofs.tails.Goals as goal

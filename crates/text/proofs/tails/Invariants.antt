@@ -1,9 +1,6 @@
 use Prim.Native.Nat.{◌≤◌, ◌-◌}
-use mathlib.Core.Path.{◌≡◌, sym}
-use native.Mathlib.Omega.{arith}
+use mathlib.Core.Path.{◌≡◌}
 use Rattle.text.specs.InnerTails.{tails_of}
-use Rattle.text.proofs.Counts.{byte_fits, tails_none, tails_more, tails_le}
-use borrow.Author.Rules.{rules}
 use Rattle.text.proofs.tails.Given as goal
 
 abbrev pub invariant-loop-k : goal.invariant-loop-k

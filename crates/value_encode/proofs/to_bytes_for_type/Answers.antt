@@ -1,5 +1,4 @@
 use Rattle.stored_form.proofs.Lengths.{accepted-inside, accepted-suits}
-use lib.ListN.{length}
 use native.Mathlib.Omega.{arith}
 use mathlib.Core.Path.{◌≡◌}
 use Prim.Native.Nat.{◌+◌, ◌-◌}

@@ -1,10 +1,5 @@
 use lib.ListN.{length}
-use Rattle.value_list.proofs.Checking.{Checking, check_start, check_end, check_bad, check_more}
-use Rattle.value_list.proofs.Sizes.{size-some}
-use Rattle.laws.proofs.Tests.{by_tests}
-use mathlib.Core.Path.{sym, ◌∙◌}
-use borrow.Author.Rules.{rules}
-use native.Mathlib.Omega.{arith}
+use Rattle.value_list.proofs.Checking.{Checking}
 use Prim.Native.Nat.{◌-◌}
 use Rattle.value_list.proofs.check_values.Given as goal
 

@@ -1,7 +1,5 @@
-use borrow.Author.Tests.{not-true, not-false}
 use mathlib.Core.Path.{sym, ◌∙◌}
 use Rattle.laws.proofs.Tests.{by_tests}
-use Prim.Native.Nat.{◌-◌}
 use Rattle.value_list.proofs.record_size.Goals as goal
 
 pub returns-then-not-is_value_kind : goal.returns-then-not-is_value_kind

@@ -4,7 +4,6 @@ use Rattle.datatype.specs.Types.{length_of}
 use Prim.Native.Nat.{◌+◌, ◌-◌}
 use mathlib.Core.Path.{◌≡◌}
 use native.Mathlib.Omega.{arith}
-use lib.ListN.{length}
 use borrow.Author.Rules.{rules}
 use Rattle.value_same.proofs.same_content.Goals as goal
 

@@ -1,0 +1,36 @@
+use Prim.Native.Nat.{◌-◌}
+use mathlib.Core.Path.{sym, ◌∙◌}
+use native.Mathlib.Omega.{arith}
+use lib.ListN.{length}
+use Rattle.occupation_list.proofs.Arranging.{Arranging, added_row, arrange_start, arrange_end, arrange_at, arrange_refused, arrange_more}
+use Rattle.occupation_list.proofs.arrange_rows.Goals as goal
+
+pub loop-at-init : goal.loop-at-init
+loop-at-init c = arrange_start c.requires
+
+pub add_row-requires : goal.add_row-requires
+add_row-requires c = arrange_at c.loop-at.invariant c.loop-at-test.true
+
+pub shape_of-order-in-Refused : goal.shape_of-order-in-Refused
+shape_of-order-in-Refused c = c.order-1.given ∙ (c.loop-at.invariant.room ∙ sym c.requires.room)
+
+pub returns-in-Refused : goal.returns-in-Refused
+returns-in-Refused c = arrange_refused c.loop-at.invariant c.loop-at-test.true c.add_row.result _ c.add_row.ensures c.in-Refused.is
+
+pub row_end-at-requires : goal.row_end-at-requires
+row_end-at-requires c = let a = (arrange_at c.loop-at.invariant c.loop-at-test.true).inside in omega arith
+
+pub overflow_add-k : goal.overflow_add-k
+overflow_add-k c = let a = (arrange_at c.loop-at.invariant c.loop-at-test.true).room in let r = c.loop-at.invariant.room in omega arith
+
+pub overflow_add-size : goal.overflow_add-size
+overflow_add-size c = let a = (arrange_at c.loop-at.invariant c.loop-at-test.true).room in let r = c.loop-at.invariant.room in let s = c.loop-at.invariant.short in let t = (added_row c.args.list.now c.loop-at.order c.loop-at.k c.loop-at.at c.add_row.result _ c.add_row.ensures c.in-Line.is).short in omega arith
+
+pub loop-at-preserved : goal.loop-at-preserved
+loop-at-preserved c = rw c.row_end-at.ensures (arrange_more c.loop-at.invariant c.loop-at-test.true c.order-1.given (added_row c.args.list.now c.loop-at.order c.loop-at.k c.loop-at.at c.add_row.result _ c.add_row.ensures c.in-Line.is))
+
+pub shape_of-order : goal.shape_of-order
+shape_of-order c = c.loop-at.invariant.room ∙ sym c.requires.room
+
+pub returns : goal.returns
+returns c = arrange_end c.loop-at.invariant c.loop-at-test.false

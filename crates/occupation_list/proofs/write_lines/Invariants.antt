@@ -1,0 +1,11 @@
+use Prim.Native.Nat.{◌-◌}
+use native.Mathlib.Omega.{arith}
+use Rattle.occupation_list.proofs.Writing.{Writing, write_start, write_room, write_more, write_end}
+use borrow.Author.Rules.{rules}
+use Rattle.occupation_list.proofs.write_lines.Given as goal
+
+abbrev pub invariant-loop-i : goal.invariant-loop-i
+invariant-loop-i l = Writing l.list l.order l.k l.initial.out l.out l.i l.end
+
+abbrev pub decreases-loop-i : goal.decreases-loop-i
+decreases-loop-i l = l.k - l.i

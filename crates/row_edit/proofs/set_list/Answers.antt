@@ -1,0 +1,21 @@
+use lib.ListN.{length}
+use mathlib.Core.Path.{sym, ap, ◌∙◌}
+use Rattle.datatype.specs.Check.{type_at, types_in}
+use Rattle.value_list.specs.Lists.{checked}
+use Rattle.value_list.proofs.Sole.{refused-list}
+use Rattle.row_edit.specs.Edit.{written}
+use Rattle.row_edit.proofs.Opening.{given-none}
+use Rattle.row_edit.proofs.set_list.Goals as goal
+
+pub set_record-requires : goal.set_record-requires
+set_record-requires c = (c.requires, sym c.check_values.ensures ∙ c.in-Good.is)
+
+pub returns-in-Refused : goal.returns-in-Refused
+returns-in-Refused c =
+    let a = c.args in
+    let ts = types_in a.schema.now in
+    let n = length a.area.now in
+    ap (written a.layout.is_long ts a.packed a.buf.now a.n a.column) (sym (given-none a.layout.is_long (type_at ts a.column) a.column a.values.now a.area.now (refused-list a.layout.is_long n a.values.now (checked a.layout.is_long 1 n a.values.now) _ (sym c.check_values.ensures ∙ c.in-Refused.is))))
+
+pub returns-in-Good : goal.returns-in-Good
+returns-in-Good c = c.set_record.ensures

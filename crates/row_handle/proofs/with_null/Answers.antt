@@ -1,0 +1,25 @@
+use mathlib.Core.Path.{sym, ap, ◌∙◌}
+use Rattle.row_format.specs.Header.{sort_in}
+use Rattle.datatype.specs.Schema.{schema_of}
+use Rattle.datatype.proofs.Accept.{accepted, on_good, on_refused, sort-is}
+use Rattle.row_handle.specs.Handle.{handled}
+use Rattle.row_handle.proofs.Handling.{handled-good}
+use Rattle.row_handle.proofs.with_null.Goals as goal
+
+pub null_checked-answer-requires : goal.null_checked-answer-requires
+null_checked-answer-requires c = accepted _ c.args.schema.now (sym c.check_schema.ensures.0 ∙ c.in-Good.is) (rw c.in-Good.is at c.check_schema.ensures.1).bounded
+
+pub returns-in-Refused : goal.returns-in-Refused
+returns-in-Refused c =
+    let a = c.args in
+    let sort = sort_in a.buf.now a.handle.length in
+    ap (handled sort a.schema.now a.handle) (on_refused sort (schema_of sort a.schema.now) _ _ (sym (rw c.sort_in-is_long.ensures at c.check_schema.ensures.0) ∙ c.in-Refused.is))
+
+pub returns-in-Good : goal.returns-in-Good
+returns-in-Good c =
+    let a = c.args in
+    let schema = a.schema.now in
+    let sort = sort_in a.buf.now a.handle.length in
+    let good = sym (rw c.sort_in-is_long.ensures at c.check_schema.ensures.0) ∙ c.in-Good.is in
+    let long = sort-is sort schema good in
+    handled-good sort schema a.handle long (accepted sort schema good (rw c.in-Good.is at c.check_schema.ensures.1).bounded) (rw long at c.null_checked-answer.ensures ∙ on_good sort schema good _ _) c.handle_after-handle.ensures
