@@ -11,5 +11,7 @@ pub mod Types
 pub mod Columns
 pub mod BuiltReads
 pub mod SameBuilt
+pub mod SameRead
 pub mod Layouts
 pub mod Twins
+pub mod Examples

@@ -49,10 +49,10 @@ split (Column.Value v) (ok us) p =
     record { first = v; others = us; column = refl; rest = refl; all = sym (ap values_given p) }
 
 module _ (w : ℕ) (p : Bool) (ts : List DataType) (r : List ℕ) where
-  abbrev from : ℕ → ℕ → Values
+  abbrev pub from : ℕ → ℕ → Values
   from i n = read_from w p ts (λ j. true) r i n
 
-  record Columns (i n : ℕ) (vs : List DataValue) : Type 0 where
+  pub record Columns (i n : ℕ) (vs : List DataValue) : Type 0 where
     pub count : length vs ≡ n
     pub each : (k : ℕ) → k < n → column_value w p ts (i + k) r ≡ Column.Value (get_or vs k Null)
 
@@ -67,14 +67,14 @@ module _ (w : ℕ) (p : Bool) (ts : List DataType) (r : List ℕ) where
           let j : i + suc k ≡ suc i + k = omega arith in
           ap (λ (m : ℕ). column_value w p ts m r) j ∙ c.each k (omega arith)
 
-  columns-read : (n i : ℕ) {vs : List DataValue} → from i n ≡ ok vs → Columns i n vs
+  pub columns-read : (n i : ℕ) {vs : List DataValue} → from i n ≡ ok vs → Columns i n vs
   columns-read zero i e = record { count = ap length (sym (ap values_given e)); each = λ k h. absurd (omega arith) }
   columns-read (suc n) i e =
       let s = split (column_value w p ts i r) (from (suc i) n) e in
       more-columns n i s (columns-read n (suc i) s.rest)
 
   -- every number below n is wanted
-  wanted-all : (wanted : ℕ → Bool) (n i : ℕ) → ((j : ℕ) → j < i + n → wanted j ≡ true)
+  pub wanted-all : (wanted : ℕ → Bool) (n i : ℕ) → ((j : ℕ) → j < i + n → wanted j ≡ true)
       → read_from w p ts wanted r i n ≡ from i n
   wanted-all wanted zero i h = refl
   wanted-all wanted (suc n) i h =

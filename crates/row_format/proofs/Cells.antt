@@ -40,7 +40,7 @@ zeroed_at i nil nil h = absurd (omega arith)
 zeroed_at zero (cons q f) (cons r e) h = refl
 zeroed_at (suc i) (cons q f) (cons r e) h = zeroed_at i f e (omega arith)
 
-slots_at : {ss : List Shape} {cs : List Cell} (i : ℕ) → Forall₂ FitsCell ss cs → i < length ss → get_or (slots_of ss cs) i [] ≡ slot_of (get_or ss i Varlen) (get_or cs i none)
+pub slots_at : {ss : List Shape} {cs : List Cell} (i : ℕ) → Forall₂ FitsCell ss cs → i < length ss → get_or (slots_of ss cs) i [] ≡ slot_of (get_or ss i Varlen) (get_or cs i none)
 slots_at i nil h = absurd (omega arith)
 slots_at zero (cons q f) h = refl
 slots_at (suc i) (cons q f) h = slots_at i f (omega arith)

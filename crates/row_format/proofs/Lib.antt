@@ -14,3 +14,5 @@ pub mod Sizes
 pub mod Sorts
 pub mod Header
 pub mod Front
+pub mod Padded
+pub mod Written

@@ -5,8 +5,8 @@ use mathlib.Core.Bool.{true}
 use mathlib.Core.List.{List, [], ◌∷◌, ◌++◌, append_assoc}
 use mathlib.Core.Option.{none, some}
 use native.Mathlib.Omega.{arith}
-use lib.ListN.{length, get_or, take, drop, length-append, length-replicate, get_or-append}
-use lib.Seq.{drop-drop, take_at, drop_at, drop-append_seam, split_at}
+use lib.ListN.{length, get_or, take, drop, length-append, length-drop, length-replicate, get_or-append}
+use lib.Seq.{drop-drop, take_at, drop_at, drop-append_seam, take-append-le, drop-append-le, split_at}
 use Rattle.laws.specs.Bytes.{from_le, concat, entry_at}
 use Rattle.laws.specs.Bits.{bit_at}
 use Rattle.laws.specs.InnerForall.{Forall₂, nil, cons}
@@ -17,6 +17,7 @@ use Rattle.row_format.specs.declared.Shape.TheVariants.{Fixed, Varlen}
 use Rattle.row_format.specs.Places.{varlens, fixed_size, rank_of, slot_after, slot_start, bitmap_start, bitmap_size, table_start, fixed_start, minimum}
 use Rattle.row_format.specs.Table.{Cell, bytes, payloads, offset, lay, range_end}
 use Rattle.row_format.specs.Row.{header, null_bit, bitmap, varlen_cells, row_with, slots_of, slot_size}
+use Rattle.row_format.specs.Header.{column_count, varlen_field}
 use Rattle.row_format.proofs.Places.{varlens-cons, packed-cons}
 use Rattle.row_format.proofs.Table.{length-lay, past-table, entry_lay, end-lay, range-lay}
 use Rattle.row_format.proofs.Bitmap.{length-bitmap, bitmap-bit}
@@ -102,12 +103,24 @@ module _ (w : ℕ) (h : List ℕ) (four : length h ≡ 4) {ss : List Shape} {cs 
   unfolding row_with
   length-row = rw (length-lay, length_front, length-varlens cells, length_slots slots)
 
-  -- bit i of the bitmap says whether column i is null
-  pub bit-row : (i : ℕ) → i < n → bit_at i (drop bitmap_start (row_with w h ss cs bs)) ≡ null_bit (get_or cs i (some []))
+  -- the header stands in front
+  pub count_row : column_count (row_with w h ss cs bs) ≡ column_count h
   unfolding row_with lay
-  bit-row i k =
+  count_row = rw (append_assoc h) (ap from_le (take-append-le 2 h _ (omega (arith, four))))
+
+  pub field_row : varlen_field (row_with w h ss cs bs) ≡ varlen_field h
+  unfolding row_with lay
+  field_row = rw (append_assoc h) (ap from_le (ap (take 2) (drop-append-le 2 h _ (omega (arith, four))) ∙ take-append-le 2 (drop 2 h) _ (rw (length-drop, four) (omega arith))))
+
+  -- bit i of the bitmap says whether column i is null; those past the last column are 0
+  pub bits_row : (i : ℕ) → i < bitmap_size n * 8 → bit_at i (drop bitmap_start (row_with w h ss cs bs)) ≡ null_bit (get_or cs i (some []))
+  unfolding row_with lay
+  bits_row i k =
       let m : i / 8 < length (bitmap (bitmap_size n) cs) = rw length-bitmap (omega arith) in
       rw (append_assoc h, drop_at h _ 4 four, get_or-append) (bitmap-bit (bitmap_size n) cs i (omega arith))
+
+  pub bit-row : (i : ℕ) → i < n → bit_at i (drop bitmap_start (row_with w h ss cs bs)) ≡ null_bit (get_or cs i (some []))
+  bit-row i k = bits_row i (omega arith)
 
   -- the slot of column i
   pub slot_row : (i : ℕ) → i < n → take (slot_size (get_or ss i Varlen)) (drop (fixed_start w n (varlens ss) + slot_start true ss i) (row_with w h ss cs bs)) ≡ get_or bs i []

@@ -5,6 +5,8 @@ pub mod Row
 pub mod Header
 pub mod Edit
 pub mod Zeroed
+pub mod Padded
+pub mod Written
 pub mod InnerRising
 pub mod InnerEdit
 pub mod InnerRow

@@ -259,5 +259,25 @@ range_narrow k (D.Time x) h = tt
 range_narrow k (D.Bit x) h = h
 range_narrow k (D.Timestamp x) h = tt
 
+-- a value without a range fits any record
+no_range : (k : Bool) → NarrowRange (offset_width k) (textRange D.Null)
+no_range k = record { start = omega (arith, limit_fits k); size = omega (arith, limit_fits k) }
+
+pub narrow_range : (k : Bool) (v : DataValue) → Narrow k v → NarrowRange (offset_width k) (textRange v)
+narrow_range k D.Null h = no_range k
+narrow_range k (D.SmallInt x) h = no_range k
+narrow_range k (D.Int x) h = no_range k
+narrow_range k (D.BigInt x) h = no_range k
+narrow_range k (D.Real x) h = no_range k
+narrow_range k (D.DoublePrecision x) h = no_range k
+narrow_range k (D.Numeric x) h = no_range k
+narrow_range k (D.Bool x) h = no_range k
+narrow_range k (D.Char x) h = h
+narrow_range k (D.Varchar x) h = h
+narrow_range k (D.Date x) h = no_range k
+narrow_range k (D.Time x) h = no_range k
+narrow_range k (D.Bit x) h = h
+narrow_range k (D.Timestamp x) h = no_range k
+
 pub inside_narrow : (k : Bool) (v : DataValue) → (textRange v).start + (textRange v).length ≤ row_limit k → Narrow k v
 inside_narrow k v h = range_narrow k v (record { start = omega (arith, limit_fits k); size = omega (arith, limit_fits k) })
