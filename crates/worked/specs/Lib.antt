@@ -3,3 +3,14 @@ pub mod Widths
 pub mod Characters
 pub mod Forms
 pub mod LongRows
+pub mod Calls
+pub mod Places
+pub mod NullFlag
+pub mod TextCall
+pub mod SameContent
+pub mod Reading
+pub mod Making
+pub mod Editing
+pub mod Stored
+pub mod RangeKinds
+pub mod PrintedList

@@ -1,10 +1,6 @@
 -- FORMAT 4.4, 4.6. 02, request 5: "Value kinds 17, 18 and 19 are Char, Varchar and Bit with start and length of four
 -- bytes each [..]; they match as 8, 9 and 12 do, for either sort."
-use Prim.Native.Nat.{ℕ}
-use mathlib.Core.Bool.{Bool}
-use mathlib.Core.List.{List}
-use mathlib.Core.Path.{◌≡◌}
-use lib.ListN.{length}
+use Rattle.std.specs.Prelude.{ℕ, Bool, List, ◌≡◌, length}
 use Rattle.error.specs.declared.Refusal.TheVariants.{BadValueList}
 use Rattle.error.specs.Answer.{unchanged_both}
 use Rattle.error.specs.Result.{ok}

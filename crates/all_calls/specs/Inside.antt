@@ -1,11 +1,8 @@
 -- FORMAT 4.5, 7.1. 01: "A read answers with such a list whose text area is the row itself." So each range that it names
 -- lies in the row.
-use Prim.Native.Nat.{ℕ, ◌+◌, ◌≤◌, ◌<◌}
-use mathlib.Core.List.{List}
-use mathlib.Core.Path.{◌≡◌}
-use lib.ListN.{length, get_or, take}
-use mir.Syntax.{w8}
-use mir.Val.{Fits}
+use Rattle.std.specs.Prelude.{ℕ, ◌+◌, ◌≤◌, ◌<◌, List, ◌≡◌, length, get_or, take}
+use Rattle.std.specs.Int.{w8}
+use Rattle.std.proofs.Common.{Fits}
 use Rattle.error.specs.declared.Answer.TheVariants.{Done}
 use Rattle.row_format.specs.Header.{is_long}
 use Rattle.value.specs.declared.DataValue.{DataValue}

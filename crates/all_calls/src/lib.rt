@@ -1,1 +1,2 @@
 // What holds of every call; there is no code here.
+#![tactic(auto)]

@@ -1,6 +1,6 @@
 -- 01, "Null flag (`is_column_null_in_row`, no schema): 4, 3, 9 against the header's count, 3 for a cut bitmap": each
 -- number, which of two comes first, and flags.
-use Rattle.std.specs.Prelude.{ℕ, List, [], ◌∷◌, ◌++◌}
+use Rattle.std.specs.Prelude.{List, [], ◌∷◌, ◌++◌}
 use Rattle.worked.specs.Cases.{Case}
 use Rattle.worked.specs.Calls.{◌gives◌, refused, hex, zeros, row2, is_null}
 

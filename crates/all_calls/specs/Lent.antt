@@ -1,11 +1,7 @@
 -- FORMAT 6. 01, "What each call hands back", of every exported call that is lent memory to write: "A refusal changes no
 -- lent byte. An output's bytes past the result are as before." The other calls get shared slices alone.
-use Prim.Native.Nat.{ℕ}
-use mathlib.Core.Bool.{Bool}
-use mathlib.Core.List.{List, []}
-use mathlib.Core.Option.{Option, none, some}
-use mathlib.Core.Path.{◌≡◌}
-use lib.ListN.{length, drop}
+use Rattle.std.specs.Prelude.{ℕ, Bool, List, [], ◌≡◌, length, drop}
+use Rattle.std.proofs.Math.Option.{Option, none, some}
 use Rattle.error.specs.declared.Refusal.{Refusal}
 use Rattle.error.specs.declared.Answer.{Answer}
 use Rattle.error.specs.declared.Answer.TheVariants.{Done, Refused}

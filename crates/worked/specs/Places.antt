@@ -1,7 +1,7 @@
 -- 01, "Layout": "Sizes and alignments are those of `fixed_size` and `alignment`. Packed places fixed columns end to
 -- end. Padded, flag clear, rounds each start up to its alignment, counted from the first fixed byte, with no padding at
 -- the end."
-use Rattle.std.specs.Prelude.{ℕ, Bool, true, false, List, [], ◌∷◌, ◌++◌, map}
+use Rattle.std.specs.Prelude.{ℕ, Bool, true, false, List, [], ◌∷◌, map}
 use Rattle.row_format.specs.Places.{minimum, offset_width, slot_place}
 use Rattle.worked.specs.Cases.{Case, columns}
 use Rattle.worked.specs.Calls.{◌gives◌, hex}
