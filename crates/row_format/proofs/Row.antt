@@ -104,23 +104,23 @@ module _ (w : ℕ) (h : List ℕ) (four : length h ≡ 4) {ss : List Shape} {cs 
   length-row = rw (length-lay, length_front, length-varlens cells, length_slots slots)
 
   -- the header stands in front
-  pub count_row : column_count (row_with w h ss cs bs) ≡ column_count h
+  pub count-row : column_count (row_with w h ss cs bs) ≡ column_count h
   unfolding row_with lay
-  count_row = rw (append_assoc h) (ap from_le (take-append-le 2 h _ (omega (arith, four))))
+  count-row = rw (append_assoc h) (ap from_le (take-append-le 2 h _ (omega (arith, four))))
 
   pub field_row : varlen_field (row_with w h ss cs bs) ≡ varlen_field h
   unfolding row_with lay
   field_row = rw (append_assoc h) (ap from_le (ap (take 2) (drop-append-le 2 h _ (omega (arith, four))) ∙ take-append-le 2 (drop 2 h) _ (rw (length-drop, four) (omega arith))))
 
   -- bit i of the bitmap says whether column i is null; those past the last column are 0
-  pub bits_row : (i : ℕ) → i < bitmap_size n * 8 → bit_at i (drop bitmap_start (row_with w h ss cs bs)) ≡ null_bit (get_or cs i (some []))
+  pub bits-row : (i : ℕ) → i < bitmap_size n * 8 → bit_at i (drop bitmap_start (row_with w h ss cs bs)) ≡ null_bit (get_or cs i (some []))
   unfolding row_with lay
-  bits_row i k =
+  bits-row i k =
       let m : i / 8 < length (bitmap (bitmap_size n) cs) = rw length-bitmap (omega arith) in
       rw (append_assoc h, drop_at h _ 4 four, get_or-append) (bitmap-bit (bitmap_size n) cs i (omega arith))
 
   pub bit-row : (i : ℕ) → i < n → bit_at i (drop bitmap_start (row_with w h ss cs bs)) ≡ null_bit (get_or cs i (some []))
-  bit-row i k = bits_row i (omega arith)
+  bit-row i k = bits-row i (omega arith)
 
   -- the slot of column i
   pub slot_row : (i : ℕ) → i < n → take (slot_size (get_or ss i Varlen)) (drop (fixed_start w n (varlens ss) + slot_start true ss i) (row_with w h ss cs bs)) ≡ get_or bs i []
