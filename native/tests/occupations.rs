@@ -1,5 +1,5 @@
-//! The program `occupations` as `tools/archive` leaves it: what it writes for an input is what the model says, its status is 0.
-//! OCCUPATIONS names another binary.
+//! The program `occupations` as `tools/archive` leaves it: what it writes for an input is what the model says, and its
+//! status is 0. OCCUPATIONS names another binary.
 use std::io::Write;
 use std::path::PathBuf;
 use std::process::{Child, Command, Stdio};

@@ -1,12 +1,10 @@
 -- The bytes of a field and of a line.
-use Prim.Native.Nat.{ℕ, zero, suc, ◌+◌, ◌-◌, ◌≤◌}
-use mathlib.Core.Path.{◌≡◌, refl, sym, ap, ◌∙◌}
-use mathlib.Core.Bool.{cond}
+use Prim.Native.Nat.{ℕ, ◌+◌, ◌-◌, ◌≤◌}
 use native.Mathlib.Omega.{arith}
 use lib.Dec.{eqb}
 use Rattle.laws.proofs.Truths.{by_cond}
 use Rattle.occupation.specs.declared.Fields.{Fields}
-use Rattle.occupation.specs.InnerFields.{SpanIn, ShortTexts, FieldsIn, text_length, moment_length, line_length}
+use Rattle.occupation.specs.InnerFields.{ShortTexts, FieldsIn, text_length, moment_length, line_length}
 
 text-short : (most s e : ℕ) → e - s ≤ most → text_length s e ≤ most + 2
 text-short most s e h = by_cond (λ (n : ℕ). n ≤ most + 2) (eqb s 0) 1 (e - s + 2) (λ _. omega arith) (λ _. omega arith)

@@ -29,7 +29,6 @@ use Rattle.row_column.specs.Column.{slot_value, varlen_value}
 use Rattle.stored_form.specs.Read.{value_if}
 use Rattle.temporal.specs.Ranges.{is_timestamp}
 use Rattle.calendar.specs.declared.Moment.{Moment}
-use Rattle.calendar.specs.declared.Moment.TheVariants as Moment
 use Rattle.calendar.specs.Moment.{since_year_one}
 use Rattle.calendar.specs.InnerMoment.{moment_of}
 use lib.IntN.{ℤ}

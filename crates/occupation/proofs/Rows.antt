@@ -20,7 +20,6 @@ use Rattle.text.specs.Rfc3629.{is_text}
 use Rattle.row_column.specs.declared.ColumnRead.{ColumnRead}
 use Rattle.row_column.specs.declared.ColumnRead.TheVariants.{Value, Refused}
 use Rattle.row_column.specs.declared.Frame.{Frame}
-use Rattle.row_column.specs.declared.Frame.TheVariants as Frame
 use Rattle.row_column.specs.Frame.{frame_of, on_frame}
 use Rattle.row_column.specs.Column.{column_value}
 use Rattle.row_column.proofs.Framing.{fine, same_good}

@@ -1,5 +1,5 @@
 -- For the proofs: the fields of a row as the code holds them, and what it hands on.
-use Rattle.std.specs.Prelude.{ℕ, zero, suc, ◌+◌, ◌-◌, ◌≤◌, Bool, true, false, cond, List, [], ◌∷◌, ◌++◌, ◌≡◌, eqb, length, take, drop}
+use Rattle.std.specs.Prelude.{ℕ, zero, suc, ◌+◌, ◌-◌, ◌≤◌, Bool, true, false, cond, List, [], ◌∷◌, ◌++◌, ◌≡◌, eqb, take, drop}
 use Rattle.std.proofs.Math.Option.{Option, none, some}
 use Rattle.error.specs.Result.{Result, ok, refused}
 use Rattle.occupation.specs.declared.Fields.{Fields}

@@ -1,5 +1,5 @@
-// Inner functions, as the comparison with the Rust calls them: rook_probe_c exports them. This is no part of the library
-// that is delivered.
+// Inner functions, for the comparison with the Rust alone, to which rook_probe_c exports them. This is no part of the
+// library that is delivered.
 #![tactic(auto)]
 
 ghost use Rattle.std.specs.Prelude.{◌≡◌, true, false, ◌≤◌, length};

@@ -10,7 +10,6 @@ use lib.ListN.{length, take}
 use lib.Seq.{sets}
 use Rattle.error.specs.declared.Refusal.TheVariants.{RowLimit, NoRoom}
 use Rattle.error.specs.declared.Answer.{Answer}
-use Rattle.error.specs.declared.Answer.TheVariants as Answer
 use Rattle.error.specs.Answer.{Outcome, unchanged, placed, Counted, unchanged_both, placed_both}
 use Rattle.error.specs.Result.{Result, ok, refused, on_result}
 use Rattle.laws.specs.InnerForall.{Forall₂}

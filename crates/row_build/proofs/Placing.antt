@@ -11,7 +11,6 @@ use lib.Seq.{sets, length-sets, length-take-le}
 use Rattle.error.specs.declared.Refusal.{Refusal}
 use Rattle.error.specs.declared.Refusal.TheVariants.{RowLimit, NoRoom}
 use Rattle.error.specs.declared.Answer.{Answer}
-use Rattle.error.specs.declared.Answer.TheVariants as Answer
 use Rattle.error.specs.Answer.{Counted, unchanged_both}
 use Rattle.error.specs.Result.{Result, ok, refused, on_result}
 use Rattle.laws.proofs.Bytes.{sets_over}

@@ -9,7 +9,6 @@ use lib.ListN.{length, drop, set, length-append, length-map, drop_of_length-le}
 use lib.Seq.{sets, length-sets}
 use Rattle.error.specs.declared.Refusal.{Refusal}
 use Rattle.error.specs.declared.Answer.{Answer}
-use Rattle.error.specs.declared.Answer.TheVariants as Answer
 use Rattle.error.specs.Result.{ok, refused, before}
 use Rattle.laws.proofs.Stores.{sets-append}
 use Rattle.row_layout.specs.declared.RowLayout.{RowLayout}
@@ -35,7 +34,6 @@ use Rattle.row_decode.specs.InnerWalk.{walked_read}
 use Rattle.row_decode.specs.InnerMarks.{is_marked, Decodable, Filled}
 use Rattle.stored_form.specs.Points.{points_in}
 use Rattle.slot_record.specs.declared.Recorded.{Recorded}
-use Rattle.slot_record.specs.declared.Recorded.TheVariants as Recorded
 use Rattle.column_decode.specs.InnerColumn.{stepped, DecodeAt}
 
 -- ---- values in front of others

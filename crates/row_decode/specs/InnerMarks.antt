@@ -3,15 +3,12 @@ use Rattle.std.specs.Prelude.{ℕ, ◌*◌, ◌≤◌, Bool, cond, ◌||◌, Lis
 use Rattle.std.proofs.lemmas.List.Edits.{sets}
 use Rattle.error.specs.declared.Refusal.TheVariants.{NoRoom}
 use Rattle.error.specs.declared.Answer.{Answer}
-use Rattle.error.specs.declared.Answer.TheVariants as Answer
 use Rattle.error.specs.Answer.{Counted, unchanged_both}
 use Rattle.error.specs.Result.{ok, refused}
 use Rattle.row_layout.specs.declared.RowLayout.{RowLayout}
-use Rattle.datatype.specs.declared.Record.TheVariants as Record
 use Rattle.value.specs.declared.DataValue.{DataValue}
 use Rattle.value_list.specs.Lists.{Values, list_of}
 use Rattle.stored_form.specs.Points.{points_in}
-use Rattle.row_column.specs.declared.ColumnRead.TheVariants.{Refused}
 use Rattle.row_column.specs.InnerWalk.{Framed}
 
 abbrev pub marked : List ℕ → List ℕ → List ℕ

@@ -30,7 +30,6 @@ use Rattle.datatype.specs.Check.{types_in}
 use Rattle.datatype.proofs.Again.{Ahead, ahead-end, ahead-split, ahead-column, ahead_step, step_is}
 use Rattle.value.specs.declared.DataValue.{DataValue}
 use Rattle.value_list.specs.Lists.{Values}
-use Rattle.stored_form.specs.declared.SlotRead.TheVariants as Slot
 use Rattle.stored_form.specs.Read.{value_if}
 use Rattle.row_column.specs.declared.ColumnRead.{ColumnRead}
 use Rattle.row_column.specs.declared.ColumnRead.TheVariants.{Value, Refused}

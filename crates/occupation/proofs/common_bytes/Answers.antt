@@ -1,9 +1,7 @@
 -- `common_bytes` meets its contract.
-use Prim.Native.Nat.{◌-◌}
 use native.Mathlib.Omega.{arith}
-use lib.ListN.{length}
 use borrow.Author.Rules.{rules}
-use Rattle.occupation.proofs.Compare.{Alike, starts, next, stops}
+use Rattle.occupation.proofs.Compare.{starts, next, stops}
 use Rattle.occupation.proofs.common_bytes.Goals as goal
 
 pub loop-i-init : goal.loop-i-init

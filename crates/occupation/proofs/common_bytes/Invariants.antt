@@ -1,8 +1,6 @@
 use Prim.Native.Nat.{◌-◌}
-use native.Mathlib.Omega.{arith}
 use lib.ListN.{length}
-use borrow.Author.Rules.{rules}
-use Rattle.occupation.proofs.Compare.{Alike, starts, next, stops}
+use Rattle.occupation.proofs.Compare.{Alike}
 use Rattle.occupation.proofs.common_bytes.Given as goal
 
 abbrev pub invariant-loop-i : goal.invariant-loop-i

@@ -1,11 +1,7 @@
 -- `is_unprintable` meets its contract.
-use Prim.Native.Nat.{◌≤◌, ◌-◌}
-use mathlib.Core.Path.{◌≡◌, refl, sym, ◌∙◌}
-use mathlib.Core.Bool.{◌||◌}
+use mathlib.Core.Path.{refl, sym, ◌∙◌}
 use native.Mathlib.Omega.{arith}
-use lib.ListN.{length, drop}
 use borrow.Author.Rules.{rules}
-use Rattle.occupation.specs.Occupation.{is_unprintable}
 use Rattle.occupation.proofs.Texts.{seen_next, seen_all}
 use Rattle.occupation.proofs.is_unprintable.Goals as goal
 

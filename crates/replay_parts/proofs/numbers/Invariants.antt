@@ -1,7 +1,6 @@
 use lib.ListN.{length}
-use mathlib.Core.Path.{◌≡◌, refl}
+use mathlib.Core.Path.{◌≡◌}
 use Prim.Native.Nat.{◌≤◌, ◌-◌}
-use borrow.Author.Rules.{rules}
 use Rattle.replay_parts.proofs.numbers.Given as goal
 
 abbrev pub invariant-loop-at : goal.invariant-loop-at

@@ -1,8 +1,7 @@
-use Prim.Native.Nat.{◌-◌}
 use borrow.Author.Rules.{rules}
 use native.Mathlib.Omega.{arith}
 use Rattle.row_format.proofs.Sorts.{limit_le}
-use Rattle.row_build.proofs.Measuring.{Walking, walk_start, walk_none, walk_readable, walk_bad, walk_room, walk_more, walk_left, walk_end, no_length-told, bad_told}
+use Rattle.row_build.proofs.Measuring.{walk_start, walk_none, walk_readable, walk_bad, walk_room, walk_more, walk_left, walk_end, no_length-told, bad_told}
 use Rattle.row_build.proofs.row_length.Goals as goal
 
 pub returns-then-row_limit-text : goal.returns-then-row_limit-text

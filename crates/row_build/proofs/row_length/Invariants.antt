@@ -1,8 +1,5 @@
 use Prim.Native.Nat.{◌-◌}
-use borrow.Author.Rules.{rules}
-use native.Mathlib.Omega.{arith}
-use Rattle.row_format.proofs.Sorts.{limit_le}
-use Rattle.row_build.proofs.Measuring.{Walking, walk_start, walk_none, walk_readable, walk_bad, walk_room, walk_more, walk_left, walk_end, no_length-told, bad_told}
+use Rattle.row_build.proofs.Measuring.{Walking}
 use Rattle.row_build.proofs.row_length.Given as goal
 
 abbrev pub invariant-loop-column : goal.invariant-loop-column

@@ -1,12 +1,11 @@
-use Rattle.row_build.proofs.Writing.{Writing, write_start, write_size, write_end, write_more, write_room, write_places}
+use Rattle.row_build.proofs.Writing.{write_start, write_size, write_end, write_more, write_room, write_places}
 use Rattle.row_build.proofs.Columns.{storable_suited}
-use Rattle.row_build.proofs.Counting.{Counting, count-start, count-size, count-more, count-end}
+use Rattle.row_build.proofs.Counting.{count-start, count-size, count-more, count-end}
 use Rattle.row_build.proofs.Measuring.{left}
 use Rattle.row_build.proofs.Walk.{readable}
 use Rattle.row_format.specs.Places.{offset_width}
 use Rattle.record_slot.proofs.Held.{has_type, read_at}
 use Rattle.record_slot.proofs.Forms.{entry_bytes}
-use Prim.Native.Nat.{◌-◌}
 use native.Mathlib.Omega.{arith}
 use borrow.Author.Rules.{rules}
 use Rattle.row_build.proofs.write_columns.Goals as goal

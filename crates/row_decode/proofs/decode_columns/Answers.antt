@@ -1,9 +1,7 @@
 use native.Mathlib.Omega.{arith}
 use mathlib.Core.Path.{◌∙◌}
-use Prim.Native.Nat.{◌-◌}
-use lib.ListN.{length-set}
 use Rattle.datatype.proofs.Again.{ahead-few, step_column, ahead_passable}
-use Rattle.row_decode.proofs.Decoding.{Decoding, decode_start, decode_end, decode_size, decode_numbers, decode_at, count-inside, decode_next, decode_refused}
+use Rattle.row_decode.proofs.Decoding.{decode_start, decode_end, decode_size, decode_numbers, decode_at, count-inside, decode_next, decode_refused}
 use borrow.Author.Rules.{rules}
 use Rattle.row_decode.proofs.decode_columns.Goals as goal
 

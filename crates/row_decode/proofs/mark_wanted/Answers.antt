@@ -1,9 +1,7 @@
 use native.Mathlib.Omega.{arith}
 use Rattle.row_decode.proofs.Marking.{marked_more, marked_all}
-use Rattle.row_decode.specs.InnerMarks.{marked}
-use lib.ListN.{length, drop, length-set, get_or}
-use mathlib.Core.Path.{◌≡◌, refl, ◌∙◌}
-use Prim.Native.Nat.{◌-◌, ◌≤◌}
+use lib.ListN.{length-set, get_or}
+use mathlib.Core.Path.{refl, ◌∙◌}
 use borrow.Author.Rules.{rules}
 use Rattle.row_decode.proofs.mark_wanted.Goals as goal
 

@@ -1,6 +1,4 @@
-use Rattle.row_format.specs.Places.{offset_width}
-use Prim.Native.Nat.{◌-◌}
-use Rattle.row_patch.proofs.Offsets.{Moving, moving_start, moving_inside, moving_may, moving_more, moving_end}
+use Rattle.row_patch.proofs.Offsets.{moving_start, moving_inside, moving_may, moving_more, moving_end}
 use Rattle.row_patch.proofs.move_offsets.Goals as goal
 
 pub loop-k-init : goal.loop-k-init

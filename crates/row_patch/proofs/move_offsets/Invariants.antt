@@ -1,7 +1,6 @@
 use Rattle.row_format.specs.Places.{offset_width}
 use Prim.Native.Nat.{◌-◌}
-use borrow.Author.Rules.{rules}
-use Rattle.row_patch.proofs.Offsets.{Moving, moving_start, moving_inside, moving_may, moving_more, moving_end}
+use Rattle.row_patch.proofs.Offsets.{Moving}
 use Rattle.row_patch.proofs.move_offsets.Given as goal
 
 abbrev pub invariant-loop-k : goal.invariant-loop-k

@@ -4,7 +4,6 @@ use native.Mathlib.Omega.{arith}
 use Prim.Native.Nat.{◌+◌, ◌-◌}
 use mathlib.Core.Path.{refl}
 use mathlib.Core.Option.{some}
-use lib.ListN.{length}
 use Rattle.row_patch.specs.InnerStores.{form_of}
 use Rattle.row_patch.proofs.Ranges.{length-text, lent_length, table_ready, table_done}
 use Rattle.row_patch.proofs.store_varlen.Goals as goal

@@ -1,10 +1,7 @@
 -- `check_from` meets its contract. The first i bytes are count characters.
-use Prim.Native.Nat.{◌-◌}
-use mathlib.Core.Logic.{⊎_elim}
 use mathlib.Core.Path.{sym, ◌∙◌}
 use native.Mathlib.Omega.{arith}
-use lib.ListN.{length}
-use Rattle.text.proofs.Runs.{Reached, reached_lead, two_reached, two_less, stuck_low, four_reached, four_less, stuck, valid}
+use Rattle.text.proofs.Runs.{reached_lead, two_reached, two_less, stuck_low, four_reached, four_less, stuck, valid}
 use borrow.Author.Rules.{rules}
 use Rattle.text.proofs.check_from.Goals as goal
 use Rattle.text.proofs.check_from.Goals.{then-is_high, else-is_high}
@@ -26,10 +23,10 @@ returns-then-end-i c =
     let one = c.past_ones-one.ensures in
     let two = c.past_twos-two.ensures in
     elim c.if-is_high.branch [
-      then-is_high w ↦ stuck l.invariant one two w.past_threes-three.ensures w.past_fours-end.ensures
-      (sym w.end-is ∙ c.if-end-i.true) (omega arith)
-    | else-is_high w ↦ stuck_low l.invariant one two (sym c.is_high.ensures ∙ w.if-is_high.false)
-      (sym w.end-is ∙ c.if-end-i.true) (omega arith)
+      | then-is_high w ↦ stuck l.invariant one two w.past_threes-three.ensures w.past_fours-end.ensures
+          (sym w.end-is ∙ c.if-end-i.true) (omega arith)
+      | else-is_high w ↦ stuck_low l.invariant one two (sym c.is_high.ensures ∙ w.if-is_high.false)
+          (sym w.end-is ∙ c.if-end-i.true) (omega arith)
     ]
 
 pub loop-i-smaller : goal.loop-i-smaller
@@ -38,9 +35,9 @@ loop-i-smaller c =
     let one = c.past_ones-one.ensures in
     let two = c.past_twos-two.ensures in
     elim c.if-is_high.branch [
-      then-is_high w ↦ rw w.end-is (four_less l.invariant one two w.past_threes-three.ensures w.past_fours-end.ensures
-      (λ e. c.if-end-i.false (w.end-is ∙ e)))
-    | else-is_high w ↦ rw w.end-is (two_less l.invariant one two (λ e. c.if-end-i.false (w.end-is ∙ e)))
+      | then-is_high w ↦ rw w.end-is (four_less l.invariant one two w.past_threes-three.ensures w.past_fours-end.ensures
+          (λ e. c.if-end-i.false (w.end-is ∙ e)))
+      | else-is_high w ↦ rw w.end-is (two_less l.invariant one two (λ e. c.if-end-i.false (w.end-is ∙ e)))
     ]
 
 pub loop-i-preserved : goal.loop-i-preserved
@@ -49,8 +46,8 @@ loop-i-preserved c =
     let one = c.past_ones-one.ensures in
     let two = c.past_twos-two.ensures in
     elim c.if-is_high.branch [
-      then-is_high w ↦ rw (w.count-is, w.end-is) (four_reached l.invariant one two w.past_threes-three.ensures w.past_fours-end.ensures)
-    | else-is_high w ↦ rw (w.count-is, w.end-is) (two_reached l.invariant one two)
+      | then-is_high w ↦ rw (w.count-is, w.end-is) (four_reached l.invariant one two w.past_threes-three.ensures w.past_fours-end.ensures)
+      | else-is_high w ↦ rw (w.count-is, w.end-is) (two_reached l.invariant one two)
     ]
 
 pub returns : goal.returns
