@@ -113,14 +113,14 @@ module _ (w : ℕ) (h : List ℕ) (four : length h ≡ 4) {ss : List Shape} {cs 
   field_row = rw (append_assoc h) (ap from_le (ap (take 2) (drop-append-le 2 h _ (omega (arith, four))) ∙ take-append-le 2 (drop 2 h) _ (rw (length-drop, four) (omega arith))))
 
   -- bit i of the bitmap says whether column i is null; those past the last column are 0
-  pub bits-row : (i : ℕ) → i < bitmap_size n * 8 → bit_at i (drop bitmap_start (row_with w h ss cs bs)) ≡ null_bit (get_or cs i (some []))
+  pub bits_row : (i : ℕ) → i < bitmap_size n * 8 → bit_at i (drop bitmap_start (row_with w h ss cs bs)) ≡ null_bit (get_or cs i (some []))
   unfolding row_with lay
-  bits-row i k =
+  bits_row i k =
       let m : i / 8 < length (bitmap (bitmap_size n) cs) = rw length-bitmap (omega arith) in
       rw (append_assoc h, drop_at h _ 4 four, get_or-append) (bitmap-bit (bitmap_size n) cs i (omega arith))
 
   pub bit-row : (i : ℕ) → i < n → bit_at i (drop bitmap_start (row_with w h ss cs bs)) ≡ null_bit (get_or cs i (some []))
-  bit-row i k = bits-row i (omega arith)
+  bit-row i k = bits_row i (omega arith)
 
   -- the slot of column i
   pub slot_row : (i : ℕ) → i < n → take (slot_size (get_or ss i Varlen)) (drop (fixed_start w n (varlens ss) + slot_start true ss i) (row_with w h ss cs bs)) ≡ get_or bs i []

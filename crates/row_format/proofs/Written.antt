@@ -14,7 +14,7 @@ use Rattle.row_format.specs.Row.{header, built_row}
 use Rattle.row_format.specs.InnerRow.{FitsCell}
 use Rattle.row_format.specs.InnerTable.{range_bytes}
 use Rattle.row_format.specs.Written.{CellsFit, payload_place, WrittenRow, LayoutWritten}
-use Rattle.row_format.proofs.Row.{length-header, header-columns, header-varlens, slots_fit, length-row, count-row, field_row, bits-row, slot_row, entry_row, end_row, range-row}
+use Rattle.row_format.proofs.Row.{length-header, header-columns, header-varlens, slots_fit, length-row, count-row, field_row, bits_row, slot_row, entry_row, end_row, range-row}
 use Rattle.row_format.proofs.Cells.{slots_at}
 
 fits_cell : (s : Shape) (c : Cell) → ((z a : ℕ) (b : List ℕ) → s ≡ Fixed z a → c ≡ some b → length b ≡ z) → FitsCell s c
@@ -54,7 +54,7 @@ module _ (w marks : ℕ) (ss : List Shape) (cs : List Cell) (cells : Forall₂ F
       record {
         column-count = count-row w head four cells slots ∙ header-columns marks ss few;
         varlen_count = field_row w head four cells slots ∙ header-varlens marks ss small;
-        bit = λ i h. bits-row w head four cells slots i h;
+        bit = λ i h. bits_row w head four cells slots i h;
         slot = λ i h. slot_row w head four cells slots i h ∙ slots_at i cells h;
         entry = λ i h v. entry_row w head four cells slots i h v fits;
         end = λ i h v. end_row w head four cells slots i h v fits;
