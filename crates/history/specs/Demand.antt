@@ -1,6 +1,6 @@
 -- Demand 3, and 01, "Histories of edits": "Demand 3 is one claim about the whole list, not one for each call."
 -- FORMAT 9.3, 9.4.
-use Rattle.std.specs.Prelude.{ℕ, ◌+◌, ◌<◌, ◌≤◌, Bool, true, false, List, [], ◌∷◌, map, ◌↔◌, ◌≡◌, length, get_or, replicate}
+use Rattle.std.specs.Prelude.{ℕ, ◌+◌, ◌<◌, ◌≤◌, Bool, true, List, [], ◌∷◌, map, ◌↔◌, ◌≡◌, length, get_or, replicate}
 use Rattle.std.proofs.Math.Option.{none, some}
 use Rattle.std.specs.Int.{w8}
 use Rattle.std.proofs.Common.{Fits}

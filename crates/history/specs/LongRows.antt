@@ -1,6 +1,6 @@
 -- FORMAT 3.11, 4.6, 9.1. 02, request 5: a history of long rows on S, "with the last accepted texts of a long row in
 -- kinds 17, 18 and 19".
-use Rattle.std.specs.Prelude.{ℕ, true, List, [], ◌∷◌, ◌++◌, ◌≡◌, replicate}
+use Rattle.std.specs.Prelude.{true, List, [], ◌∷◌, ◌≡◌, replicate}
 use Rattle.error.specs.declared.Refusal.TheVariants.{WrongKind, Unsuitable}
 use Rattle.error.specs.declared.Answer.TheVariants.{Done, Refused}
 use Rattle.value_list.specs.Lists.{list_of}

@@ -9,7 +9,6 @@ use Rattle.error.specs.declared.Refusal.{Refusal}
 use Rattle.error.specs.Result.{Result, ok, refused, on_result, before}
 use Rattle.laws.specs.Bytes.{concat}
 use Rattle.row_list.specs.declared.ListCheck.{ListCheck}
-use Rattle.row_list.specs.declared.ListCheck.TheVariants as ListCheck
 use Rattle.row_list.specs.InnerRows.{list_checked}
 use Rattle.row_list.specs.Rows.{first_size, rows_from, rows_of}
 use Rattle.row_list.proofs.Rows.{NextRow, next_row, no_row, rows-within}

@@ -10,9 +10,7 @@ use Rattle.occupation.specs.Order.{precedes}
 use Rattle.occupation.specs.Line.{line}
 use Rattle.occupation.specs.InnerFields.{is_good, fields_shown, FieldsIn}
 use Rattle.occupation_list.specs.declared.Arranged.{Arranged}
-use Rattle.occupation_list.specs.declared.Arranged.TheVariants as Arranged
 use Rattle.occupation_list.specs.declared.Added.{Added}
-use Rattle.occupation_list.specs.declared.Added.TheVariants as Added
 use Rattle.occupation_list.specs.Ordered.{inserted, inserted_all}
 use Rattle.occupation_list.specs.Print.{row_count_limit, occupations_of, decimal}
 

@@ -8,6 +8,7 @@ use error::Answer;
 
 // The descriptors of POSIX.
 const STDIN_FILENO: i32 = 0;
+
 const STDOUT_FILENO: i32 = 1;
 
 // One byte more than a list may have: it is enough to refuse a longer one.

@@ -10,7 +10,6 @@ use lib.Seq.{sets}
 use Rattle.error.specs.declared.Refusal.{Refusal}
 use Rattle.error.specs.declared.Refusal.TheVariants.{NoRoom, Unprintable}
 use Rattle.error.specs.declared.Answer.{Answer}
-use Rattle.error.specs.declared.Answer.TheVariants as Answer
 use Rattle.error.specs.Refusal.{number_of}
 use Rattle.error.specs.Result.{Result, ok, refused, on_result}
 use Rattle.error.specs.Answer.{Counted, unchanged_both}
@@ -20,7 +19,6 @@ use Rattle.datatype.specs.Schema.{schema_of}
 use Rattle.value_list.specs.Lists.{Values, list_of}
 use Rattle.stored_form.specs.Points.{points_in}
 use Rattle.row_column.specs.declared.Frame.{Frame}
-use Rattle.row_column.specs.declared.Frame.TheVariants as Frame
 use Rattle.row_column.specs.Frame.{frame_of, on_frame}
 use Rattle.row_decode.specs.Read.{read_from, hand_out, read_call}
 use Rattle.occupation.specs.Occupation.{Occupation, columns, occupation_of, has_unprintable, printable}

@@ -1,7 +1,7 @@
 -- The lines are text: the texts of rows are, and all else is ASCII.
 use Prim.Native.Nat.{ℕ, zero, suc, ◌+◌, ◌/◌, ◌%◌, ◌^◌, ◌≤◌, ◌<◌}
 use mathlib.Core.Path.{◌≡◌, refl}
-use mathlib.Core.Bool.{true, cond}
+use mathlib.Core.Bool.{true}
 use mathlib.Core.List.{List, [], ◌∷◌, ◌++◌, map}
 use mathlib.Core.Option.{Option, none, some}
 use native.Mathlib.Omega.{arith}
@@ -25,7 +25,7 @@ use Rattle.printed_list.specs.Sorted.{Every}
 use Rattle.printed_list.specs.Printable.{IfSome, Printable}
 use Rattle.printed_list.specs.Text.{LinesText, ReportText}
 use Rattle.printed_list.proofs.Results.{on_either}
-use Rattle.printed_list.proofs.Reading.{Good, list_read_lem}
+use Rattle.printed_list.proofs.Reading.{list_read_lem}
 use Rattle.printed_list.proofs.Printed.{all-good, ordered-printable}
 
 -- ---- ASCII

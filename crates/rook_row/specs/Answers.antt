@@ -4,7 +4,6 @@ use Rattle.std.specs.Prelude.{ℕ, List}
 use Rattle.error.specs.declared.Answer.{Answer}
 use Rattle.error.specs.declared.Answer.TheVariants.{Done, Refused}
 use Rattle.error.specs.declared.Flag.{Flag}
-use Rattle.error.specs.declared.Flag.TheVariants as Flag
 use Rattle.error.specs.Answer.{Outcome, Counted}
 use Rattle.error.specs.Refusal.{number_of, place_of}
 use Rattle.laws.specs.Bits.{bit_value}

@@ -18,7 +18,6 @@ use Rattle.value.specs.declared.DataValue.TheVariants.{Null}
 use Rattle.value_list.specs.Lists.{Values, list_of}
 use Rattle.stored_form.specs.Points.{points_in}
 use Rattle.row_column.specs.declared.Frame.{Frame}
-use Rattle.row_column.specs.declared.Frame.TheVariants as Frame
 use Rattle.row_column.specs.declared.ColumnRead.{ColumnRead}
 use Rattle.row_column.specs.declared.ColumnRead.TheVariants as Column
 use Rattle.row_column.specs.Frame.{frame_of, on_frame}

@@ -22,18 +22,16 @@ use Rattle.datatype.specs.Types.{length_of}
 use Rattle.datatype.specs.Schema.{Parsed, schema_of}
 use Rattle.datatype.specs.Check.{types_in}
 use Rattle.value.specs.declared.DataValue.{DataValue}
-use Rattle.value.specs.declared.DataValue.TheVariants.{Null}
 use Rattle.value.specs.Ranges.{text_of}
 use Rattle.value_list.specs.Lists.{Values, list_of}
 use Rattle.value_same.specs.Same.{same_content}
 use Rattle.stored_form.specs.Points.{points_in}
 use Rattle.row_column.specs.declared.Frame.{Frame}
-use Rattle.row_column.specs.declared.Frame.TheVariants as Frame
 use Rattle.row_column.specs.Frame.{frame_of, on_frame}
 use Rattle.row_decode.specs.Read.{is_wanted, read_from, hand_out, read_row, read_call}
 use Rattle.row_same.specs.Rows.{all_columns, values_read, same_values, on_values, same_call}
 use Rattle.row_same.proofs.Read.{ReadsAs, rows-read, SameAt, values_same}
-use Rattle.round_trip.specs.SameRead.{WantsAll, ReadRefuses, ReadGives, RefusedAs, first, second, ComparedBy, SameAsRead}
+use Rattle.round_trip.specs.SameRead.{WantsAll, ReadRefuses, ReadGives, RefusedAs, first, second, SameAsRead}
 use Rattle.round_trip.proofs.Sorts.{same-columns}
 use Rattle.round_trip.proofs.ReadAll.{columns-read, wanted-all}
 

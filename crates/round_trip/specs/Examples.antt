@@ -1,6 +1,6 @@
 -- FORMAT 3.9, 7.1, 7.3, 7.4, 7.5, 8.3. 01's row 2, of 1, "AB", null, and its long twin: the premises of the statements
 -- about rows that were built and rows that are read are met by them.
-use Rattle.std.specs.Prelude.{ℕ, Bool, true, false, List, [], ◌∷◌, ◌≡◌, get_or, take, replicate}
+use Rattle.std.specs.Prelude.{ℕ, true, false, List, [], ◌∷◌, ◌≡◌, get_or, replicate}
 use Rattle.std.specs.Int.{w8}
 use Rattle.std.proofs.Common.{Fits}
 use Rattle.error.specs.declared.Answer.TheVariants.{Done}

@@ -1,6 +1,6 @@
 -- 01, "Platform rows worked out": the cases marked (P) and case 11, and RFC 3629's examples (section 7), each as what
 -- the definitions compute beside what the paper states. "S is Int, Varchar(5), SmallInt."
-use Rattle.std.specs.Prelude.{ℕ, true, false, List, [], ◌∷◌, ◌++◌, map, ◌≡◌, length, replicate, ℤ, pos, negsuc}
+use Rattle.std.specs.Prelude.{ℕ, true, false, List, [], ◌∷◌, ◌++◌, map, ◌≡◌, replicate, ℤ, pos, negsuc}
 use Rattle.std.proofs.Math.Option.{Option, none, some}
 use Rattle.error.specs.declared.Answer.{Answer}
 use Rattle.error.specs.declared.Answer.TheVariants.{Done, Refused}

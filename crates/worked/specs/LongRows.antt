@@ -1,6 +1,6 @@
 -- 02, request 5: examples of long rows, each as what the calls answer and leave beside what is stated. S is Int,
 -- Varchar(5), SmallInt.
-use Rattle.std.specs.Prelude.{ℕ, true, false, List, [], ◌∷◌, ◌++◌, length, replicate}
+use Rattle.std.specs.Prelude.{ℕ, true, false, List, [], ◌∷◌, ◌++◌, replicate}
 use Rattle.row_build.specs.Build.{fresh_call, build_call}
 use Rattle.row_decode.specs.Read.{read_call}
 use Rattle.row_edit.specs.Edit.{set_call, set_null_call}

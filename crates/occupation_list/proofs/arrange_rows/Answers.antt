@@ -1,8 +1,6 @@
-use Prim.Native.Nat.{◌-◌}
 use mathlib.Core.Path.{sym, ◌∙◌}
 use native.Mathlib.Omega.{arith}
-use lib.ListN.{length}
-use Rattle.occupation_list.proofs.Arranging.{Arranging, added_row, arrange_start, arrange_end, arrange_at, arrange_refused, arrange_more}
+use Rattle.occupation_list.proofs.Arranging.{added_row, arrange_start, arrange_end, arrange_at, arrange_refused, arrange_more}
 use Rattle.occupation_list.proofs.arrange_rows.Goals as goal
 
 pub loop-at-init : goal.loop-at-init

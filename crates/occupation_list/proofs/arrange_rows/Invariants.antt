@@ -1,9 +1,6 @@
 use Prim.Native.Nat.{◌-◌}
-use mathlib.Core.Path.{sym, ◌∙◌}
-use native.Mathlib.Omega.{arith}
 use lib.ListN.{length}
-use Rattle.occupation_list.proofs.Arranging.{Arranging, added_row, arrange_start, arrange_end, arrange_at, arrange_refused, arrange_more}
-use borrow.Author.Rules.{rules}
+use Rattle.occupation_list.proofs.Arranging.{Arranging}
 use Rattle.occupation_list.proofs.arrange_rows.Given as goal
 
 abbrev pub invariant-loop-at : goal.invariant-loop-at

@@ -1,13 +1,9 @@
-use Prim.Native.Nat.{◌+◌, ◌-◌, ◌/◌}
-use mathlib.Core.Path.{sym, ◌∙◌}
-use native.Mathlib.Omega.{arith}
+use Prim.Native.Nat.{◌-◌}
 use lib.ListN.{get_or}
 use Rattle.occupation.specs.Order.{precedes}
 use Rattle.occupation.specs.InnerFields.{fields_shown}
 use Rattle.occupation_list.specs.InnerOrder.{occupation_at}
-use Rattle.occupation_list.proofs.Insertion.{Searching, search_start, search_lower, search_higher}
-use Rattle.occupation_list.proofs.Places.{stays_before, search_end}
-use borrow.Author.Rules.{rules}
+use Rattle.occupation_list.proofs.Insertion.{Searching}
 use Rattle.occupation_list.proofs.place_for.Given as goal
 
 abbrev pub invariant-loop-low : goal.invariant-loop-low

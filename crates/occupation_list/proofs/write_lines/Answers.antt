@@ -1,6 +1,5 @@
-use Prim.Native.Nat.{◌-◌}
 use native.Mathlib.Omega.{arith}
-use Rattle.occupation_list.proofs.Writing.{Writing, write_start, write_room, write_more, write_end}
+use Rattle.occupation_list.proofs.Writing.{write_start, write_room, write_more, write_end}
 use Rattle.occupation_list.proofs.write_lines.Goals as goal
 
 pub loop-i-init : goal.loop-i-init

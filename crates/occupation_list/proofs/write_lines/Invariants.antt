@@ -1,7 +1,5 @@
 use Prim.Native.Nat.{◌-◌}
-use native.Mathlib.Omega.{arith}
-use Rattle.occupation_list.proofs.Writing.{Writing, write_start, write_room, write_more, write_end}
-use borrow.Author.Rules.{rules}
+use Rattle.occupation_list.proofs.Writing.{Writing}
 use Rattle.occupation_list.proofs.write_lines.Given as goal
 
 abbrev pub invariant-loop-i : goal.invariant-loop-i

@@ -1,5 +1,4 @@
-use lib.ListN.{length}
-use mathlib.Core.Path.{◌≡◌, refl}
+use mathlib.Core.Path.{refl}
 use Rattle.replay.proofs.run_all.Goals as goal
 
 pub loop-turns-init : goal.loop-turns-init

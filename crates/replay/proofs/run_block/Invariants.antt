@@ -1,6 +1,5 @@
 use lib.ListN.{length}
 use Prim.Native.Nat.{◌≤◌, ◌-◌}
-use borrow.Author.Rules.{rules}
 use Rattle.replay.proofs.run_block.Given as goal
 
 abbrev pub invariant-loop-at : goal.invariant-loop-at
