@@ -17,7 +17,7 @@ use Rattle.value.specs.declared.DataValue.{DataValue}
 use Rattle.value.specs.declared.DataValue.TheVariants.{Null}
 use Rattle.value_list.specs.Lists.{Values, judged, checked}
 use Rattle.value_list.specs.Forms.{ListOf}
-use Rattle.value_list.proofs.Lists.{list_read}
+use Rattle.value_list.proofs.Lists.{list_read_lem}
 use Rattle.record_slot.specs.Stored.{stored_in}
 use Rattle.row_column.proofs.Framing.{same_good}
 use Rattle.row_build.specs.Build.{build_values, build_row, build_call}
@@ -28,7 +28,7 @@ use Rattle.all_calls.specs.EitherForm.{EitherForm}
 
 module _ {vs : List DataValue} {list : List ℕ} (l : ListOf vs list) (k : Bool) (n area : ℕ) where
   checked-is : checked k n area list ≡ judged k n area (length list) (ok vs)
-  checked-is = ap (judged k n area (length list)) (list_read l)
+  checked-is = ap (judged k n area (length list)) (list_read_lem l)
 
   miscounted-is : (length vs ≡ n → ⊥) → checked k n area list ≡ refused (BadValueList (length list))
   miscounted-is h = checked-is ∙ rw (ne_eqb (length vs) n h)

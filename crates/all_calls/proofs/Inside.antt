@@ -92,8 +92,8 @@ module _ (schema r : List ℕ) (octets : AllBytes r) where
   handed-inside out counts (ok vs) h = λ n after numbers q.
       record { values = vs; list = (placed_both_done out counts (list_of k vs) (map (points_in r) vs) q).bytes.part; inside = h }
 
-pub read_inside : (schema r wanted out counts : List ℕ) → ReadInside schema r wanted out counts
-read_inside schema r wanted out counts octets =
+pub read-inside : (schema r wanted out counts : List ℕ) → ReadInside schema r wanted out counts
+read-inside schema r wanted out counts octets =
     by_result (IfDone schema r octets) (schema_of (is_long r) schema) (none_done schema r octets out counts) (λ ts good.
     by_frame (IfDone schema r octets) (frame_of (is_long r) ts r) (none_done schema r octets out counts) (λ p frame.
     handed-inside schema r octets out counts (read_from (offset_width (is_long r)) p ts (is_wanted wanted) r 0 (length ts))

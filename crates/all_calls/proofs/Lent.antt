@@ -39,7 +39,7 @@ use Rattle.row_edit.specs.Edit.{opening, opened, edited, given, set_call, set_nu
 use Rattle.occupation_list.specs.Print.{occupations_of, lines_of, print_call}
 use Rattle.all_calls.specs.Lent.{Call, left_by, lent_to, counts_due, bytes_alone, with_counts, with_handle, RefusalChangesNothing, PastResultKept}
 use Rattle.all_calls.specs.Lent as Lent
-use Rattle.all_calls.proofs.Steps.{by_result, by_frame, types_are}
+use Rattle.all_calls.proofs.Steps.{by_result, by_frame, types_in_lem}
 
 -- ---- stores at the front
 
@@ -176,7 +176,7 @@ module _ (sort : Bool) (schema list area out counts : List ℕ) where
           let b = d.built in
           let r : List ℕ = built_row (offset_width sort) (packed_marks sort) (map shape_of b.columns) b.cells in
           let ns : List ℕ = cells_points b.columns b.cells in
-          let due : length ns ≡ length (types_in schema) = d.counted.many ∙ sym (ap length (types_are sort schema b.schema-good)) in
+          let due : length ns ≡ length (types_in schema) = d.counted.many ∙ sym (ap length (types_in_lem sort schema b.schema-good)) in
           kept-done out counts (length (types_in schema)) r ns due b.size b.stored d.counted.put
 
 -- a read gives a value for each column
@@ -209,7 +209,7 @@ read_kept schema r wanted out counts =
     by_result (Kept out counts due) (schema_of k schema) (kept-refused out counts due)
     (λ ts e. by_frame (Kept out counts due) (frame_of k ts r) (kept-refused out counts due)
     (λ p f. handed-kept k r out counts due (read_from (offset_width k) p ts (is_wanted wanted) r 0 (length ts))
-    (rw (types_are k schema e) (reads-count (offset_width k) p ts (is_wanted wanted) r (length ts) 0))))
+    (rw (types_in_lem k schema e) (reads-count (offset_width k) p ts (is_wanted wanted) r (length ts) 0))))
 
 -- ---- every call
 
@@ -248,18 +248,18 @@ past-kept c k a b d n h =
       counts_past = ap (drop (counts_due c)) d ∙ k.counts_past n (sym a ∙ h);
     }
 
-pub past_result_kept : (c : Call) → PastResultKept c
-past_result_kept (Lent.fresh sort schema out) = past-kept (Lent.fresh sort schema out) (fresh_kept sort schema out) refl refl refl
-past_result_kept (Lent.build sort schema list area out counts) =
+pub past-result-kept : (c : Call) → PastResultKept c
+past-result-kept (Lent.fresh sort schema out) = past-kept (Lent.fresh sort schema out) (fresh_kept sort schema out) refl refl refl
+past-result-kept (Lent.build sort schema list area out counts) =
     past-kept (Lent.build sort schema list area out counts) (build-kept sort schema list area out counts) refl refl refl
-past_result_kept (Lent.read schema row wanted out counts) =
+past-result-kept (Lent.read schema row wanted out counts) =
     past-kept (Lent.read schema row wanted out counts) (read_kept schema row wanted out counts) refl refl refl
-past_result_kept (Lent.set schema buf n i list area) =
+past-result-kept (Lent.set schema buf n i list area) =
     past-kept (Lent.set schema buf n i list area) (set-kept schema buf n i list area) refl refl refl
-past_result_kept (Lent.set-null schema buf n i) =
+past-result-kept (Lent.set-null schema buf n i) =
     past-kept (Lent.set-null schema buf n i) (set-null-kept schema buf n i) refl refl refl
-past_result_kept (Lent.handle-set schema buf h i list area) =
+past-result-kept (Lent.handle-set schema buf h i list area) =
     past-kept (Lent.handle-set schema buf h i list area) (set-kept schema buf h.length i list area) refl refl refl
-past_result_kept (Lent.handle-set-null schema buf h i) =
+past-result-kept (Lent.handle-set-null schema buf h i) =
     past-kept (Lent.handle-set-null schema buf h i) (set-null-kept schema buf h.length i) refl refl refl
-past_result_kept (Lent.print list out) = past-kept (Lent.print list out) (print-kept list out) refl refl refl
+past-result-kept (Lent.print list out) = past-kept (Lent.print list out) (print-kept list out) refl refl refl

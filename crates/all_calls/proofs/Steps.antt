@@ -25,6 +25,6 @@ by_frame P (Good p) g h = h p refl
 by_frame P (Refused e) g h = g e
 
 -- the columns of a schema that is good for rows of a sort
-pub types_are : (k : Bool) (s : List ℕ) {ts : List DataType} → schema_of k s ≡ ok ts → types_in s ≡ ts
-types_are k s e =
+pub types_in_lem : (k : Bool) (s : List ℕ) {ts : List DataType} → schema_of k s ≡ ok ts → types_in s ≡ ts
+types_in_lem k s e =
     on_good k s (ap (checked_schema k) e) (λ x. []) (λ us. us) ∙ ap (λ (q : Parsed). on_result q (λ x. []) (λ us. us)) e

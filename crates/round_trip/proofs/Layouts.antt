@@ -1,17 +1,25 @@
 -- Varchars of both kinds share one layout: what both hold is stored in the same row.
 use Prim.Native.Nat.{ℕ, ◌+◌}
-use mathlib.Core.Path.{◌≡◌, refl, sym, ap, ◌∙◌}
+use mathlib.Core.Path.{◌≡◌, refl, sym, ap, ◌∙◌, subst}
 use mathlib.Core.Bool.{Bool, false≢true}
 use mathlib.Core.List.{List, [], ◌∷◌, map}
 use mathlib.Core.Option.{some}
+use lib.ListN.{get_or}
 use Rattle.row_format.specs.Places.{offset_width}
 use Rattle.error.specs.Result.{ok}
 use Rattle.row_format.specs.declared.Shape.{Shape}
+use Rattle.row_format.specs.declared.Shape.TheVariants.{Fixed, Varlen}
+use Rattle.row_format.specs.InnerAligned.{Aligned}
+use Rattle.row_format.proofs.Places.{all_at}
+use Rattle.row_format.proofs.Padded.{fixed-starts}
 use Rattle.row_format.specs.Table.{Cell}
 use Rattle.row_format.specs.Row.{built_row, packed_marks}
 use Rattle.datatype.specs.declared.DataType.{DataType}
 use Rattle.datatype.specs.declared.DataType.TheVariants.{Varchar}
-use Rattle.datatype.specs.Types.{shape_of}
+use Rattle.datatype.specs.Types.{size_of, alignment_of, shape_of}
+use Rattle.datatype.specs.Check.{type_at}
+use Rattle.datatype.proofs.Again.{all_aligned}
+use Rattle.row_column.proofs.Walk.{shape_fixed}
 use Rattle.value.specs.declared.DataValue.{DataValue}
 use Rattle.value.specs.Ranges.{text_of}
 use Rattle.stored_form.specs.Write.{stored_form}
@@ -23,7 +31,7 @@ use Rattle.row_build.specs.Built.{Built}
 use Rattle.row_build.specs.InnerSteps.{values_given, cells_given}
 use Rattle.row_build.proofs.Cells.{first_cell}
 use Rattle.round_trip.proofs.ReadBack.{taken}
-use Rattle.round_trip.specs.Layouts.{Alike, same, varchars, AllAlike, none as no-columns, more, OneLayout}
+use Rattle.round_trip.specs.Layouts.{Alike, same, varchars, AllAlike, none as no-columns, more, OneLayout, ColumnStarts}
 
 shape_same : {t u : DataType} → Alike t u → shape_of t ≡ shape_of u
 shape_same (same t) = refl
@@ -73,3 +81,11 @@ module _ {sort : Bool} {schema list area out : List ℕ} {n : ℕ} {after : List
   one-layout a =
       let cells = cells_same area 0 a b.given b.cells-good (ap (λ (vs : List DataValue). cells_from 0 b'.columns vs area) (same-values b b') ∙ b'.cells-good) in
       b.row ∙ ap (λ (ss : List Shape). built_row (offset_width sort) (packed_marks sort) ss b.cells) (shapes_same a) ∙ ap (built_row (offset_width sort) (packed_marks sort) (map shape_of b'.columns)) cells ∙ sym b'.row
+
+-- ---- where a fixed column starts
+
+pub column-starts : (ts : List DataType) (i : ℕ) → ColumnStarts ts i
+column-starts ts i h v =
+    let t : DataType = type_at ts i in
+    let shape : get_or (map shape_of ts) i Varlen ≡ Fixed (size_of t) (alignment_of t) = shape_fixed ts i v in
+    fixed-starts (map shape_of ts) i (size_of t) (alignment_of t) shape (subst Aligned shape (all_at i (all_aligned ts)))

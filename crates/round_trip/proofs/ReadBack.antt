@@ -24,10 +24,11 @@ use Rattle.row_decode.specs.Read.{is_wanted, read_from, hand_out, read_row, read
 use Rattle.row_build.specs.Built.{Built}
 use Rattle.row_build.proofs.Counting.{many-cells, many-points}
 use Rattle.row_build.proofs.Schemas.{schema-few}
+use Rattle.round_trip.specs.Layouts.{BuiltWritten}
 use Rattle.round_trip.specs.ReadBack.{values_back, wanted_points, row, given_value, given_back, given_form, counts_put, ReadsBack, BuiltReadsBack}
 use Rattle.round_trip.proofs.Sorts.{built-sort}
 use Rattle.round_trip.proofs.Counts.{counts-back, all_wanted}
-use Rattle.round_trip.proofs.ReadBuilt.{frame-built, column-built, text-built, columns-built}
+use Rattle.round_trip.proofs.ReadBuilt.{frame-built, built-written, column-built, text-built, columns-built}
 
 module _ {sort : Bool} {schema list area out : List ℕ} {n : ℕ} {after : List ℕ}
     (b : Built sort schema list area out n after) where
@@ -46,6 +47,10 @@ module _ {sort : Bool} {schema list area out : List ℕ} {n : ℕ} {after : List
   -- the row's header is good
   pub frame_back : frame_of sort b.columns (row b) ≡ Good true
   frame_back = rw b.row (frame-built sort b.columns b.given area b.cells-good taken.count few short)
+
+  -- its parts stand where the layout says
+  pub written-built : BuiltWritten b
+  written-built = rw b.row (built-written sort b.columns b.given area b.cells-good taken.count few short)
 
   module _ (sized : AllSized b.given) where
     fits : length cells_row < 256 ^ (offset_width sort)

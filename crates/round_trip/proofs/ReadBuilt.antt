@@ -9,7 +9,7 @@ use borrow.Author.Tests.{le-ltb, eq-eqb, ne_eqb, eqb-true}
 use lib.Dec.{eqb}
 use lib.ListN.{length, get_or, take, drop, length-append, length-drop, length-map, take-append-drop, drop_of_length-le}
 use lib.Seq.{length-take-le, drop_at, drop-cons, take-append-le, drop-append-le}
-use Rattle.row_format.proofs.Sorts.{marks_small, marks_count, marks_packed}
+use Rattle.row_format.proofs.Sorts.{marks_small, marks_count, marks_packed, fits_limit}
 use Rattle.error.specs.Result.{ok, before}
 use Rattle.laws.specs.Bytes.{entry_at, from_le}
 use Rattle.laws.specs.Bits.{bit_at}
@@ -23,6 +23,8 @@ use Rattle.row_format.specs.Table.{Cell, bytes, payloads, lay, range_end}
 use Rattle.row_format.specs.Row.{packed_marks, header, null_bit, varlen_cells, row_with, built_row, slot_size}
 use Rattle.row_format.proofs.Places.{packed-inside, varlens-le}
 use Rattle.row_format.proofs.Row.{length-header, header-columns, header-varlens, length-row, slots_fit, bit-row, entry_row, end_row, range-row, of_rank}
+use Rattle.row_format.specs.Written.{WrittenRow}
+use Rattle.row_format.proofs.Written.{written_row}
 use Rattle.row_format.proofs.Cells.{column_bytes, cell_at, cell_built}
 use Rattle.row_format.specs.InnerTable.{range_bytes}
 use Rattle.row_format.specs.InnerRow.{FitsCell}
@@ -157,6 +159,13 @@ module _ (sort : Bool) (ts : List DataType) (vs : List DataValue) (area : List �
         eq-eqb v v refl,
         le-ltb (length r) (minimum (offset_width sort) true ss) long,
       )
+
+  -- ---- what stands where in it
+
+  pub built-written : length r ≤ row_limit sort → WrittenRow (offset_width sort) (packed_marks sort) ss cs r
+  built-written short =
+      written_row (offset_width sort) (packed_marks sort) ss cs fit (omega (arith, columns_are))
+      (marks_small sort (omega (arith, v_small))) (fits_limit sort short)
 
   -- ---- a column of it
 

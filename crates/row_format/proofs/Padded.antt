@@ -15,5 +15,5 @@ rounded a at h =
     let x : ℕ = at + (a - 1) in
     record { multiple = mul-mod_left (x / a) a; reaches = round_up_ge a at h; least = omega (arith, div-add-mod' x a, mod-lt x h) }
 
-pub fixed_starts : (ss : List Shape) (i z a : ℕ) → FixedStarts ss i z a
-fixed_starts ss i z a s h = record { packed = rw s; padded = rw s (rounded a (fixed_size false (take i ss)) h) }
+pub fixed-starts : (ss : List Shape) (i z a : ℕ) → FixedStarts ss i z a
+fixed-starts ss i z a s h = record { packed = rw s; padded = rw s (rounded a (fixed_size false (take i ss)) h) }

@@ -104,9 +104,9 @@ module _ (w : ℕ) (h : List ℕ) (four : length h ≡ 4) {ss : List Shape} {cs 
   length-row = rw (length-lay, length_front, length-varlens cells, length_slots slots)
 
   -- the header stands in front
-  pub count_row : column_count (row_with w h ss cs bs) ≡ column_count h
+  pub count-row : column_count (row_with w h ss cs bs) ≡ column_count h
   unfolding row_with lay
-  count_row = rw (append_assoc h) (ap from_le (take-append-le 2 h _ (omega (arith, four))))
+  count-row = rw (append_assoc h) (ap from_le (take-append-le 2 h _ (omega (arith, four))))
 
   pub field_row : varlen_field (row_with w h ss cs bs) ≡ varlen_field h
   unfolding row_with lay

@@ -14,7 +14,7 @@ use Rattle.row_format.specs.Row.{header, built_row}
 use Rattle.row_format.specs.InnerRow.{FitsCell}
 use Rattle.row_format.specs.InnerTable.{range_bytes}
 use Rattle.row_format.specs.Written.{CellsFit, payload_place, WrittenRow, LayoutWritten}
-use Rattle.row_format.proofs.Row.{length-header, header-columns, header-varlens, slots_fit, length-row, count_row, field_row, bits_row, slot_row, entry_row, end_row, range-row}
+use Rattle.row_format.proofs.Row.{length-header, header-columns, header-varlens, slots_fit, length-row, count-row, field_row, bits_row, slot_row, entry_row, end_row, range-row}
 use Rattle.row_format.proofs.Cells.{slots_at}
 
 fits_cell : (s : Shape) (c : Cell) → ((z a : ℕ) (b : List ℕ) → s ≡ Fixed z a → c ≡ some b → length b ≡ z) → FitsCell s c
@@ -38,10 +38,10 @@ module _ (w marks : ℕ) (ss : List Shape) (cs : List Cell) (cells : Forall₂ F
   row = built_row w marks ss cs
 
   module _ (i : ℕ) (h : i < length ss) (v : get_or ss i Varlen ≡ Varlen) (fits : length row < 256 ^ w) where
-    payload_here : (c : Cell) → get_or cs i none ≡ c → take (length (bytes c)) (drop (payload_place w ss cs i) row) ≡ bytes c
+    payload-at : (c : Cell) → get_or cs i none ≡ c → take (length (bytes c)) (drop (payload_place w ss cs i) row) ≡ bytes c
     unfolding range_bytes
-    payload_here none e = refl
-    payload_here (some b) e =
+    payload-at none e = refl
+    payload-at (some b) e =
         let at : ℕ = payload_place w ss cs i in
         let size : at + length b - at ≡ length b = omega arith in
         rw (end_row w head (length-header marks ss) cells (slots_fit cells) i h v fits, entry_row w head (length-header marks ss) cells (slots_fit cells) i h v fits, e, size)
@@ -52,15 +52,15 @@ module _ (w marks : ℕ) (ss : List Shape) (cs : List Cell) (cells : Forall₂ F
       let four = length-header marks ss in
       let slots = slots_fit cells in
       record {
-        column-count = count_row w head four cells slots ∙ header-columns marks ss few;
+        column-count = count-row w head four cells slots ∙ header-columns marks ss few;
         varlen_count = field_row w head four cells slots ∙ header-varlens marks ss small;
         bit = λ i h. bits_row w head four cells slots i h;
         slot = λ i h. slot_row w head four cells slots i h ∙ slots_at i cells h;
         entry = λ i h v. entry_row w head four cells slots i h v fits;
         end = λ i h v. end_row w head four cells slots i h v fits;
-        payload = λ i h v. payload_here i h v fits (get_or cs i none) refl;
+        payload = λ i h v. payload-at i h v fits (get_or cs i none) refl;
         long = length-row w head four cells slots;
       }
 
-pub layout_written : (w marks : ℕ) (ss : List Shape) (cs : List Cell) → LayoutWritten w marks ss cs
-layout_written w marks ss cs fit = written_row w marks ss cs (all_fit ss cs fit)
+pub layout-written : (w marks : ℕ) (ss : List Shape) (cs : List Cell) → LayoutWritten w marks ss cs
+layout-written w marks ss cs fit = written_row w marks ss cs (all_fit ss cs fit)

@@ -32,7 +32,8 @@ pub record WrittenRow (w marks : ℕ) (ss : List Shape) (cs : List Cell) (r : Li
       → bit_at i (drop bitmap_start r) ≡ null_bit (get_or cs i (some []))
   -- "fixed columns": the stored form in its slot, zeros for a null
   pub slot : (i : ℕ) → i < length ss
-      → take (slot_size (get_or ss i Varlen)) (drop (slot_place w true ss i) r) ≡ slot_of (get_or ss i Varlen) (get_or cs i none)
+      → take (slot_size (get_or ss i Varlen)) (drop (slot_place w true ss i) r)
+      ≡ slot_of (get_or ss i Varlen) (get_or cs i none)
   -- "Null Varchars have offset 0; an empty one has its own offset"
   pub entry : (i : ℕ) → i < length ss → get_or ss i Varlen ≡ Varlen
       → entry_at w (table_start (length ss)) (rank_of ss i) r ≡ offset (get_or cs i none) (payload_place w ss cs i)

@@ -29,23 +29,23 @@ list_least empty = omega arith
 list_least (prepend k v {vs} {list} f g l) =
     let ih = list_least l in rw (length-append (record_of k v) list) (omega (arith, record_least k v))
 
-records_read : {vs : List DataValue} {list : List ℕ} → ListOf vs list → (n : ℕ) → length vs ≤ n → (us : List ℕ) (at : ℕ) → length us ≡ at → records n (us ++ list) at ≡ ok vs
-records_read empty zero h us at e = refl
-records_read empty (suc n) h us at e = rw (le-ltb at (length (us ++ [])) (rw length-append (omega arith)))
-records_read (prepend k v f g l) zero h us at e = absurd (omega arith)
-records_read (prepend k v {vs} {list} f g l) (suc n) h us at e =
+records-read : {vs : List DataValue} {list : List ℕ} → ListOf vs list → (n : ℕ) → length vs ≤ n → (us : List ℕ) (at : ℕ) → length us ≡ at → records n (us ++ list) at ≡ ok vs
+records-read empty zero h us at e = refl
+records-read empty (suc n) h us at e = rw (le-ltb at (length (us ++ [])) (rw length-append (omega arith)))
+records-read (prepend k v f g l) zero h us at e = absurd (omega arith)
+records-read (prepend k v {vs} {list} f g l) (suc n) h us at e =
     let s = us ++ (record_of k v ++ list) in
     let past = at + length (record_of k v) in
     let more : at < length s = rw (length-append us (record_of k v ++ list), length-append (record_of k v) list) (omega (arith, record_least k v)) in
     let there : length (us ++ record_of k v) ≡ past = length-append us (record_of k v) ∙ ap (λ (m : ℕ). m + length (record_of k v)) e in
     let rest : records n s past ≡ ok vs =
-    ap (λ (x : List ℕ). records n x past) (sym (append_assoc us (record_of k v) list)) ∙ records_read l n (omega arith) (us ++ record_of k v) past there in
+    ap (λ (x : List ℕ). records n x past) (sym (append_assoc us (record_of k v) list)) ∙ records-read l n (omega arith) (us ++ record_of k v) past there in
     rw (lt-ltb at (length s) more) (ap (λ r. on_record r (records n s)) (record_read us list at e k v f (range_narrow k v g)) ∙ ap (before v) rest)
 
 -- a list of values gives these back, in whatever form their ranges are
-pub list_read : {vs : List DataValue} {list : List ℕ} → ListOf vs list → values_of list ≡ ok vs
+pub list_read_lem : {vs : List DataValue} {list : List ℕ} → ListOf vs list → values_of list ≡ ok vs
 unfolding values_of
-list_read {vs} {list} l = records_read l (length list) (list_least l) [] 0 refl
+list_read_lem {vs} {list} l = records-read l (length list) (list_least l) [] 0 refl
 
 -- one that was written for rows of a sort has all of them in one form
 written : (k : Bool) (vs : List DataValue) → AllSized vs → AllNarrow k vs → ListOf vs (list_of k vs)
@@ -53,7 +53,7 @@ written k [] f g = empty
 written k (v ∷ vs) f g = prepend k v f.0 (narrow_range k v g.0) (written k vs f.1 g.1)
 
 pub values-read : (k : Bool) (vs : List DataValue) → AllSized vs → AllNarrow k vs → values_of (list_of k vs) ≡ ok vs
-values-read k vs f g = list_read (written k vs f g)
+values-read k vs f g = list_read_lem (written k vs f g)
 
 -- so a list of n values, written for rows of one sort or the other, is taken beside any text area that is not too long
 pub list-checked : (k t : Bool) (n area : ℕ) (vs : List DataValue) → AllSized vs → AllNarrow t vs → length vs ≡ n → area ≤ row_limit k → checked k n area (list_of t vs) ≡ ok vs
