@@ -76,7 +76,8 @@ on_column_record (Refused r) rest = refused r
 -- kind"
 abbrev pub column_records : ℕ → List ℕ → ℕ → Parsed
 column_records zero s at = cond (ltb at (length s)) (refused (BadSchema at)) (ok [])
-column_records (suc n) s at = cond (ltb at (length s)) (on_column_record (column_record_at s at) (column_records n s)) (ok [])
+column_records (suc n) s at =
+    cond (ltb at (length s)) (on_column_record (column_record_at s at) (column_records n s)) (ok [])
 
 -- 2: "after the last record, padded minimum above 65,535 (place: schema length)", for short rows, and by the limit of
 -- long rows for those

@@ -105,7 +105,8 @@ pub record Leaves {sort : Bool} {schema : List ℕ} {ts : List DataType} (h : Hi
       ≡ placed_both o counts (zeroed h) (cells_points ts (cells h))
   pub handed : (left h).row-length ≡ length (row h)
   pub long : length (row h)
-      ≡ minimum (offset_width sort) true (map shape_of ts) + length (payloads (varlen_cells (map shape_of ts) (cells h)))
+      ≡ minimum (offset_width sort) true (map shape_of ts)
+      + length (payloads (varlen_cells (map shape_of ts) (cells h)))
   pub same_length : length (zeroed h) ≡ length (row h)
 
 -- ---- "For every two histories on one schema, the rows so zeroed are equal in length and in every byte exactly when

@@ -46,4 +46,5 @@ signed s (M.Number high low) =
 signed s M.Broken = D.Broken
 
 abbrev pub decode_bcd : ℕ → List ℕ → Decoded
-decode_bcd p bs = signed (get_or (nibbles bs) (front_size p + p) 0) (magnitude_of (take p (drop (front_size p) (nibbles bs))))
+decode_bcd p bs =
+    signed (get_or (nibbles bs) (front_size p + p) 0) (magnitude_of (take p (drop (front_size p) (nibbles bs))))

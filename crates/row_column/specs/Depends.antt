@@ -56,7 +56,8 @@ pub data LookedAtVarchar (w table v k : ℕ) (r : List ℕ) : ℕ → Type 0 whe
 
 pub data LookedAt (w : ℕ) (p : Bool) (ts : List DataType) (i : ℕ) (r : List ℕ) : ℕ → Type 0 where
   bit : LookedAt w p ts i r (bitmap_start + i / 8)
-  slot : (j : ℕ) → (bit_of_column i r ≡ 1 → ⊥) → is_varlen (type_at ts i) ≡ false → slot_place w p (map shape_of ts) i ≤ j
+  slot : (j : ℕ) → (bit_of_column i r ≡ 1 → ⊥) → is_varlen (type_at ts i) ≡ false
+      → slot_place w p (map shape_of ts) i ≤ j
       → j < slot_place w p (map shape_of ts) i + size_of (type_at ts i) → LookedAt w p ts i r j
   varchar : (j : ℕ) → (bit_of_column i r ≡ 1 → ⊥) → is_varlen (type_at ts i) ≡ true
       → LookedAtVarchar w (table_start (length ts)) (varlens (map shape_of ts)) (rank_of (map shape_of ts) i) r j

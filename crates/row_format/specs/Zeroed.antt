@@ -33,7 +33,8 @@ pub record InNullSlot (w : ℕ) (ss : List Shape) (r : List ℕ) (j : ℕ) : Typ
   pub inside : column < length ss
   pub null : bit_at column (drop bitmap_start r) ≡ 1
   pub from : fixed_start w (length ss) (varlens ss) + slot_start true ss column ≤ j
-  pub before : j < fixed_start w (length ss) (varlens ss) + slot_start true ss column + slot_size (get_or ss column Varlen)
+  pub before : j
+      < fixed_start w (length ss) (varlens ss) + slot_start true ss column + slot_size (get_or ss column Varlen)
 
 -- z is r with the bytes of those slots zero, and every other byte as it was
 pub record ZeroedSlots (w : ℕ) (ss : List Shape) (r z : List ℕ) : Type 0 where

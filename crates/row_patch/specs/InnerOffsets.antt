@@ -6,7 +6,8 @@ use Rattle.row_format.specs.Edit.{OffsetTable, moved_by}
 
 -- the offsets from rank j on moved, in a row r with a table of v offsets at byte t
 abbrev pub moved_from : ℕ → ℕ → ℕ → ℕ → ℕ → ℕ → List ℕ → List ℕ
-moved_from w t v j e f r = sets r (t + j * w) (to_table w (map (moved_by e f) (from_table w (v - j) (drop (t + j * w) r))))
+moved_from w t v j e f r =
+    sets r (t + j * w) (to_table w (map (moved_by e f) (from_table w (v - j) (drop (t + j * w) r))))
 
 -- the whole table, where rank k has the offset x now
 abbrev pub table_edit : OffsetTable → ℕ → ℕ → ℕ → ℕ → List ℕ → List ℕ

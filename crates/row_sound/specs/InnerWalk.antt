@@ -22,7 +22,8 @@ walked_sound l p b t r =
 -- the columns of types ts that come after those of layout b
 abbrev pub walked_columns : RowLayout → Bool → List ℕ → RowLayout → List DataType → Bool
 walked_columns l p r b [] = true
-walked_columns l p r b (t ∷ ts) = cond (walked_sound l p b t r) (walked_columns l p r (with_column b (shape_of t)) ts) false
+walked_columns l p r b (t ∷ ts) =
+    cond (walked_sound l p b t r) (walked_columns l p r (with_column b (shape_of t)) ts) false
 
 -- the first payload
 abbrev pub walked_first : RowLayout → List ℕ → ℕ

@@ -53,7 +53,8 @@ first_payload w table v r = first_offset (from_table w v (drop table r)) (length
 abbrev pub is_sound_in : ℕ → Bool → List DataType → List ℕ → Bool
 is_sound_in w p ts r =
     cond (sound_from w p ts r 0 (length ts))
-    (eqb (first_payload w (table_start (length ts)) (varlens (map shape_of ts)) r) (minimum w p (map shape_of ts))) false
+    (eqb (first_payload w (table_start (length ts)) (varlens (map shape_of ts)) r) (minimum w p (map shape_of ts)))
+    false
 
 -- what a call that edits is told: sound, and the row's own flag
 abbrev pub sound_in : ℕ → Bool → List DataType → List ℕ → Soundness

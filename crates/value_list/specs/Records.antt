@@ -46,7 +46,8 @@ number_at w s at = from_le (take w (drop at s))
 
 -- "16 bytes two's complement, scale byte"
 abbrev pub numeric_at : List ℕ → ℕ → NumericValue
-numeric_at s at = record { high = to_z w64 (number_at 8 s (at + 8)); low = number_at 8 s at; scale = get_or s (at + 16) 0 }
+numeric_at s at =
+    record { high = to_z w64 (number_at 8 s (at + 8)); low = number_at 8 s at; scale = get_or s (at + 16) 0 }
 
 -- "start, length in the text area, two bytes each", or four: w bytes each
 abbrev pub range_at : ℕ → List ℕ → ℕ → TextRange
