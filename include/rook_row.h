@@ -15,7 +15,7 @@
  *    4  row above the limit of its sort                                            0
  *    5  the row's column count is not the schema's                                 0
  *    6  the row's Varchar count is not the schema's                                0
- *    7  a wanted Varchar's range starts past its end, or ends past the row         the column
+ *    7  a wanted Varchar's range leaves the row                                    the column
  *    8  a wanted column's bytes are no value of its type                           the column
  *    9  no such column                                                             0
  *   10  a value record of unknown kind, or cut off                                 its first byte in the list
@@ -175,7 +175,7 @@ static inline const char *rook_number_text(uint32_t number) {
                                         "the row is above the limit of its sort",
                                         "the row has another number of columns than the schema",
                                         "the row has another number of Varchars than the schema",
-                                        "a Varchar's range starts past its end, or ends past the row",
+                                        "a Varchar's range leaves the row",
                                         "a column's bytes are no value of its type",
                                         "no such column",
                                         "the value list is not what is due",
