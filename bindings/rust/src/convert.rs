@@ -58,24 +58,6 @@ macro_rules! text_type {
     };
 }
 
-/// The Rust type that columns of a type are read as.
-pub(crate) fn type_for(data_type: DataType) -> &'static str {
-    match data_type {
-        DataType::SmallInt => i16::rust_name(),
-        DataType::Int => i32::rust_name(),
-        DataType::BigInt => i64::rust_name(),
-        DataType::Real => f32::rust_name(),
-        DataType::DoublePrecision => f64::rust_name(),
-        DataType::Numeric { .. } | DataType::Decimal { .. } => Numeric::rust_name(),
-        DataType::Bool => bool::rust_name(),
-        text_type!() => <&str>::rust_name(),
-        DataType::Date => Date::rust_name(),
-        DataType::Time => Time::rust_name(),
-        DataType::Bit(_) => Bits::rust_name(),
-        DataType::Timestamp => Timestamp::rust_name(),
-    }
-}
-
 /// What a column can be set to: `set(.., 4i16)`, `set(.., "7")`, `set(.., None::<i64>)`, or a [`Value`].
 pub trait IntoValue<'v> {
     /// The value; `None` sets the column to null.

@@ -63,7 +63,7 @@ impl Reader {
     /// let schema = Schema::new([("unit", DataType::Varchar(16)), ("cars", DataType::SmallInt)])?;
     /// let reader = Reader::new(&schema, &["cars", "unit"])?;
     /// let refused = reader.clone().typed::<(Option<i64>, &str)>().unwrap_err();
-    /// let message = "column 1 (cars): SMALLINT is not read as i64, but as i16 (11)";
+    /// let message = "column 1 (cars): SMALLINT is not read as i64 (11)";
     /// assert_eq!(refused.to_string(), message);
     /// assert!(reader.typed::<(Option<i16>, &str)>().is_ok());
     /// # Ok::<(), rook_row::Error>(())

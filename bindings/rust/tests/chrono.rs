@@ -92,7 +92,7 @@ fn the_type_before_the_null() {
     let told = |error: rook_row::Error| error.to_string();
     assert_eq!(
         row.get::<Option<NaiveTime>>(&schema, "day").map_err(told),
-        Err("column 0 (day): DATE is not read as chrono::NaiveTime, but as Date (11)".into())
+        Err("column 0 (day): DATE is not read as chrono::NaiveTime (11)".into())
     );
     assert_eq!(
         row.get::<NaiveDate>(&schema, "day").map_err(told),

@@ -203,7 +203,7 @@ fn rows_that_are_refused() {
         &at(5, 27),
         7,
         0,
-        "column 0 (platform): its text starts past its end, or ends past the row",
+        "column 0 (platform): its text leaves the row",
     );
     refused(
         &at(26, 0xFF),

@@ -130,7 +130,7 @@ fn rows_of_another_shape() {
 #[test]
 fn columns_that_cannot_be_read() {
     let bad = with(5, 16);
-    let leaves = "column 1 (unit): its text starts past its end, or ends past the row";
+    let leaves = "column 1 (unit): its text leaves the row";
     told(bad.read(&s()), 7, 1, leaves);
     told(bad.get::<&str>(&s(), "unit"), 7, 1, leaves);
     told(bad.text(&s(), "unit"), 7, 1, leaves);
@@ -153,7 +153,7 @@ fn ranges_that_go_backwards() {
     // Header and bitmap have five bytes; the two offsets come after them.
     assert_eq!(bytes[5..9], [9, 0, 11, 0]);
     bytes[5..9].copy_from_slice(&[11, 0, 9, 0]);
-    let message = "column 0: its text starts past its end, or ends past the row";
+    let message = "column 0: its text leaves the row";
     told(RowRef::new(&bytes).read(&schema), 7, 0, message);
     assert_eq!(RowRef::new(&bytes).get::<&str>(&schema, 1), Ok("ABCD"));
 }
@@ -262,13 +262,13 @@ fn columns_read_as_another_type() {
         row.get::<i32>(&s(), "unit"),
         11,
         1,
-        "column 1 (unit): VARCHAR(5) is not read as i32, but as &str",
+        "column 1 (unit): VARCHAR(5) is not read as i32",
     );
     told(
         row.get::<&str>(&s(), "train"),
         11,
         0,
-        "column 0 (train): INT is not read as &str, but as i32",
+        "column 0 (train): INT is not read as &str",
     );
     let message = "column 2 (cars): it is null, which i16 has not, but Option<i16>";
     told(row.get::<i16>(&s(), "cars"), 11, 2, message);
@@ -279,7 +279,7 @@ fn columns_read_as_another_type() {
         columns.get::<bool>("unit"),
         11,
         1,
-        "column 1 (unit): VARCHAR(5) is not read as bool, but as &str",
+        "column 1 (unit): VARCHAR(5) is not read as bool",
     );
     told(
         columns.get::<i32>("train"),

@@ -1,6 +1,5 @@
 //! Refusals in plain words.
 use super::{ColumnLabel, Error, Misfit, RowListFault, SchemaFault};
-use crate::convert::type_for;
 use crate::{DataType, Date, RowList, Time, Timestamp};
 use core::fmt;
 
@@ -105,7 +104,7 @@ impl Error {
                 write!(f, "the row has {row} Varchars, the schema {schema}")
             }
             Error::BadRange { column } => {
-                write!(f, "{column}: its text starts past its end, or ends past the row")
+                write!(f, "{column}: its text leaves the row")
             }
             Error::NoValue { column, data_type } => {
                 write!(f, "{column}: its bytes are no {data_type}")
@@ -195,11 +194,7 @@ impl Error {
                 wanted,
                 ..
             } => {
-                let fits = type_for(*data_type);
-                write!(
-                    f,
-                    "{column}: {data_type} is not read as {wanted}, but as {fits}"
-                )
+                write!(f, "{column}: {data_type} is not read as {wanted}")
             }
             other => write!(f, "refused at {}", other.place()),
         }
