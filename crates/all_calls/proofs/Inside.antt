@@ -1,4 +1,6 @@
 -- The ranges that a read names lie in the row.
+use Rattle.error.specs.Result.{Result}
+use Rattle.std.specs.Prelude.{Err, Ok}
 use Prim.Native.Nat.{ℕ, zero, suc, ◌+◌, ◌≤◌, ◌<◌}
 use mathlib.Core.Path.{◌≡◌, refl, sym, subst}
 use mathlib.Core.Bool.{Bool, true, false}
@@ -7,9 +9,9 @@ use native.Mathlib.Omega.{arith}
 use lib.ListN.{length, get_or}
 use Rattle.laws.proofs.Bytes.{AllBytes}
 use Rattle.error.specs.declared.Refusal.{Refusal}
-use Rattle.error.specs.declared.Answer.TheVariants.{Done}
+
 use Rattle.error.specs.Answer.{Counted, unchanged_both}
-use Rattle.error.specs.Result.{ok, refused}
+
 use Rattle.row_format.specs.Places.{varlens, minimum, offset_width}
 use Rattle.row_format.specs.Header.{is_long}
 use Rattle.row_format.proofs.Sorts.{limit_le}
@@ -21,9 +23,7 @@ use Rattle.value.specs.declared.DataValue.TheVariants.{Null}
 use Rattle.value.specs.Ranges.{range_of}
 use Rattle.value_list.specs.Lists.{Values, list_of}
 use Rattle.stored_form.specs.Points.{points_in}
-use Rattle.row_column.specs.declared.Frame.TheVariants.{Good}
-use Rattle.row_column.specs.declared.ColumnRead.{ColumnRead}
-use Rattle.row_column.specs.declared.ColumnRead.TheVariants as Column
+
 use Rattle.row_column.specs.Frame.{frame_of}
 use Rattle.row_column.specs.Column.{column_value}
 use Rattle.row_column.proofs.Framing.{fine}
@@ -41,32 +41,32 @@ module _ (schema r : List ℕ) (octets : AllBytes r) where
   abbrev Inside : DataValue → Type 0
   Inside v = (range_of v).start + (range_of v).length ≤ length r
 
-  abbrev IfInside : ColumnRead → Type 0
-  IfInside (Column.Value v) = Inside v
-  IfInside (Column.Refused e) = Unit {0}
+  abbrev IfInside : Result DataValue → Type 0
+  IfInside (Ok v) = Inside v
+  IfInside (Err e) = Unit {0}
 
   abbrev AllInside : Values → Type 0
-  AllInside (ok vs) = (j : ℕ) → j < length vs → Inside (get_or vs j Null)
-  AllInside (refused e) = Unit {0}
+  AllInside (Ok vs) = (j : ℕ) → j < length vs → Inside (get_or vs j Null)
+  AllInside (Err e) = Unit {0}
 
   with_first : (v : DataValue) (vs : List DataValue) → Inside v → ((j : ℕ) → j < length vs → Inside (get_or vs j Null))
       → (j : ℕ) → j < suc (length vs) → Inside (get_or (v ∷ vs) j Null)
   with_first v vs h rest zero l = h
   with_first v vs h rest (suc j) l = rest j (omega arith)
 
-  on_inside : (c : ColumnRead) (q : Values) → IfInside c → AllInside q → AllInside (on_column c q)
-  on_inside (Column.Value v) (ok vs) h rest = with_first v vs h rest
-  on_inside (Column.Value v) (refused e) h rest = tt
-  on_inside (Column.Refused e) q h rest = tt
+  on_inside : (c : Result DataValue) (q : Values) → IfInside c → AllInside q → AllInside (on_column c q)
+  on_inside (Ok v) (Ok vs) h rest = with_first v vs h rest
+  on_inside (Ok v) (Err e) h rest = tt
+  on_inside (Err e) q h rest = tt
 
-  wanted-inside : (b : Bool) (c : ColumnRead) → IfInside c → IfInside (wanted_value b c)
+  wanted-inside : (b : Bool) (c : Result DataValue) → IfInside c → IfInside (wanted_value b c)
   wanted-inside true c h = h
   wanted-inside false c h = omega arith
 
-  module _ (ts : List DataType) (good : schema_of k schema ≡ ok ts) (p : Bool) (frame : frame_of k ts r ≡ Good p) where
-    column-inside : (i : ℕ) → i < length ts → (c : ColumnRead) → column_value (offset_width k) p ts i r ≡ c → IfInside c
-    column-inside i h (Column.Refused e) q = tt
-    column-inside i h (Column.Value v) q =
+  module _ (ts : List DataType) (good : schema_of k schema ≡ Ok ts) (p : Bool) (frame : frame_of k ts r ≡ Ok p) where
+    column-inside : (i : ℕ) → i < length ts → (c : Result DataValue) → column_value (offset_width k) p ts i r ≡ c → IfInside c
+    column-inside i h (Err e) q = tt
+    column-inside i h (Ok v) q =
         let f = fine k (length ts) (varlens (map shape_of ts)) (λ x. minimum (offset_width k) x (map shape_of ts)) r frame in
         (column-read (offset_width k) p ts r octets (omega (arith, f.short, limit_le k)) f.long i h
         (column-digits k schema good i h) (column-scale k schema good i h) q).placed.inside
@@ -82,14 +82,14 @@ module _ (schema r : List ℕ) (octets : AllBytes r) where
   -- ---- the call
 
   abbrev IfDone : Counted → Type 0
-  IfDone o = (n : ℕ) (after numbers : List ℕ) → o ≡ (Done n, (after, numbers)) → ValuesInside r n after
+  IfDone o = (n : ℕ) (after numbers : List ℕ) → o ≡ (Ok n, (after, numbers)) → ValuesInside r n after
 
   none_done : (out counts : List ℕ) (e : Refusal) → IfDone (unchanged_both out counts e)
   none_done out counts e n after numbers h = absurd (subst IsDone (sym h) tt)
 
   handed-inside : (out counts : List ℕ) (u : Values) → AllInside u → IfDone (hand_out k out counts r u)
-  handed-inside out counts (refused e) h = none_done out counts e
-  handed-inside out counts (ok vs) h = λ n after numbers q.
+  handed-inside out counts (Err e) h = none_done out counts e
+  handed-inside out counts (Ok vs) h = λ n after numbers q.
       record { values = vs; list = (placed_both_done out counts (list_of k vs) (map (points_in r) vs) q).bytes.part; inside = h }
 
 pub read-inside : (schema r wanted out counts : List ℕ) → ReadInside schema r wanted out counts

@@ -1,4 +1,7 @@
 -- What every call leaves of the memory that it is lent: all of it after a refusal, and what is past its result.
+use Rattle.error.specs.Result.{Result}
+use Rattle.std.specs.Prelude.{Err, Ok}
+use Rattle.value.specs.declared.DataValue.{DataValue}
 use Prim.Native.Nat.{ℕ, zero, suc, ◌+◌}
 use mathlib.Core.Path.{◌≡◌, refl, sym, ap, ap₂, ◌∙◌, subst}
 use mathlib.Core.Bool.{Bool, ◌||◌}
@@ -11,10 +14,9 @@ use lib.Seq.{sets, length-sets, drop-set-lt}
 use Rattle.laws.proofs.Truths.{by_cond}
 use Rattle.error.specs.declared.Refusal.{Refusal}
 use Rattle.error.specs.declared.Refusal.TheVariants.{RowLimit, NoRoom}
-use Rattle.error.specs.declared.Answer.{Answer}
-use Rattle.error.specs.declared.Answer.TheVariants.{Done, Refused}
+
 use Rattle.error.specs.Answer.{Outcome, unchanged, placed, Counted, unchanged_both, placed_both}
-use Rattle.error.specs.Result.{ok, refused}
+
 use Rattle.row_format.specs.Places.{offset_width, row_limit}
 use Rattle.row_format.specs.Header.{is_long, sort_in}
 use Rattle.row_format.specs.Row.{packed_marks, built_row}
@@ -24,8 +26,7 @@ use Rattle.datatype.specs.Schema.{schema_of}
 use Rattle.datatype.specs.Check.{type_at, types_in}
 use Rattle.value_list.specs.Lists.{Values, checked, list_of}
 use Rattle.stored_form.specs.Points.{points_in}
-use Rattle.row_column.specs.declared.ColumnRead.{ColumnRead}
-use Rattle.row_column.specs.declared.ColumnRead.TheVariants as Column
+
 use Rattle.row_column.specs.Frame.{frame_of}
 use Rattle.row_decode.specs.Read.{is_wanted, wanted_value, on_column, read_from, hand_out, read_call}
 use Rattle.row_column.specs.Column.{column_value}
@@ -50,19 +51,19 @@ past_stores l i (x ∷ xs) n e = past_stores (set l i x) (suc i) xs n (omega ari
 -- ---- an outcome: what is kept of the output, and of the list of counts, of which `due` numbers are written
 
 record Kept (out counts : List ℕ) (due : ℕ) (o : Counted) : Type 0 where
-  unchanged_by : (e : Refusal) → o.0 ≡ Refused e → o.1 ≡ (out, counts)
+  unchanged_by : (e : Refusal) → o.0 ≡ Err e → o.1 ≡ (out, counts)
   long : length o.1.0 ≡ length out
-  past : (n : ℕ) → o.0 ≡ Done n → drop n o.1.0 ≡ drop n out
+  past : (n : ℕ) → o.0 ≡ Ok n → drop n o.1.0 ≡ drop n out
   many : length o.1.1 ≡ length counts
-  counts_past : (n : ℕ) → o.0 ≡ Done n → drop due o.1.1 ≡ drop due counts
+  counts_past : (n : ℕ) → o.0 ≡ Ok n → drop due o.1.1 ≡ drop due counts
 
-abbrev IsDone : Answer → Type 0
-IsDone (Done n) = Unit {0}
-IsDone (Refused e) = ⊥
+abbrev IsDone : Result ℕ → Type 0
+IsDone (Ok n) = Unit {0}
+IsDone (Err e) = ⊥
 
-abbrev size_in : Answer → ℕ
-size_in (Done n) = n
-size_in (Refused e) = 0
+abbrev size_in : Result ℕ → ℕ
+size_in (Ok n) = n
+size_in (Err e) = 0
 
 module _ (out counts : List ℕ) (due : ℕ) where
   kept-refused : (e : Refusal) → Kept out counts due (unchanged_both out counts e)
@@ -75,7 +76,7 @@ module _ (out counts : List ℕ) (due : ℕ) where
         counts_past = λ n h. absurd (subst IsDone (sym h) tt);
       }
 
-  kept-stored : (x ns : List ℕ) → length ns ≡ due → Kept out counts due (Done (length x), (sets out 0 x, sets counts 0 ns))
+  kept-stored : (x ns : List ℕ) → length ns ≡ due → Kept out counts due (Ok (length x), (sets out 0 x, sets counts 0 ns))
   kept-stored x ns e =
       record {
         unchanged_by = λ f h. absurd (subst IsDone h tt);
@@ -86,13 +87,13 @@ module _ (out counts : List ℕ) (due : ℕ) where
       }
 
   kept-done : (x ns : List ℕ) {n : ℕ} {after numbers : List ℕ} → length ns ≡ due → n ≡ length x → after ≡ sets out 0 x
-      → numbers ≡ sets counts 0 ns → Kept out counts due (Done n, (after, numbers))
+      → numbers ≡ sets counts 0 ns → Kept out counts due (Ok n, (after, numbers))
   kept-done x ns e f g h = rw (f, g, h) (kept-stored x ns e)
 
   kept-placed : (x ns : List ℕ) → length ns ≡ due → Kept out counts due (placed_both out counts x ns)
   kept-placed x ns e =
       by_cond (Kept out counts due) (ltb (length out) (length x) || ltb (length counts) (length ns))
-      (unchanged_both out counts NoRoom) (Done (length x), (sets out 0 x, sets counts 0 ns))
+      (unchanged_both out counts NoRoom) (Ok (length x), (sets out 0 x, sets counts 0 ns))
       (λ t. kept-refused NoRoom) (λ t. kept-stored x ns e)
 
 -- ---- calls with an output alone
@@ -104,12 +105,12 @@ module _ (out : List ℕ) where
   alone-refused : (e : Refusal) → KeptAlone (unchanged out e)
   alone-refused e = kept-refused out [] 0 e
 
-  alone-stored : (x : List ℕ) → KeptAlone (Done (length x), sets out 0 x)
+  alone-stored : (x : List ℕ) → KeptAlone (Ok (length x), sets out 0 x)
   alone-stored x = kept-stored out [] 0 x [] refl
 
   alone-placed : (x : List ℕ) → KeptAlone (placed out x)
   alone-placed x =
-      by_cond KeptAlone (ltb (length out) (length x)) (unchanged out NoRoom) (Done (length x), sets out 0 x)
+      by_cond KeptAlone (ltb (length out) (length x)) (unchanged out NoRoom) (Ok (length x), sets out 0 x)
       (λ t. alone-refused NoRoom) (λ t. alone-stored x)
 
 fresh_kept : (sort : Bool) (schema out : List ℕ) → KeptAlone out (fresh_call sort schema out)
@@ -137,13 +138,13 @@ set-null-kept schema buf n i = opened-kept (sort_in buf n) schema buf n i (λ ts
 
 -- ---- calls with a list of counts
 
--- a build that is refused leaves both; one that is done is told by `built`
+-- a build that is Err leaves both; one that is done is told by `built`
 module _ (sort : Bool) (schema list area out counts : List ℕ) where
   abbrev call : Counted
   call = build_call sort schema list area out counts
 
   abbrev LeavesBoth : Counted → Type 0
-  LeavesBoth o = (e : Refusal) (after : List ℕ × List ℕ) → o ≡ (Refused e, after) → after ≡ (out, counts)
+  LeavesBoth o = (e : Refusal) (after : List ℕ × List ℕ) → o ≡ (Err e, after) → after ≡ (out, counts)
 
   leaves-refused : (e : Refusal) → LeavesBoth (unchanged_both out counts e)
   leaves-refused e x after h = sym (ap (λ (o : Counted). o.1) h)
@@ -151,7 +152,7 @@ module _ (sort : Bool) (schema list area out counts : List ℕ) where
   leaves-placed : (x ns : List ℕ) → LeavesBoth (placed_both out counts x ns)
   leaves-placed x ns =
       by_cond LeavesBoth (ltb (length out) (length x) || ltb (length counts) (length ns))
-      (unchanged_both out counts NoRoom) (Done (length x), (sets out 0 x, sets counts 0 ns))
+      (unchanged_both out counts NoRoom) (Ok (length x), (sets out 0 x, sets counts 0 ns))
       (λ t. leaves-refused NoRoom) (λ t e after h. absurd (subst (λ (o : Counted). IsDone o.0) h tt))
 
   leaves-both : LeavesBoth call
@@ -168,10 +169,10 @@ module _ (sort : Bool) (schema list area out counts : List ℕ) where
   build-kept = of_outcome_lem call refl
     where
       of_outcome_lem : (o : Counted) → call ≡ o → Kept out counts (length (types_in schema)) o
-      of_outcome_lem (Refused e, after) h =
-          subst (λ (x : List ℕ × List ℕ). Kept out counts (length (types_in schema)) (Refused e, x)) (sym (leaves-both e after h))
+      of_outcome_lem (Err e, after) h =
+          subst (λ (x : List ℕ × List ℕ). Kept out counts (length (types_in schema)) (Err e, x)) (sym (leaves-both e after h))
           (kept-refused out counts (length (types_in schema)) e)
-      of_outcome_lem (Done n, (after, numbers)) h =
+      of_outcome_lem (Ok n, (after, numbers)) h =
           let d = built sort schema list area out counts n after numbers h in
           let b = d.built in
           let r : List ℕ = built_row (offset_width sort) (packed_marks sort) (map shape_of b.columns) b.cells in
@@ -181,13 +182,13 @@ module _ (sort : Bool) (schema list area out counts : List ℕ) where
 
 -- a read gives a value for each column
 abbrev Counts : ℕ → Values → Type 0
-Counts n (ok vs) = length vs ≡ n
-Counts n (refused e) = Unit {0}
+Counts n (Ok vs) = length vs ≡ n
+Counts n (Err e) = Unit {0}
 
-on_counts : (n : ℕ) (c : ColumnRead) (q : Values) → Counts n q → Counts (suc n) (on_column c q)
-on_counts n (Column.Value v) (ok vs) h = ap suc h
-on_counts n (Column.Value v) (refused e) h = tt
-on_counts n (Column.Refused e) q h = tt
+on_counts : (n : ℕ) (c : Result DataValue) (q : Values) → Counts n q → Counts (suc n) (on_column c q)
+on_counts n (Ok v) (Ok vs) h = ap suc h
+on_counts n (Ok v) (Err e) h = tt
+on_counts n (Err e) q h = tt
 
 reads-count : (w : ℕ) (p : Bool) (ts : List DataType) (wanted : ℕ → Bool) (r : List ℕ) (n i : ℕ)
     → Counts n (read_from w p ts wanted r i n)
@@ -197,9 +198,9 @@ reads-count w p ts wanted r (suc n) i =
 
 handed-kept : (k : Bool) (r out counts : List ℕ) (due : ℕ) (u : Values) → Counts due u
     → Kept out counts due (hand_out k out counts r u)
-handed-kept k r out counts due (ok vs) h =
+handed-kept k r out counts due (Ok vs) h =
     kept-placed out counts due (list_of k vs) (map (points_in r) vs) (length-map vs (points_in r) ∙ h)
-handed-kept k r out counts due (refused e) h = kept-refused out counts due e
+handed-kept k r out counts due (Err e) h = kept-refused out counts due e
 
 read_kept : (schema r wanted out counts : List ℕ)
     → Kept out counts (length (types_in schema)) (read_call schema r wanted out counts)
@@ -214,9 +215,9 @@ read_kept schema r wanted out counts =
 -- ---- every call
 
 -- a handle is as it was after a refusal
-handle-same : (l : HandleLayout) (h : RowHandle) (a : Answer) (e : Refusal) → a ≡ Refused e → handle_after l h a ≡ h
-handle-same l h (Refused x) e q = refl
-handle-same l h (Done n) e q = absurd (subst IsDone q tt)
+handle-same : (l : HandleLayout) (h : RowHandle) (a : Result ℕ) (e : Refusal) → a ≡ Err e → handle_after l h a ≡ h
+handle-same l h (Err x) e q = refl
+handle-same l h (Ok n) e q = absurd (subst IsDone q tt)
 
 pub refusal_changes_nothing : (c : Call) → RefusalChangesNothing c
 refusal_changes_nothing (Lent.fresh sort schema out) e h =

@@ -1,9 +1,9 @@
 -- FORMAT 4.4, 4.6. 02, request 5: "Value kinds 17, 18 and 19 are Char, Varchar and Bit with start and length of four
 -- bytes each [..]; they match as 8, 9 and 12 do, for either sort."
-use Rattle.std.specs.Prelude.{ℕ, Bool, List, ◌≡◌, length}
+use Rattle.std.specs.Prelude.{ℕ, Bool, List, ◌≡◌, length, Ok}
 use Rattle.error.specs.declared.Refusal.TheVariants.{BadValueList}
 use Rattle.error.specs.Answer.{unchanged_both}
-use Rattle.error.specs.Result.{ok}
+
 use Rattle.datatype.specs.declared.DataType.{DataType}
 use Rattle.datatype.specs.Schema.{schema_of}
 use Rattle.value.specs.declared.DataValue.{DataValue}
@@ -16,9 +16,9 @@ use Rattle.row_edit.specs.Edit.{set_call}
 pub record EitherForm {vs : List DataValue} {list list' : List ℕ} (l : ListOf vs list) (l' : ListOf vs list')
     : Type 0 where
   pub build : (sort : Bool) (schema area out counts : List ℕ)
-      → ((ts : List DataType) → schema_of sort schema ≡ ok ts → length vs ≡ length ts)
+      → ((ts : List DataType) → schema_of sort schema ≡ Ok ts → length vs ≡ length ts)
       → build_call sort schema list area out counts ≡ build_call sort schema list' area out counts
-  pub miscounted : (sort : Bool) (schema area out counts : List ℕ) (ts : List DataType) → schema_of sort schema ≡ ok ts
+  pub miscounted : (sort : Bool) (schema area out counts : List ℕ) (ts : List DataType) → schema_of sort schema ≡ Ok ts
       → (length vs ≡ length ts → ⊥)
       → build_call sort schema list area out counts ≡ unchanged_both out counts (BadValueList (length list))
   pub set : (schema buf : List ℕ) (n i : ℕ) (area : List ℕ) → length vs ≡ 1

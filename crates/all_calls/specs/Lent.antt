@@ -1,10 +1,10 @@
 -- FORMAT 6. 01, "What each call hands back", of every exported call that is lent memory to write: "A refusal changes no
 -- lent byte. An output's bytes past the result are as before." The other calls get shared slices alone.
-use Rattle.std.specs.Prelude.{ℕ, Bool, List, [], ◌≡◌, length, drop}
+use Rattle.error.specs.Result.{Result}
+use Rattle.std.specs.Prelude.{ℕ, Bool, List, [], ◌≡◌, length, drop, Err, Ok}
 use Rattle.std.proofs.Math.Option.{Option, none, some}
 use Rattle.error.specs.declared.Refusal.{Refusal}
-use Rattle.error.specs.declared.Answer.{Answer}
-use Rattle.error.specs.declared.Answer.TheVariants.{Done, Refused}
+
 use Rattle.error.specs.Answer.{Outcome, Counted}
 use Rattle.datatype.specs.Check.{types_in}
 use Rattle.row_decode.specs.Read.{read_call}
@@ -52,7 +52,7 @@ lent_to (print list out) = bytes_alone out
 
 -- what it answers, and what it leaves there
 abbrev pub Left : Type 0
-Left = Answer × Lent
+Left = Result ℕ × Lent
 
 abbrev pub of_outcome : Outcome → Left
 of_outcome o = (o.0, bytes_alone o.1)
@@ -86,7 +86,7 @@ counts_due (print list out) = 0
 
 -- "A refusal changes no lent byte."
 abbrev pub RefusalChangesNothing : (c : Call) → Type 0
-RefusalChangesNothing c = (e : Refusal) → (left_by c).0 ≡ Refused e → (left_by c).1 ≡ lent_to c
+RefusalChangesNothing c = (e : Refusal) → (left_by c).0 ≡ Err e → (left_by c).1 ≡ lent_to c
 
 -- "An output's bytes past the result are as before", and the numbers past those that are due
 pub record PastKept (c : Call) (n : ℕ) : Type 0 where
@@ -96,4 +96,4 @@ pub record PastKept (c : Call) (n : ℕ) : Type 0 where
   pub counts_past : drop (counts_due c) (left_by c).1.counts ≡ drop (counts_due c) (lent_to c).counts
 
 abbrev pub PastResultKept : (c : Call) → Type 0
-PastResultKept c = (n : ℕ) → (left_by c).0 ≡ Done n → PastKept c n
+PastResultKept c = (n : ℕ) → (left_by c).0 ≡ Ok n → PastKept c n

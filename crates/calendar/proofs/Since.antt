@@ -1,4 +1,5 @@
 -- A Timestamp's microseconds counted from the year 1, and read from the 8 bytes of its stored form.
+use Rattle.std.specs.Prelude.{None, Some}
 use Prim.Native.Nat.{ℕ, suc, ◌+◌, ◌-◌, ◌^◌, ◌≤◌, ◌<◌}
 use mathlib.Core.Path.{◌≡◌, refl, sym, ap}
 use mathlib.Core.Bool.{Bool, true, false, cond, false≢true}
@@ -12,7 +13,6 @@ use mir.ValLaws.{to_z_pos}
 use borrow.Author.Tests.{ltb-true, ltb-false, leb-true, lt-ltb, le-ltb, le-leb, lt-leb}
 use Rattle.laws.proofs.Truths.{same_ltb}
 use Rattle.temporal.specs.Ranges.{is_timestamp}
-use Rattle.calendar.specs.declared.Moment.TheVariants.{Micros, OutOfRange}
 use Rattle.calendar.specs.Moment.{since_year_one}
 use Rattle.calendar.specs.InnerMoment.{moment_of}
 
@@ -48,11 +48,11 @@ since_inj (negsuc m) (negsuc n) h k e =
     ap negsuc (omega arith)
 
 -- a moment is within the years 1 to 9999
-in_range : (z : ℤ) (m : ℕ) (t : Bool) → is_timestamp z ≡ t → cond t (Micros (since_year_one z)) OutOfRange ≡ Micros m → m < 315537897600000000
+in_range : (z : ℤ) (m : ℕ) (t : Bool) → is_timestamp z ≡ t → cond t (Some (since_year_one z)) None ≡ Some m → m < 315537897600000000
 in_range z m true h e = let s : since_year_one z ≡ m = cc in omega (arith, since_lt z h)
 in_range z m false h e = let s : ◌≡◌ {A = ℕ} 0 1 = cc in absurd (omega arith)
 
-pub moment_lt : (z : ℤ) (m : ℕ) → moment_of z ≡ Micros m → m < 315537897600000000
+pub moment_lt : (z : ℤ) (m : ℕ) → moment_of z ≡ Some m → m < 315537897600000000
 moment_lt z m e = in_range z m (is_timestamp z) refl e
 
 -- ---- from its bits
@@ -60,10 +60,10 @@ moment_lt z m e = in_range z m (is_timestamp z) refl e
 high : (s : ℕ) → 2 ^ 63 ≤ s → to_z w64 s ≡ negsuc (2 ^ 64 - suc s)
 high s h = rw (le-ltb s (2 ^ 63) h)
 
-pub after_1970 : (s : ℕ) → s ≤ 253402300799999999 → Micros (s + 62135596800000000) ≡ moment_of (to_z w64 s)
+pub after_1970 : (s : ℕ) → s ≤ 253402300799999999 → Some (s + 62135596800000000) ≡ moment_of (to_z w64 s)
 after_1970 s h = rw (to_z_pos w64 s (omega arith), le-leb s 253402300799999999 h)
 
-pub out_of_range : (s : ℕ) → 253402300799999999 < s → s < 18384608476909551616 → (t : Bool) → ltb s (2 ^ 63) ≡ t → OutOfRange ≡ moment_of (to_z w64 s)
+pub out_of_range : (s : ℕ) → 253402300799999999 < s → s < 18384608476909551616 → (t : Bool) → ltb s (2 ^ 63) ≡ t → None ≡ moment_of (to_z w64 s)
 out_of_range s h l true e =
     rw (to_z_pos w64 s (ltb-true s (2 ^ 63) e), lt-leb s 253402300799999999 h)
 out_of_range s h l false e =
@@ -71,8 +71,8 @@ out_of_range s h l false e =
     let b : 62135596799999999 < 2 ^ 64 - suc s = omega arith in
     rw (high s k, lt-ltb 62135596799999999 (2 ^ 64 - suc s) b)
 
-pub before_1970 : (s : ℕ) → 18384608476909551616 ≤ s → s < 2 ^ 64 → Micros (s - 18384608476909551616) ≡ moment_of (to_z w64 s)
+pub before_1970 : (s : ℕ) → 18384608476909551616 ≤ s → s < 2 ^ 64 → Some (s - 18384608476909551616) ≡ moment_of (to_z w64 s)
 before_1970 s h l =
     let k : 2 ^ 63 ≤ s = omega arith in
     let b : 2 ^ 64 - suc s ≤ 62135596799999999 = omega arith in
-    rw (high s k, le-ltb 62135596799999999 (2 ^ 64 - suc s) b) (ap Micros (omega arith))
+    rw (high s k, le-ltb 62135596799999999 (2 ^ 64 - suc s) b) (ap Some (omega arith))

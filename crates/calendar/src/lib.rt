@@ -10,24 +10,17 @@ ghost use Rattle.calendar.specs.InnerDays.{march_days, FromMarch};
 ghost use Rattle.calendar.specs.Moment.{ascii_digits, date_text, time_text, moment_text};
 ghost use Rattle.calendar.specs.InnerMoment.{moment_of};
 
-// Microseconds since 0001-01-01 00:00:00.
-#[derive(Clone, Copy)]
-pub enum Moment {
-    Micros(u64),
-    OutOfRange,
-}
-
 // Of the 8 bytes of a Timestamp: 2^64 - 62,135,596,800,000,000 stands for the first microsecond of the year 1.
-pub fn moment_of(stored: u64) -> Moment
+pub fn moment_of(stored: u64) -> Option<u64>
     ensures { result ≡ moment_of (to_z w64 stored) }
 {
     if stored <= 253_402_300_799_999_999 {
-        return Moment::Micros(stored + 62_135_596_800_000_000);
+        return Some(stored + 62_135_596_800_000_000);
     }
     if stored < 18_384_608_476_909_551_616 {
-        return Moment::OutOfRange;
+        return None;
     }
-    Moment::Micros(stored - 18_384_608_476_909_551_616)
+    Some(stored - 18_384_608_476_909_551_616)
 }
 
 // In days; the last of four centuries is a day longer than the others.

@@ -1,4 +1,6 @@
 -- Which columns have a count: those of three kinds. What is read of the others is no text.
+use Rattle.error.specs.Result.{Result}
+use Rattle.std.specs.Prelude.{Err, None, Ok, Option, Some}
 use Prim.Native.Nat.{ℕ, ◌+◌, ◌-◌, ◌≤◌}
 use mathlib.Core.Path.{◌≡◌, refl, sym, ap, subst}
 use mathlib.Core.Bool.{Bool, true, false, cond}
@@ -20,21 +22,16 @@ use Rattle.row_layout.specs.declared.VarlenRange.TheVariants as Range
 use Rattle.row_layout.specs.Range.{varlen_range}
 use Rattle.datatype.specs.declared.DataType.{DataType}
 use Rattle.datatype.specs.declared.DataType.TheVariants as T
-use Rattle.datatype.specs.declared.Record.{Record}
 use Rattle.datatype.specs.Types.{is_varlen, size_of}
 use Rattle.datatype.specs.Schema.{Kind, unknown, plain, sized, digits, column_kind, good_digits, column_record_of, column_record_at}
 use Rattle.datatype.specs.InnerSteps.{plain_size, plain_type, type_in}
 use Rattle.value.specs.declared.DataValue.{DataValue}
 use Rattle.value.specs.declared.DataValue.TheVariants.{Null}
 use Rattle.value.specs.Kinds.{holds_text, is_text_value}
-use Rattle.stored_form.specs.declared.SlotRead.{SlotRead}
-use Rattle.stored_form.specs.declared.SlotRead.TheVariants as Slot
 use Rattle.stored_form.specs.Read.{read_slot, value_if}
 use Rattle.stored_form.specs.Points.{points_in}
 use Rattle.stored_form.proofs.Points.{Texts, slot-texts, no-points}
 use Rattle.slot_record.proofs.Numbers.{part_length}
-use Rattle.row_column.specs.declared.ColumnRead.{ColumnRead}
-use Rattle.row_column.specs.declared.ColumnRead.TheVariants as Read
 use Rattle.row_column.specs.Column.{slot_value, varlen_value, column_with}
 use Rattle.row_column.specs.InnerWalk.{walked_place, walked_column}
 use Rattle.column_decode.specs.InnerColumn.{stepped, no_points}
@@ -88,11 +85,11 @@ module _ (k : ℕ) where
   plain_no_text h = plain_in counted h
 
 -- a record of a column that holds no text
-data NoTextRecord : Record → Type 0 where
-  column : {t : DataType} {next : ℕ} → holds_text t ≡ false → NoTextRecord (Record.Column t next)
-  bad : {e : Refusal} → NoTextRecord (Record.Refused e)
+data NoTextRecord : Result (DataType × ℕ) → Type 0 where
+  column : {t : DataType} {next : ℕ} → holds_text t ≡ false → NoTextRecord (Ok (t, next))
+  bad : {e : Refusal} → NoTextRecord (Err e)
 
-record_if : (b : Bool) (x y : Record) → NoTextRecord x → NoTextRecord y → NoTextRecord (cond b x y)
+record_if : (b : Bool) (x y : Result (DataType × ℕ)) → NoTextRecord x → NoTextRecord y → NoTextRecord (cond b x y)
 record_if true x y p q = p
 record_if false x y p q = q
 
@@ -102,38 +99,38 @@ record_in s at k (plain-kind e) o = column e
 record_in s at k (pair_kind {t} e) o =
     let p = get_or s (at + 1) 0 in
     let z = get_or s (at + 2) 0 in
-    let x = Record.Column (t p z) (at + 3) in
-    let y = Record.Refused (BadSchema at) in
-    record_if (ltb (length s) (at + 3)) (Record.Refused (BadRecord at)) (cond (good_digits p z) x y) bad
+    let x = Ok ((t p z), (at + 3)) in
+    let y = Err (BadSchema at) in
+    record_if (ltb (length s) (at + 3)) (Err (BadRecord at)) (cond (good_digits p z) x y) bad
     (record_if (good_digits p z) x y (column {t = t p z} (e p z)) bad)
 record_in s at k (word-kind {t} e) o =
     let n = from_le (take 2 (drop (at + 1) s)) in
-    record_if (ltb (length s) (at + 3)) (Record.Refused (BadRecord at)) (Record.Column (t n) (at + 3)) bad
+    record_if (ltb (length s) (at + 3)) (Err (BadRecord at)) (Ok ((t n), (at + 3))) bad
     (column {t = t n} (e n))
 record_in s at k (text-kind e) o = absurd (e o)
 
-good_record : {x : Record} → NoTextRecord x → ((e : Refusal) → x ≡ Record.Refused e → ⊥) → holds_text (type_in x) ≡ false
+good_record : {x : Result (DataType × ℕ)} → NoTextRecord x → ((e : Refusal) → x ≡ Err e → ⊥) → holds_text (type_in x) ≡ false
 good_record (column h) good = h
 good_record (bad {e}) good = absurd (good e refl)
 
-pub other_no_text : (s : List ℕ) (at : ℕ) → Other (get_or s at 0) → ((e : Refusal) → column_record_at s at ≡ Record.Refused e → ⊥)
+pub other_no_text : (s : List ℕ) (at : ℕ) → Other (get_or s at 0) → ((e : Refusal) → column_record_at s at ≡ Err e → ⊥)
     → holds_text (type_in (column_record_at s at)) ≡ false
 other_no_text s at o good =
     good_record (record_in s at (get_or s at 0) (counted (get_or s at 0)) o) good
 
 -- ---- columns that hold no text
 
-data NoText : ColumnRead → Type 0 where
-  value : {v : DataValue} → is_text_value v ≡ false → NoText (Read.Value v)
-  refused : {e : Refusal} → NoText (Read.Refused e)
+data NoText : Result DataValue → Type 0 where
+  value : {v : DataValue} → is_text_value v ≡ false → NoText (Ok v)
+  refused : {e : Refusal} → NoText (Err e)
 
-none_if : (b : Bool) (x y : ColumnRead) → NoText x → NoText y → NoText (cond b x y)
+none_if : (b : Bool) (x y : Result DataValue) → NoText x → NoText y → NoText (cond b x y)
 none_if true x y p q = p
 none_if false x y p q = q
 
-slot-none : (i : ℕ) (x : SlotRead) → Texts false x → NoText (slot_value i x)
-slot-none i (Slot.Value v) h = value h
-slot-none i Slot.NoValue h = refused
+slot-none : (i : ℕ) (x : Option DataValue) → Texts false x → NoText (slot_value i x)
+slot-none i (Some v) h = value h
+slot-none i None h = refused
 
 module _ (t : DataType) (h : holds_text t ≡ false) where
   slot_no_text : (start : ℕ) (bs : List ℕ) → Texts false (read_slot t start bs)
@@ -150,7 +147,7 @@ module _ (t : DataType) (h : holds_text t ≡ false) where
       none_if (eqb (bit_at i (drop bitmap_start r)) 1) _ _ (value {v = Null} refl)
       (none_if (is_varlen t) _ _ (range_none i r q) (slot-none i (read_slot t at bs) (slot_no_text at bs)))
 
-uncounted : (k : Bool) (buf : List ℕ) (end : ℕ) (r : List ℕ) {c : ColumnRead} → NoText c
+uncounted : (k : Bool) (buf : List ℕ) (end : ℕ) (r : List ℕ) {c : Result DataValue} → NoText c
     → stepped k buf end no_points c ≡ stepped k buf end (points_in r) c
 uncounted k buf end r (value {v} h) = rw (no-points r v h)
 uncounted k buf end r refused = refl
@@ -163,9 +160,9 @@ column_uncounted k buf end l p b t r h = uncounted k buf end r
 
 -- ---- the count of a slot
 
-count_none : (r : List ℕ) (x : SlotRead) → Texts false x → CountOf (points_in r) 0 x
-count_none r (Slot.Value v) h = sym (no-points r v h)
-count_none r Slot.NoValue h = tt
+count_none : (r : List ℕ) (x : Option DataValue) → Texts false x → CountOf (points_in r) 0 x
+count_none r (Some v) h = sym (no-points r v h)
+count_none r None h = tt
 
 pub count-plain : (r : List ℕ) (k start : ℕ) (bs : List ℕ) → (plain_size (column_kind k) ≡ 0 → ⊥)
     → CountOf (points_in r) 0 (read_slot (plain_type (column_kind k)) start bs)

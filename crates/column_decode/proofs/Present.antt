@@ -1,4 +1,6 @@
 -- One column, by the kind of its record: what its bytes are, and what was written.
+use Rattle.error.specs.Result.{Result}
+use Rattle.std.specs.Prelude.{Err, None, Ok, Option, Some}
 use Prim.Native.Nat.{ℕ, ◌+◌, ◌-◌, ◌≤◌}
 use mathlib.Core.Path.{◌≡◌, refl, sym, ap, ◌∙◌, subst}
 use mathlib.Core.Bool.{Bool, false}
@@ -12,39 +14,34 @@ use Rattle.row_layout.specs.declared.RowLayout.{RowLayout}
 use Rattle.row_layout.specs.Layout.{size_in}
 use Rattle.datatype.specs.declared.DataType.{DataType}
 use Rattle.datatype.specs.declared.DataType.TheVariants.{Char, Character}
-use Rattle.datatype.specs.declared.Record.{Record}
 use Rattle.datatype.specs.Schema.{column_kind, column_record_at}
 use Rattle.datatype.specs.InnerSteps.{plain_size, plain_type, type_in}
 use Rattle.datatype.proofs.Plain.{Plain, plain_facts, plain_record}
-use Rattle.stored_form.specs.declared.SlotRead.{SlotRead}
-use Rattle.stored_form.specs.declared.SlotRead.TheVariants as Slot
 use Rattle.stored_form.specs.Read.{read_slot}
 use Rattle.value.specs.declared.DataValue.{DataValue}
 use Rattle.slot_record.specs.InnerRecord.{recorded}
 use Rattle.slot_record.proofs.Numbers.{part_length}
 use Rattle.row_column.specs.Column.{slot_value}
-use Rattle.row_column.specs.declared.ColumnRead.{ColumnRead}
-use Rattle.row_column.specs.declared.ColumnRead.TheVariants as Read
 use Rattle.row_column.specs.InnerWalk.{walked_column, Reachable, InRow}
 use Rattle.column_decode.specs.InnerColumn.{stepped}
 
 -- a slot's record is the column's, where n is its value's count
-abbrev pub CountOf : (DataValue → ℕ) → ℕ → SlotRead → Type 0
-CountOf f n (Slot.Value v) = n ≡ f v
-CountOf f n Slot.NoValue = Unit {0}
+abbrev pub CountOf : (DataValue → ℕ) → ℕ → Option DataValue → Type 0
+CountOf f n (Some v) = n ≡ f v
+CountOf f n None = Unit {0}
 
-pub slot-stepped : (k : Bool) (buf : List ℕ) (end i n : ℕ) (f : DataValue → ℕ) (x : SlotRead) → CountOf f n x
+pub slot-stepped : (k : Bool) (buf : List ℕ) (end i n : ℕ) (f : DataValue → ℕ) (x : Option DataValue) → CountOf f n x
     → recorded k buf end i n x ≡ stepped k buf end f (slot_value i x)
-slot-stepped k buf end i n f (Slot.Value v) e = rw e
-slot-stepped k buf end i n f Slot.NoValue e = refl
+slot-stepped k buf end i n f (Some v) e = rw e
+slot-stepped k buf end i n f None e = refl
 
 -- a text in a row is one in a longer row
-pub wider : (c : ColumnRead) (n m : ℕ) → n ≤ m → InRow n c → InRow m c
-wider (Read.Value v) n m h i = omega (arith, i)
-wider (Read.Refused e) n m h i = tt
+pub wider : (c : Result DataValue) (n m : ℕ) → n ≤ m → InRow n c → InRow m c
+wider (Ok v) n m h i = omega (arith, i)
+wider (Err e) n m h i = tt
 
 -- the type of a record that was read
-pub type_read : {x y : Record} {t u : DataType} {next : ℕ} → x ≡ y → x ≡ Record.Column t next → type_in y ≡ u → t ≡ u
+pub type_read : {x y : Result (DataType × ℕ)} {t u : DataType} {next : ℕ} → x ≡ y → x ≡ Ok (t, next) → type_in y ≡ u → t ≡ u
 type_read e f g = ap type_in (sym f ∙ e) ∙ g
 
 pub as_char : {l : RowLayout} {p : Bool} {b : RowLayout} {n : ℕ} {r : List ℕ} → Reachable l p b (Character n) r → Reachable l p b (Char n) r

@@ -12,22 +12,22 @@ ghost use Rattle.row_column.specs.InnerWalk.{walked_place, walked_column, Reacha
 ghost use Rattle.stored_form.specs.Points.{points_in};
 ghost use Rattle.column_decode.specs.InnerColumn.{stepped, no_points, DecodeAt};
 
-use datatype::{Record, schema_kinds};
+use datatype::schema_kinds;
 use error::Refusal;
-use row_column::ColumnRead;
 use row_layout::{RowLayout, VarlenRange};
-use slot_record::Recorded;
+use value::DataValue;
 
-fn write_column(buf: &mut [u8], end: usize, is_long: bool, column: ColumnRead) -> Recorded
+fn write_column(
+    buf: &mut [u8],
+    end: usize,
+    is_long: bool,
+    column: error::Result<DataValue>,
+) -> error::Result<(usize, u32)>
     requires { (end + 18 ≤ length buf.old) × InRow (row_limit is_long) column }
     ensures { (result, buf.new) ≡ stepped is_long buf.old end no_points column }
 {
-    match column {
-        ColumnRead::Value(v) => {
-            Recorded::Done(record_encode::write_value_record(buf, end, is_long, v), 0)
-        }
-        ColumnRead::Refused(e) => Recorded::Refused(e),
-    }
+    let v = column?;
+    Ok((record_encode::write_value_record(buf, end, is_long, v), 0))
 }
 
 // A Varchar of this rank, whose n counts bytes or code points.
@@ -42,7 +42,7 @@ fn decode_varchar(
     rank: usize,
     buf: &mut [u8],
     end: usize,
-) -> Recorded
+) -> error::Result<(usize, u32)>
     requires { ((rank < varlens) × (table + varlens * offset_width is_long ≤ length row.now))
         × ((length row.now ≤ row_limit is_long) × (end + 18 ≤ length buf.old)) }
     ensures { (result, buf.new)
@@ -51,11 +51,11 @@ fn decode_varchar(
         (varlen_range (offset_width is_long) table varlens rank row.now)) }
 {
     match row_layout::varlen_range(row, is_long, table, varlens, rank) {
-        VarlenRange::Null => Recorded::Done(record_encode::write_null(buf, end), 0),
+        VarlenRange::Null => Ok((record_encode::write_null(buf, end), 0)),
         VarlenRange::Bytes(start, stop) => {
             slot_record::varchar_record(by_points, n, i, row, is_long, start, stop, buf, end)
         }
-        VarlenRange::Outside => Recorded::Refused(Refusal::BadRange(i)),
+        VarlenRange::Outside => Err(Refusal::BadRange(i)),
     }
 }
 
@@ -68,7 +68,7 @@ fn decode_char(
     row: &[u8],
     buf: &mut [u8],
     end: usize,
-) -> Recorded
+) -> error::Result<(usize, u32)>
     requires { Reachable layout packed before (CharType n) row.now
         × ((length row.now ≤ row_limit layout.is_long) × (end + 18 ≤ length buf.old)) }
     ensures { (result, buf.new)
@@ -91,20 +91,16 @@ fn decode_value(
     row: &[u8],
     buf: &mut [u8],
     end: usize,
-) -> Recorded
+) -> error::Result<(usize, u32)>
     requires { DecodeAt schema.now at layout packed before row.now buf.old end }
     ensures { (result, buf.new)
         ≡ stepped layout.is_long buf.old end no_points
         (walked_column layout packed before (type_at (types_in schema.now) before.num_columns)
         row.now) }
 {
-    match datatype::record_at(schema, at) {
-        Record::Refused(e) => Recorded::Refused(e),
-        Record::Column(ty, _) => {
-            let column = row_column::read_column(layout, packed, before, ty, row);
-            write_column(buf, end, layout.is_long, column)
-        }
-    }
+    let (ty, _) = datatype::record_at(schema, at)?;
+    let column = row_column::read_column(layout, packed, before, ty, row);
+    write_column(buf, end, layout.is_long, column)
 }
 
 // A column of a kind with a body. Texts are common, so they are written without a value in between.
@@ -117,7 +113,7 @@ fn decode_body(
     row: &[u8],
     buf: &mut [u8],
     end: usize,
-) -> Recorded
+) -> error::Result<(usize, u32)>
     requires { DecodeAt schema.now at layout packed before row.now buf.old end
         × (eqb (bit_at before.num_columns (drop bitmap_start row.now)) 1 ≡ false) }
     ensures { (result, buf.new)
@@ -165,7 +161,7 @@ pub fn decode_present(
     row: &[u8],
     buf: &mut [u8],
     end: usize,
-) -> Recorded
+) -> error::Result<(usize, u32)>
     requires { DecodeAt schema.now at layout packed before row.now buf.old end
         × (eqb (bit_at before.num_columns (drop bitmap_start row.now)) 1 ≡ false) }
     ensures { (result, buf.new)

@@ -1,4 +1,6 @@
 -- A schema that was accepted, walked again: its columns by their numbers, and the layout of those before.
+use Rattle.error.specs.Result.{Result}
+use Rattle.std.specs.Prelude.{Err, Ok}
 use Prim.Native.Nat.{ℕ, suc, ◌+◌, ◌-◌, ◌≤◌, ◌<◌}
 use mathlib.Core.Path.{◌≡◌, refl, sym, ap, ◌∙◌, subst}
 use mathlib.Core.Bool.{Bool, true, false}
@@ -10,7 +12,6 @@ use lib.Dec.{ltb}
 use lib.ListN.{length, get_or, take, drop, length-drop, length-map}
 use lib.Seq.{drop-cons, length-take-le}
 use Rattle.error.specs.declared.Refusal.{Refusal}
-use Rattle.error.specs.Result.{ok}
 use Rattle.laws.proofs.Maps.{take-map, at_map}
 use Rattle.row_format.specs.declared.Shape.{Shape}
 use Rattle.row_format.specs.declared.Shape.TheVariants.{Fixed, Varlen}
@@ -23,8 +24,6 @@ use Rattle.row_layout.proofs.Columns.{layout-next}
 use Rattle.row_layout.specs.InnerLayout.{Bounded, no_columns, with_column}
 use Rattle.datatype.specs.declared.DataType.{DataType}
 use Rattle.datatype.specs.declared.DataType.TheVariants as T
-use Rattle.datatype.specs.declared.Record.{Record}
-use Rattle.datatype.specs.declared.Record.TheVariants.{Column, Refused}
 use Rattle.datatype.specs.declared.Step.{Step}
 use Rattle.datatype.specs.Types.{shape_of}
 use Rattle.datatype.specs.Schema.{column_records, column_record_at}
@@ -99,9 +98,9 @@ pub record Ahead (s : List ℕ) (b : RowLayout) (at : ℕ) : Type 0 where
   pub bounded : Bounded b
   pub within : b.num_columns ≤ length (types_in s)
   pub so_far : b ≡ layout_before (types_in s) b.num_columns
-  pub ahead : column_records (256 - b.num_columns) s at ≡ ok (drop b.num_columns (types_in s))
+  pub ahead : column_records (256 - b.num_columns) s at ≡ Ok (drop b.num_columns (types_in s))
 
-pub ahead-start : {s : List ℕ} → column_records 256 s 0 ≡ ok (types_in s) → Ahead s no_columns 0
+pub ahead-start : {s : List ℕ} → column_records 256 s 0 ≡ Ok (types_in s) → Ahead s no_columns 0
 ahead-start e = record { bounded = record { few = omega arith; ranked = omega arith; tight = omega arith; wide = omega arith }; within = omega arith; so_far = refl; ahead = e }
 
 module _ {s : List ℕ} {b : RowLayout} {at : ℕ} (w : Ahead s b at) where
@@ -115,10 +114,10 @@ module _ {s : List ℕ} {b : RowLayout} {at : ℕ} (w : Ahead s b at) where
     pub ahead-few : b.num_columns < 256
     ahead-few = omega (arith, some_left s at (256 - b.num_columns) w.ahead h)
 
-    pub ahead-good : {r : Refusal} → column_record_at s at ≡ Refused r → ⊥
+    pub ahead-good : {r : Refusal} → column_record_at s at ≡ Err r → ⊥
     ahead-good f = not_refused s at (256 - b.num_columns) w.ahead h f
 
-    module _ {t : DataType} {next : ℕ} (e : column_record_at s at ≡ Column t next) where
+    module _ {t : DataType} {next : ℕ} (e : column_record_at s at ≡ Ok (t, next)) where
       first : First (256 - (b.num_columns + 1)) s next t (drop b.num_columns (types_in s))
       first = first_left s at (256 - b.num_columns) w.ahead h (256 - (b.num_columns + 1)) (omega (arith, ahead-few)) e
 
@@ -144,14 +143,14 @@ module _ {s : List ℕ} {b : RowLayout} {at : ℕ} (w : Ahead s b at) where
       ahead-next = ap (λ (u : DataType). with_column b (shape_of u)) ahead_type ∙ ap (λ (k : RowLayout). with_column k (shape_of (type_at (types_in s) b.num_columns))) w.so_far ∙ sym (before-next (types_in s) b.num_columns ahead-inside)
 
       pub ahead_more : Bounded (with_column b (shape_of t)) → Ahead s (with_column b (shape_of t)) next
-      ahead_more small = record { bounded = small; within = omega (arith, ahead-inside); so_far = ahead-next; ahead = first.ahead ∙ ap ok tail_is }
+      ahead_more small = record { bounded = small; within = omega (arith, ahead-inside); so_far = ahead-next; ahead = first.ahead ∙ ap Ok tail_is }
 
 -- ---- a step of the walk
 
 pub record Next (s : List ℕ) (at : ℕ) : Type 0 where
   pub ty : DataType
   pub next : ℕ
-  pub is : column_record_at s at ≡ Column ty next
+  pub is : column_record_at s at ≡ Ok (ty, next)
 
 module _ {s : List ℕ} {b : RowLayout} {at : ℕ} (w : Ahead s b at) where
   -- a column that is there has a record
@@ -169,9 +168,9 @@ module _ {s : List ℕ} {b : RowLayout} {at : ℕ} (w : Ahead s b at) where
     pub ahead-column : Next s at
     ahead-column = of (column_record_at s at) refl
       where
-        of : (x : Record) → column_record_at s at ≡ x → Next s at
-        of (Column t n) e = record { ty = t; next = n; is = e }
-        of (Refused r) e = absurd (ahead-good w h e)
+        of : (x : Result (DataType × ℕ)) → column_record_at s at ≡ x → Next s at
+        of (Ok (t, n)) e = record { ty = t; next = n; is = e }
+        of (Err r) e = absurd (ahead-good w h e)
 
     pub ahead-typed : type_in (column_record_at s at) ≡ type_at (types_in s) b.num_columns
     ahead-typed = ap type_in ahead-column.is ∙ ahead_type w h ahead-column.is

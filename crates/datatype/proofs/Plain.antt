@@ -1,4 +1,6 @@
 -- Records by their kind, where no type is built: kinds that no body follows, and those that n follows in two bytes.
+use Rattle.error.specs.Result.{Result}
+use Rattle.std.specs.Prelude.{Err, Ok}
 use Prim.Native.Nat.{ℕ, ◌+◌, ◌/◌, ◌≤◌, ◌<◌}
 use mathlib.Core.Path.{◌≡◌, refl, ap, ◌∙◌}
 use mathlib.Core.Bool.{Bool, true, false, cond}
@@ -16,8 +18,6 @@ use Rattle.row_layout.specs.declared.RowLayout.{RowLayout}
 use Rattle.row_layout.specs.InnerLayout.{with_column}
 use Rattle.datatype.specs.declared.DataType.{DataType}
 use Rattle.datatype.specs.declared.DataType.TheVariants as T
-use Rattle.datatype.specs.declared.Record.{Record}
-use Rattle.datatype.specs.declared.Record.TheVariants.{Column, Refused}
 use Rattle.datatype.specs.Types.{size_of, alignment_of, is_varlen, shape_of}
 use Rattle.datatype.specs.Schema.{Kind, unknown, plain, sized, digits, column_kind, good_digits, unless_cut, column_record_of, column_record_at}
 use Rattle.datatype.specs.InnerSteps.{plain_size, plain_type, body_shape, type_in, passed}
@@ -62,7 +62,7 @@ plain_facts k h = facts (squares k) h
 -- ---- the record at a place
 
 -- one that is not cut off, where none is refused
-uncut : (s : List ℕ) (at : ℕ) (r : Record) → ((e : Refusal) → unless_cut s at r ≡ Refused e → ⊥) → (at + 3 ≤ length s) × (unless_cut s at r ≡ r)
+uncut : (s : List ℕ) (at : ℕ) (r : Result (DataType × ℕ)) → ((e : Refusal) → unless_cut s at r ≡ Err e → ⊥) → (at + 3 ≤ length s) × (unless_cut s at r ≡ r)
 uncut s at r good = of (ltb (length s) (at + 3)) refl
   where
     of : (x : Bool) → ltb (length s) (at + 3) ≡ x → (at + 3 ≤ length s) × (unless_cut s at r ≡ r)
@@ -73,7 +73,7 @@ module _ (s : List ℕ) (at : ℕ) where
   abbrev kind : Kind
   kind = column_kind (get_or s at 0)
 
-  pub plain_record : (plain_size kind ≡ 0 → ⊥) → column_record_at s at ≡ Column (plain_type kind) (at + 1)
+  pub plain_record : (plain_size kind ≡ 0 → ⊥) → column_record_at s at ≡ Ok ((plain_type kind), (at + 1))
   plain_record h = ap (λ (q : Kind). column_record_of q s at) (is_plain kind h)
 
   -- a column of z bytes that was added to a layout
@@ -84,10 +84,10 @@ module _ (s : List ℕ) (at : ℕ) where
       f ∙ rw (e, p.fixed, p.aligned, p.sized)
 
   -- n, where no record is refused
-  pub sized_record : ((e : Refusal) → column_record_at s at ≡ Refused e → ⊥) → (t : ℕ → DataType) → kind ≡ sized t → (at + 3 ≤ length s) × (type_in (column_record_at s at) ≡ t (from_le (take 2 (drop (at + 1) s))))
+  pub sized_record : ((e : Refusal) → column_record_at s at ≡ Err e → ⊥) → (t : ℕ → DataType) → kind ≡ sized t → (at + 3 ≤ length s) × (type_in (column_record_at s at) ≡ t (from_le (take 2 (drop (at + 1) s))))
   sized_record good t k =
       let here = ap (λ (q : Kind). column_record_of q s at) k in
-      let u = uncut s at (Column (t (from_le (take 2 (drop (at + 1) s)))) (at + 3)) (λ e f. good e (here ∙ f)) in
+      let u = uncut s at (Ok ((t (from_le (take 2 (drop (at + 1) s)))), (at + 3))) (λ e f. good e (here ∙ f)) in
       (u.0, ap type_in (here ∙ u.1))
 
 -- ---- a body, by the number of its kind
@@ -121,7 +121,7 @@ module _ (k : ℕ) (body : plain_size (column_kind k) ≡ 0) (known : column_kin
 
 -- ---- a body, where no record is refused
 
-unspoilt : (x : Bool) (c : Record) (e : Refusal) → (cond x c (Refused e) ≡ Refused e → ⊥) → cond x c (Refused e) ≡ c
+unspoilt : (x : Bool) (c : Result (DataType × ℕ)) (e : Refusal) → (cond x c (Err e) ≡ Err e → ⊥) → cond x c (Err e) ≡ c
 unspoilt true c e good = refl
 unspoilt false c e good = absurd (good refl)
 
@@ -129,19 +129,19 @@ module _ (s : List ℕ) (at : ℕ) (b : RowLayout) where
   abbrev Passed : Kind → Type 0
   Passed q = (at + 3 ≤ length s) × (passed at b (column_record_of q s at) ≡ record { at = at + 3; before = with_column b (body_shape q (get_or s (at + 1) 0) (from_le (take 2 (drop (at + 1) s)))) })
 
-  pass_digits : (t : ℕ → ℕ → DataType) → ((p z : ℕ) → shape_of (t p z) ≡ shape_of (t p 0)) → ((e : Refusal) → column_record_of (digits t) s at ≡ Refused e → ⊥) → Passed (digits t)
+  pass_digits : (t : ℕ → ℕ → DataType) → ((p z : ℕ) → shape_of (t p z) ≡ shape_of (t p 0)) → ((e : Refusal) → column_record_of (digits t) s at ≡ Err e → ⊥) → Passed (digits t)
   pass_digits t same good =
       let p : ℕ = get_or s (at + 1) 0 in
       let z : ℕ = get_or s (at + 2) 0 in
-      let c : Record = Column (t p z) (at + 3) in
-      let u = uncut s at (cond (good_digits p z) c (Refused (BadSchema at))) good in
+      let c : (Result (DataType × ℕ)) = Ok ((t p z), (at + 3)) in
+      let u = uncut s at (cond (good_digits p z) c (Err (BadSchema at))) good in
       let v = unspoilt (good_digits p z) c (BadSchema at) (λ e. good (BadSchema at) (u.1 ∙ e)) in
       (u.0, ap (passed at b) (u.1 ∙ v) ∙ ap (λ (y : Shape). record { at = at + 3; before = with_column b y }) (same p z))
 
-  pass_sized : (t : ℕ → DataType) → ((e : Refusal) → column_record_of (sized t) s at ≡ Refused e → ⊥) → Passed (sized t)
-  pass_sized t good = let u = uncut s at (Column (t (from_le (take 2 (drop (at + 1) s)))) (at + 3)) good in (u.0, ap (passed at b) u.1)
+  pass_sized : (t : ℕ → DataType) → ((e : Refusal) → column_record_of (sized t) s at ≡ Err e → ⊥) → Passed (sized t)
+  pass_sized t good = let u = uncut s at (Ok ((t (from_le (take 2 (drop (at + 1) s)))), (at + 3))) good in (u.0, ap (passed at b) u.1)
 
-  pass_body : {k : ℕ} (q : Kind) → Body k q → ((e : Refusal) → column_record_of q s at ≡ Refused e → ⊥) → Passed q
+  pass_body : {k : ℕ} (q : Kind) → Body k q → ((e : Refusal) → column_record_of q s at ≡ Err e → ⊥) → Passed q
   pass_body q (six e) good = pass_digits T.Numeric (λ p z. refl) good
   pass_body q (seven e) good = pass_digits T.Decimal (λ p z. refl) good
   pass_body q (nine e) good = pass_sized T.Char good
@@ -151,7 +151,7 @@ module _ (s : List ℕ) (at : ℕ) (b : RowLayout) where
   pass_body q (sixteen e) good = pass_sized (T.Varchar true) good
   pass_body q nothing good = absurd (good (BadRecord at) refl)
 
-  module _ (good : (e : Refusal) → column_record_at s at ≡ Refused e → ⊥) (none : plain_size (column_kind (get_or s at 0)) ≡ 0) where
+  module _ (good : (e : Refusal) → column_record_at s at ≡ Err e → ⊥) (none : plain_size (column_kind (get_or s at 0)) ≡ 0) where
     pub known_body : column_kind (get_or s at 0) ≡ unknown → ⊥
     known_body u = good (BadRecord at) (ap (λ (q : Kind). column_record_of q s at) u)
 

@@ -1,4 +1,6 @@
 -- Records that are followed by a body: what the code knows where it returns.
+use Rattle.error.specs.Result.{Result}
+use Rattle.std.specs.Prelude.{Err, Ok}
 use Prim.Native.Nat.{ℕ, ◌+◌, ◌<◌, ◌≤◌}
 use mathlib.Core.Path.{◌≡◌, refl}
 use mathlib.Core.Bool.{Bool, true, false, cond, ◌&&◌}
@@ -12,20 +14,18 @@ use Rattle.laws.specs.Bytes.{from_le}
 use Rattle.laws.proofs.Truths.{and_left, and_right, by_cond}
 use Rattle.datatype.specs.Types.{precision_of, counts_points}
 use Rattle.datatype.specs.declared.DataType.{DataType}
-use Rattle.datatype.specs.declared.Record.{Record}
-use Rattle.datatype.specs.declared.Record.TheVariants.{Column, Refused}
 use Rattle.datatype.proofs.KindTable.{Bodied, no, word, pair}
 use Rattle.datatype.specs.Schema.{Kind, unknown, plain, sized, digits, column_kind, good_digits, column_record_of, column_record_at, unless_cut}
 
 module _ (s : List ℕ) (at : ℕ) where
   -- a body that is cut off, whatever the kind
-  pub cut : {q : Kind} → Bodied q → length s < at + 3 → Refused (BadRecord at) ≡ column_record_of q s at
+  pub cut : {q : Kind} → Bodied q → length s < at + 3 → Err (BadRecord at) ≡ column_record_of q s at
   cut no h = refl
   cut word h = rw (lt-ltb (length s) (at + 3) h)
   cut pair h = rw (lt-ltb (length s) (at + 3) h)
 
   -- a body that is there
-  pub there : (r q : Record) → at + 3 ≤ length s → r ≡ q → r ≡ unless_cut s at q
+  pub there : (r q : Result (DataType × ℕ)) → at + 3 ≤ length s → r ≡ q → r ≡ unless_cut s at q
   there r q h e = rw (le-ltb (length s) (at + 3) h) e
 
 -- ---- what holds of the type that a record says
@@ -42,20 +42,20 @@ chosen P true x y p q = p
 chosen P false x y p q = q
 
 module _ (P : DataType → Type 0) where
-  abbrev InRecord : Record → Type 0
-  InRecord (Column t next) = P t
-  InRecord (Refused r) = Unit {0}
+  abbrev InRecord : Result (DataType × ℕ) → Type 0
+  InRecord (Ok (t, next)) = P t
+  InRecord (Err r) = Unit {0}
 
   said : {q : Kind} → Says P q → (s : List ℕ) (at : ℕ) → InRecord (column_record_of q s at)
   said none s at = tt
   said (plainly e) s at = e
   said (sizedly {t} e) s at =
-      by_cond InRecord (ltb (length s) (at + 3)) (Refused (BadRecord at)) _ (λ f. tt) (λ f. e (from_le (take 2 (drop (at + 1) s))))
+      by_cond InRecord (ltb (length s) (at + 3)) (Err (BadRecord at)) _ (λ f. tt) (λ f. e (from_le (take 2 (drop (at + 1) s))))
   said (given {t} e) s at =
       let p : ℕ = get_or s (at + 1) 0 in
       let z : ℕ = get_or s (at + 2) 0 in
-      by_cond InRecord (ltb (length s) (at + 3)) (Refused (BadRecord at)) _ (λ f. tt)
-      (λ f. by_cond InRecord (good_digits p z) (Column (t p z) (at + 3)) (Refused (BadSchema at)) (λ g. e p z g) (λ g. tt))
+      by_cond InRecord (ltb (length s) (at + 3)) (Err (BadRecord at)) _ (λ f. tt)
+      (λ f. by_cond InRecord (good_digits p z) (Ok ((t p z), (at + 3))) (Err (BadSchema at)) (λ g. e p z g) (λ g. tt))
 
 -- at most 38 digits
 abbrev FewDigits : DataType → Type 0
@@ -73,7 +73,7 @@ few_of p s g = leb-true p 38 (and_right (leb 1 p) (leb p 38) (and_left (leb 1 p 
 digits_of : (k : ℕ) → Says FewDigits (column_kind k)
 digits_of k = search (chosen, none, plainly, sizedly, given, no_digits, no_digits_of, few_of) depth 19
 
-pub few-digits : (s : List ℕ) (at : ℕ) {t : DataType} {next : ℕ} → column_record_at s at ≡ Column t next → precision_of t ≤ 38
+pub few-digits : (s : List ℕ) (at : ℕ) {t : DataType} {next : ℕ} → column_record_at s at ≡ Ok (t, next) → precision_of t ≤ 38
 few-digits s at e = rw e at (said FewDigits (digits_of (get_or s at 0)) s at)
 
 -- n counts code points for kind 16 alone
@@ -96,5 +96,5 @@ counts_of k = by_kind (eqb k 16) refl
     by_kind true e = rw (eqb-true k 16 e) (sizedly (λ n. refl))
     by_kind false e = counts-bytes k e
 
-pub points-told : (s : List ℕ) (at : ℕ) {t : DataType} {next : ℕ} → column_record_at s at ≡ Column t next → eqb (get_or s at 0) 16 ≡ counts_points t
+pub points-told : (s : List ℕ) (at : ℕ) {t : DataType} {next : ℕ} → column_record_at s at ≡ Ok (t, next) → eqb (get_or s at 0) 16 ≡ counts_points t
 points-told s at e = rw e at (said (Counts (eqb (get_or s at 0) 16)) (counts_of (get_or s at 0)) s at)

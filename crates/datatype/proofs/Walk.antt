@@ -1,4 +1,5 @@
 -- The walk over a schema's records: the layout of the columns so far, and what the records that are left add to it.
+use Rattle.std.specs.Prelude.{Err, Ok}
 use Prim.Native.Nat.{ℕ, zero, suc, ◌+◌, ◌-◌, ◌≤◌, ◌<◌}
 use mathlib.Core.Path.{◌≡◌, refl, sym, ap, ◌∙◌, subst}
 use mathlib.Core.Bool.{Bool, true, false, cond}
@@ -10,15 +11,12 @@ use lib.Dec.{ltb}
 use lib.ListN.{length, length-map}
 use Rattle.error.specs.declared.Refusal.{Refusal}
 use Rattle.error.specs.declared.Refusal.TheVariants.{BadSchema}
-use Rattle.error.specs.Result.{ok, refused, before}
+use Rattle.error.specs.Result.{before, Result}
 use Rattle.row_format.specs.Places.{through, rank_after, end_after, minimum, offset_width, row_limit}
 use Rattle.row_layout.specs.declared.RowLayout.{RowLayout}
 use Rattle.row_layout.specs.Layout.{layout_of}
 use Rattle.row_layout.specs.InnerLayout.{Bounded, no_columns, of_sort, with_column}
 use Rattle.datatype.specs.declared.DataType.{DataType}
-use Rattle.datatype.specs.declared.Record.TheVariants.{Column, Refused}
-use Rattle.datatype.specs.declared.SchemaCheck.{SchemaCheck}
-use Rattle.datatype.specs.declared.SchemaCheck.TheVariants as Check
 use Rattle.datatype.specs.Types.{shape_of}
 use Rattle.datatype.specs.Schema.{Parsed, column_records, column_record_at, limited, schema_of}
 use Rattle.datatype.specs.Check.{columns_of}
@@ -29,9 +27,9 @@ abbrev pub extended : RowLayout → List DataType → RowLayout
 extended l [] = l
 extended l (t ∷ ts) = extended (with_column l (shape_of t)) ts
 
-abbrev pub rest : ℕ → RowLayout → Parsed → SchemaCheck
-rest len l (ok ts) = finished len (extended l ts)
-rest len l (refused r) = Check.Refused r
+abbrev pub rest : ℕ → RowLayout → Parsed → Result RowLayout
+rest len l (Ok ts) = finished len (extended l ts)
+rest len l (Err r) = Err r
 
 -- ---- where the walk begins
 
@@ -51,17 +49,17 @@ extended_is l (t ∷ ts) =
 pub extended_all : (k : Bool) (ts : List DataType) → extended (of_sort k no_columns) ts ≡ layout_of k (map shape_of ts)
 extended_all k ts = extended_is (of_sort k no_columns) ts ∙ rw (add-zero, length-map ts shape_of)
 
-checked-cond : (k t : Bool) (r : Refusal) (ts : List DataType) → checked_schema k (cond t (refused r) (ok ts)) ≡ cond t (Check.Refused r) (Check.Good (layout_of k (map shape_of ts)))
+checked-cond : (k t : Bool) (r : Refusal) (ts : List DataType) → checked_schema k (cond t (Err r) (Ok ts)) ≡ cond t (Err r) (Ok (layout_of k (map shape_of ts)))
 checked-cond k true r ts = refl
 checked-cond k false r ts = refl
 
 rest_parsed : (k : Bool) (len : ℕ) (p : Parsed) → rest len (of_sort k no_columns) p ≡ checked_schema k (limited k len p)
-rest_parsed k len (ok ts) = ap (finished len) (extended_all k ts) ∙ sym (checked-cond k (ltb (row_limit k) (minimum (offset_width k) false (map shape_of ts))) (BadSchema len) ts)
-rest_parsed k len (refused r) = refl
+rest_parsed k len (Ok ts) = ap (finished len) (extended_all k ts) ∙ sym (checked-cond k (ltb (row_limit k) (minimum (offset_width k) false (map shape_of ts))) (BadSchema len) ts)
+rest_parsed k len (Err r) = refl
 
 rest_before : (len : ℕ) (l : RowLayout) (t : DataType) (p : Parsed) → rest len l (before t p) ≡ rest len (with_column l (shape_of t)) p
-rest_before len l t (ok ts) = refl
-rest_before len l t (refused r) = refl
+rest_before len l t (Ok ts) = refl
+rest_before len l t (Err r) = refl
 
 -- ---- the walk at a place of the schema
 
@@ -83,7 +81,7 @@ module _ {k : Bool} {s : List ℕ} {l : RowLayout} {at : ℕ} (w : Walking k s l
   walk_end h = sym (rest_none (256 - l.num_columns) h) ∙ w.whole
 
   -- a 257th
-  pub walk_over : at < length s → l.num_columns ≡ 256 → Check.Refused (BadSchema at) ≡ checked_schema k (schema_of k s)
+  pub walk_over : at < length s → l.num_columns ≡ 256 → Err (BadSchema at) ≡ checked_schema k (schema_of k s)
   walk_over h e =
       let z : 256 - l.num_columns ≡ 0 = omega arith in
       sym (rw (lt-ltb at (length s) h)) ∙ rw z at w.whole
@@ -93,38 +91,38 @@ module _ {k : Bool} {s : List ℕ} {l : RowLayout} {at : ℕ} (w : Walking k s l
     left = omega (arith, w.bounded)
 
     -- one that is bad
-    pub walk_bad : {r : Refusal} → column_record_at s at ≡ Refused r → Check.Refused r ≡ checked_schema k (schema_of k s)
+    pub walk_bad : {r : Refusal} → column_record_at s at ≡ Err r → Err r ≡ checked_schema k (schema_of k s)
     walk_bad e = sym (rw (lt-ltb at (length s) h, e)) ∙ rw left at w.whole
 
     -- a column
-    pub walk_more : {t : DataType} {next : ℕ} → column_record_at s at ≡ Column t next → Bounded (with_column l (shape_of t)) → Walking k s (with_column l (shape_of t)) next
+    pub walk_more : {t : DataType} {next : ℕ} → column_record_at s at ≡ Ok (t, next) → Bounded (with_column l (shape_of t)) → Walking k s (with_column l (shape_of t)) next
     walk_more {t} {next} e b =
         record { bounded = b; whole = sym (rw (lt-ltb at (length s) h, e) (rest_before (length s) l t (column_records (256 - (l.num_columns + 1)) s next))) ∙ rw left at w.whole }
 
 -- ---- a schema that was accepted, walked again
 
-no_types : {ts : List DataType} {r : Refusal} → refused r ≡ ok ts → ⊥
+no_types : {ts : List DataType} {r : Refusal} → Err r ≡ Ok ts → ⊥
 no_types {ts} e = subst (λ (p : Parsed). IsRefused p) e tt
   where
     IsRefused : Parsed → Type 0
-    IsRefused (ok us) = ⊥
-    IsRefused (refused q) = Unit {0}
+    IsRefused (Ok us) = ⊥
+    IsRefused (Err q) = Unit {0}
 
 -- the first of the records that are left
 pub record First (n : ℕ) (s : List ℕ) (next : ℕ) (t : DataType) (ts : List DataType) : Type 0 where
   pub tail : List DataType
   pub split : ts ≡ t ∷ tail
-  pub ahead : column_records n s next ≡ ok tail
+  pub ahead : column_records n s next ≡ Ok tail
 
-first_of : (n : ℕ) (s : List ℕ) (next : ℕ) (t : DataType) {ts : List DataType} (p : Parsed) → column_records n s next ≡ p → before t p ≡ ok ts → First n s next t ts
-first_of n s next t (ok us) e f = record { tail = us; split = ap columns_of (sym f); ahead = e }
-first_of n s next t (refused r) e f = absurd (no_types f)
+first_of : (n : ℕ) (s : List ℕ) (next : ℕ) (t : DataType) {ts : List DataType} (p : Parsed) → column_records n s next ≡ p → before t p ≡ Ok ts → First n s next t ts
+first_of n s next t (Ok us) e f = record { tail = us; split = ap columns_of (sym f); ahead = e }
+first_of n s next t (Err r) e f = absurd (no_types f)
 
-module _ (s : List ℕ) (at n : ℕ) {ts : List DataType} (e : column_records n s at ≡ ok ts) where
+module _ (s : List ℕ) (at n : ℕ) {ts : List DataType} (e : column_records n s at ≡ Ok ts) where
   pub none_left : length s ≤ at → ts ≡ []
   none_left h = ap columns_of (sym e ∙ empty n)
     where
-      empty : (k : ℕ) → column_records k s at ≡ ok []
+      empty : (k : ℕ) → column_records k s at ≡ Ok []
       empty zero = rw (le-ltb at (length s) h)
       empty (suc k) = rw (le-ltb at (length s) h)
 
@@ -132,16 +130,16 @@ module _ (s : List ℕ) (at n : ℕ) {ts : List DataType} (e : column_records n 
     pub some_left : 0 < n
     some_left = by_fuel n e
       where
-        by_fuel : (k : ℕ) → column_records k s at ≡ ok ts → 0 < k
+        by_fuel : (k : ℕ) → column_records k s at ≡ Ok ts → 0 < k
         by_fuel zero f = absurd (no_types (rw (lt-ltb at (length s) h) at f))
         by_fuel (suc k) f = omega arith
 
-    pub not_refused : {r : Refusal} → column_record_at s at ≡ Refused r → ⊥
+    pub not_refused : {r : Refusal} → column_record_at s at ≡ Err r → ⊥
     not_refused f = by_fuel n e
       where
-        by_fuel : (k : ℕ) → column_records k s at ≡ ok ts → ⊥
+        by_fuel : (k : ℕ) → column_records k s at ≡ Ok ts → ⊥
         by_fuel zero g = no_types (rw (lt-ltb at (length s) h) at g)
         by_fuel (suc k) g = no_types (rw (lt-ltb at (length s) h, f) at g)
 
-    pub first_left : {t : DataType} {next : ℕ} (k : ℕ) → n ≡ suc k → column_record_at s at ≡ Column t next → First k s next t ts
+    pub first_left : {t : DataType} {next : ℕ} (k : ℕ) → n ≡ suc k → column_record_at s at ≡ Ok (t, next) → First k s next t ts
     first_left {t} {next} k f g = first_of k s next t (column_records k s next) refl (sym (rw (f, lt-ltb at (length s) h, g)) ∙ e)

@@ -1,6 +1,5 @@
 -- FORMAT 2.3. What the check of a schema hands back, and what the calls do with it.
-use Rattle.std.specs.Prelude.{ℕ, Bool, false, List, [], map, get_or}
-use Rattle.error.specs.Result.{ok, refused}
+use Rattle.std.specs.Prelude.{ℕ, Bool, false, List, [], map, get_or, Err, Ok}
 use Rattle.row_layout.specs.declared.RowLayout.{RowLayout}
 use Rattle.row_layout.specs.Layout.{layout_of}
 use Rattle.datatype.specs.declared.DataType.{DataType}
@@ -15,10 +14,10 @@ type_at ts i = get_or ts i (Varchar false 0)
 abbrev pub layout_for : Bool → List DataType → RowLayout
 layout_for k ts = layout_of k (map shape_of ts)
 
--- the columns that records say, none where they are refused
+-- the columns that records say, none where they are Err
 abbrev pub columns_of : Parsed → List DataType
-columns_of (ok ts) = ts
-columns_of (refused r) = []
+columns_of (Ok ts) = ts
+columns_of (Err r) = []
 
 unfoldable pub types_in : List ℕ → List DataType
 types_in s = columns_of (column_records 256 s 0)

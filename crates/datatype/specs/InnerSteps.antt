@@ -1,5 +1,6 @@
 -- For the proofs: the walk over a schema's records, as the code goes it.
-use Rattle.std.specs.Prelude.{ℕ, ◌<◌, Bool, false, ◌||◌, List, ◌≡◌, eqb, length}
+use Rattle.error.specs.Result.{Result}
+use Rattle.std.specs.Prelude.{ℕ, ◌<◌, Bool, false, ◌||◌, List, ◌≡◌, eqb, length, Err, Ok}
 use Rattle.error.specs.declared.Refusal.{Refusal}
 use Rattle.row_format.specs.declared.Shape.{Shape}
 use Rattle.row_format.specs.declared.Shape.TheVariants.{Varlen}
@@ -7,8 +8,6 @@ use Rattle.row_layout.specs.declared.RowLayout.{RowLayout}
 use Rattle.row_layout.specs.InnerLayout.{with_column}
 use Rattle.datatype.specs.declared.DataType.{DataType}
 use Rattle.datatype.specs.declared.DataType.TheVariants.{Varchar}
-use Rattle.datatype.specs.declared.Record.{Record}
-use Rattle.datatype.specs.declared.Record.TheVariants.{Column, Refused}
 use Rattle.datatype.specs.declared.Step.{Step}
 use Rattle.datatype.specs.Types.{size_of, shape_of}
 use Rattle.datatype.specs.Schema.{Kind, unknown, plain, sized, digits, column_record_at}
@@ -40,14 +39,14 @@ body_shape (digits t) a n = shape_of (t a 0)
 -- a record that is not refused
 pub record Passable (s : List ℕ) (at : ℕ) : Type 0 where
   pub here : at < length s
-  pub good : (e : Refusal) → column_record_at s at ≡ Refused e → ⊥
+  pub good : (e : Refusal) → column_record_at s at ≡ Err e → ⊥
 
 -- what comes after a record at a place, where the columns before have layout b
-abbrev pub passed : ℕ → RowLayout → Record → Step
-passed at b (Column t next) = record { at = next; before = with_column b (shape_of t) }
-passed at b (Refused r) = record { at = at; before = b }
+abbrev pub passed : ℕ → RowLayout → Result (DataType × ℕ) → Step
+passed at b (Ok (t, next)) = record { at = next; before = with_column b (shape_of t) }
+passed at b (Err r) = record { at = at; before = b }
 
 -- the type that a record says
-abbrev pub type_in : Record → DataType
-type_in (Column t next) = t
-type_in (Refused r) = Varchar false 0
+abbrev pub type_in : Result (DataType × ℕ) → DataType
+type_in (Ok (t, next)) = t
+type_in (Err r) = Varchar false 0

@@ -1,13 +1,11 @@
 -- FORMAT 2.1, 2.3. 01, "Schema and value bytes": the columns that a schema's bytes say, or the refusal.
-use Rattle.std.specs.Prelude.{ℕ, zero, suc, ◌+◌, Bool, true, false, cond, ◌&&◌, List, [], map, eqb, leb, ltb, length, get_or, take, drop}
+use Rattle.std.specs.Prelude.{ℕ, zero, suc, ◌+◌, Bool, true, false, cond, ◌&&◌, List, [], map, eqb, leb, ltb, length, get_or, take, drop, Err, Ok}
 use Rattle.error.specs.declared.Refusal.TheVariants.{BadRecord, BadSchema}
-use Rattle.error.specs.Result.{Result, ok, refused, before}
+use Rattle.error.specs.Result.{Result, before}
 use Rattle.laws.specs.Bytes.{from_le}
 use Rattle.row_format.specs.Places.{offset_width, row_limit, minimum}
 use Rattle.datatype.specs.declared.DataType.{DataType}
 use Rattle.datatype.specs.declared.DataType.TheVariants.{SmallInt, Int, BigInt, Real, DoublePrecision, Numeric, Decimal, Bool as Boolean, Char, Character, Varchar, Date, Time, Bit, Timestamp}
-use Rattle.datatype.specs.declared.Record.{Record}
-use Rattle.datatype.specs.declared.Record.TheVariants.{Column, Refused}
 use Rattle.datatype.specs.Types.{shape_of}
 
 -- ---- one record
@@ -47,20 +45,20 @@ abbrev pub good_digits : ℕ → ℕ → Bool
 good_digits p s = leb 1 p && leb p 38 && leb s p
 
 -- 1: "schema record of unknown kind, or cut off"
-abbrev pub unless_cut : List ℕ → ℕ → Record → Record
-unless_cut s at r = cond (ltb (length s) (at + 3)) (Refused (BadRecord at)) r
+abbrev pub unless_cut : List ℕ → ℕ → Result (DataType × ℕ) → Result (DataType × ℕ)
+unless_cut s at r = cond (ltb (length s) (at + 3)) (Err (BadRecord at)) r
 
 -- a record's type and the place after it
-abbrev pub column_record_of : Kind → List ℕ → ℕ → Record
-column_record_of unknown s at = Refused (BadRecord at)
-column_record_of (plain t) s at = Column t (at + 1)
-column_record_of (sized t) s at = unless_cut s at (Column (t (from_le (take 2 (drop (at + 1) s)))) (at + 3))
+abbrev pub column_record_of : Kind → List ℕ → ℕ → Result (DataType × ℕ)
+column_record_of unknown s at = Err (BadRecord at)
+column_record_of (plain t) s at = Ok (t, (at + 1))
+column_record_of (sized t) s at = unless_cut s at (Ok ((t (from_le (take 2 (drop (at + 1) s)))), (at + 3)))
 column_record_of (digits t) s at =
     unless_cut s at
     (cond (good_digits (get_or s (at + 1) 0) (get_or s (at + 2) 0))
-    (Column (t (get_or s (at + 1) 0) (get_or s (at + 2) 0)) (at + 3)) (Refused (BadSchema at)))
+    (Ok ((t (get_or s (at + 1) 0) (get_or s (at + 2) 0)), (at + 3))) (Err (BadSchema at)))
 
-abbrev pub column_record_at : List ℕ → ℕ → Record
+abbrev pub column_record_at : List ℕ → ℕ → Result (DataType × ℕ)
 column_record_at s at = column_record_of (column_kind (get_or s at 0)) s at
 
 -- ---- the whole schema
@@ -68,23 +66,23 @@ column_record_at s at = column_record_of (column_kind (get_or s at 0)) s at
 abbrev pub Parsed : Type 0
 Parsed = Result (List DataType)
 
-abbrev pub on_column_record : Record → (ℕ → Parsed) → Parsed
-on_column_record (Column t next) rest = before t (rest next)
-on_column_record (Refused r) rest = refused r
+abbrev pub on_column_record : Result (DataType × ℕ) → (ℕ → Parsed) → Parsed
+on_column_record (Ok (t, next)) rest = before t (rest next)
+on_column_record (Err r) rest = Err r
 
 -- at most n records from a place on. "The first bad schema record decides"; 2: "a 257th record begins", "whatever its
 -- kind"
 abbrev pub column_records : ℕ → List ℕ → ℕ → Parsed
-column_records zero s at = cond (ltb at (length s)) (refused (BadSchema at)) (ok [])
+column_records zero s at = cond (ltb at (length s)) (Err (BadSchema at)) (Ok [])
 column_records (suc n) s at =
-    cond (ltb at (length s)) (on_column_record (column_record_at s at) (column_records n s)) (ok [])
+    cond (ltb at (length s)) (on_column_record (column_record_at s at) (column_records n s)) (Ok [])
 
 -- 2: "after the last record, padded minimum above 65,535 (place: schema length)", for short rows, and by the limit of
 -- long rows for those
 abbrev pub limited : Bool → ℕ → Parsed → Parsed
-limited k len (ok ts) =
-    cond (ltb (row_limit k) (minimum (offset_width k) false (map shape_of ts))) (refused (BadSchema len)) (ok ts)
-limited k len (refused r) = refused r
+limited k len (Ok ts) =
+    cond (ltb (row_limit k) (minimum (offset_width k) false (map shape_of ts))) (Err (BadSchema len)) (Ok ts)
+limited k len (Err r) = Err r
 
 unfoldable pub schema_of : Bool → List ℕ → Parsed
 schema_of k s = limited k (length s) (column_records 256 s 0)

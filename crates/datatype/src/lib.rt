@@ -248,14 +248,6 @@ impl DataType {
     }
 }
 
-// What stands at a place of a schema.
-#[derive(Clone, Copy)]
-pub enum Record {
-    // A column's type, and the place after its record.
-    Column(DataType, usize),
-    Refused(Refusal),
-}
-
 // Whether NUMERIC(precision, scale) is a type.
 fn good_digits(precision: u8, scale: u8) -> bool
     ensures { result ≡ good_digits precision scale }
@@ -264,12 +256,12 @@ fn good_digits(precision: u8, scale: u8) -> bool
 }
 
 // A record of a kind that is followed by two bytes, or of no kind.
-fn body_at(schema: &[u8], at: usize, kind: u8) -> Record
+fn body_at(schema: &[u8], at: usize, kind: u8) -> error::Result<(DataType, usize)>
     requires { (at < length schema.now) × (plain_size (column_kind kind) ≡ 0) }
     ensures { result ≡ column_record_of (column_kind kind) schema.now at }
 {
     if schema.len() - at < 3 {
-        return Record::Refused(Refusal::BadRecord(at));
+        return Err(Refusal::BadRecord(at));
     }
     let precision = schema[at + 1];
     let scale = schema[at + 2];
@@ -278,31 +270,28 @@ fn body_at(schema: &[u8], at: usize, kind: u8) -> Record
     match kind {
         schema_kinds::NUMERIC => {
             if good_digits(precision, scale) {
-                return Record::Column(DataType::Numeric { precision, scale }, next);
+                return Ok((DataType::Numeric { precision, scale }, next));
             }
-            Record::Refused(Refusal::BadSchema(at))
+            Err(Refusal::BadSchema(at))
         }
         schema_kinds::DECIMAL => {
             if good_digits(precision, scale) {
-                return Record::Column(DataType::Decimal { precision, scale }, next);
+                return Ok((DataType::Decimal { precision, scale }, next));
             }
-            Record::Refused(Refusal::BadSchema(at))
+            Err(Refusal::BadSchema(at))
         }
-        schema_kinds::CHAR => Record::Column(DataType::Char(n), next),
-        schema_kinds::CHARACTER => Record::Column(DataType::Character(n), next),
-        schema_kinds::VARCHAR => Record::Column(
+        schema_kinds::CHAR => Ok((DataType::Char(n), next)),
+        schema_kinds::CHARACTER => Ok((DataType::Character(n), next)),
+        schema_kinds::VARCHAR => Ok((
             DataType::Varchar {
                 by_points: false,
                 n,
             },
             next,
-        ),
-        schema_kinds::BIT => Record::Column(DataType::Bit(n), next),
-        schema_kinds::VARCHAR_CHARS => Record::Column(
-            DataType::Varchar { by_points: true, n },
-            next,
-        ),
-        _ => Record::Refused(Refusal::BadRecord(at)),
+        )),
+        schema_kinds::BIT => Ok((DataType::Bit(n), next)),
+        schema_kinds::VARCHAR_CHARS => Ok((DataType::Varchar { by_points: true, n }, next)),
+        _ => Err(Refusal::BadRecord(at)),
     }
 }
 
@@ -324,22 +313,22 @@ pub fn plain_size(kind: u8) -> usize
     }
 }
 
-pub fn record_at(schema: &[u8], at: usize) -> Record
+pub fn record_at(schema: &[u8], at: usize) -> error::Result<(DataType, usize)>
     requires { at < length schema.now }
     ensures { result ≡ column_record_at schema.now at }
 {
     let kind = schema[at];
     let next = at + 1;
     match kind {
-        schema_kinds::SMALL_INT => Record::Column(DataType::SmallInt, next),
-        schema_kinds::INT => Record::Column(DataType::Int, next),
-        schema_kinds::BIG_INT => Record::Column(DataType::BigInt, next),
-        schema_kinds::REAL => Record::Column(DataType::Real, next),
-        schema_kinds::DOUBLE_PRECISION => Record::Column(DataType::DoublePrecision, next),
-        schema_kinds::BOOL => Record::Column(DataType::Bool, next),
-        schema_kinds::DATE => Record::Column(DataType::Date, next),
-        schema_kinds::TIME => Record::Column(DataType::Time, next),
-        schema_kinds::TIMESTAMP => Record::Column(DataType::Timestamp, next),
+        schema_kinds::SMALL_INT => Ok((DataType::SmallInt, next)),
+        schema_kinds::INT => Ok((DataType::Int, next)),
+        schema_kinds::BIG_INT => Ok((DataType::BigInt, next)),
+        schema_kinds::REAL => Ok((DataType::Real, next)),
+        schema_kinds::DOUBLE_PRECISION => Ok((DataType::DoublePrecision, next)),
+        schema_kinds::BOOL => Ok((DataType::Bool, next)),
+        schema_kinds::DATE => Ok((DataType::Date, next)),
+        schema_kinds::TIME => Ok((DataType::Time, next)),
+        schema_kinds::TIMESTAMP => Ok((DataType::Timestamp, next)),
         _ => body_at(schema, at, kind),
     }
 }
@@ -398,33 +387,26 @@ pub fn next_column(schema: &[u8], at: usize, before: RowLayout) -> Step
     }
 }
 
-// The layout of a schema's rows, or why its bytes are no schema.
-#[derive(Clone, Copy)]
-pub enum SchemaCheck {
-    Good(RowLayout),
-    Refused(Refusal),
-}
-
 // The test that comes after the last record, for the rows of a sort.
-pub fn finish(layout: RowLayout, at: usize) -> SchemaCheck
+pub fn finish(layout: RowLayout, at: usize) -> error::Result<RowLayout>
     requires { Bounded layout }
     ensures { (result ≡ finished at layout) × BoundedIn result }
 {
     if row_layout::row_limit(layout.is_long) < layout.min_row_size(false) {
-        return SchemaCheck::Refused(Refusal::BadSchema(at));
+        return Err(Refusal::BadSchema(at));
     }
-    SchemaCheck::Good(layout)
+    Ok(layout)
 }
 
 // The check of a schema for the rows of a sort.
-pub fn check_schema(schema: &[u8], is_long: bool) -> SchemaCheck
+pub fn check_schema(schema: &[u8], is_long: bool) -> error::Result<RowLayout>
     ensures { (result ≡ checked_schema is_long (schema_of is_long schema.now)) × BoundedIn result }
 {
     let mut layout = RowLayout::new().of_sort(is_long);
     let mut at = 0;
     while at < schema.len() {
         if layout.num_columns == RowLayout::COLUMN_LIMIT {
-            return SchemaCheck::Refused(Refusal::BadSchema(at));
+            return Err(Refusal::BadSchema(at));
         }
         let kind = schema[at];
         let size = plain_size(kind);
@@ -432,15 +414,9 @@ pub fn check_schema(schema: &[u8], is_long: bool) -> SchemaCheck
             layout = layout.with_column(Shape::Fixed(size, size));
             at += 1;
         } else {
-            match body_at(schema, at, kind) {
-                Record::Refused(r) => {
-                    return SchemaCheck::Refused(r);
-                }
-                Record::Column(t, next) => {
-                    layout = layout.with_column(t.shape());
-                    at = next;
-                }
-            }
+            let (t, next) = body_at(schema, at, kind)?;
+            layout = layout.with_column(t.shape());
+            at = next;
         }
     }
     finish(layout, schema.len())

@@ -1,12 +1,11 @@
 // error.rs: why a call refused. Document 01's table has a number for each case, and the place that goes with it;
 // 16 and 17 are document 02's.
-// And the answers of the calls: a length written, or a flag.
 #![tactic(auto)]
 
 ghost use Rattle.std.specs.Prelude.{◌≡◌};
 ghost use Rattle.error.specs.Refusal.{number_of, place_of};
 
-#[derive(Clone, Copy)]
+#[derive(Clone, Copy, Debug, PartialEq, Eq)]
 pub enum Refusal {
     // A schema record of unknown kind, or cut off: its first byte.
     BadRecord(usize),
@@ -36,19 +35,8 @@ pub enum Refusal {
     Unprintable(usize),
 }
 
-// The answer of a call that writes to a lent output: the bytes of the result, or why there is none.
-#[derive(Clone, Copy)]
-pub enum Answer {
-    Done(usize),
-    Refused(Refusal),
-}
-
-// The answer of a call that asks whether something is so.
-#[derive(Clone, Copy)]
-pub enum Flag {
-    Is(bool),
-    Refused(Refusal),
-}
+// What a call hands back: its result, as the bytes that it wrote or a flag, or why it refused.
+pub type Result<T> = std::result::Result<T, Refusal>;
 
 impl Refusal {
     pub fn number(self) -> u32
@@ -79,23 +67,13 @@ impl Refusal {
         ensures { result ≡ place_of self }
     {
         match self {
-            Refusal::BadRecord(at) => at,
-            Refusal::BadSchema(at) => at,
-            Refusal::RowTooShort => 0,
-            Refusal::RowTooLong => 0,
-            Refusal::WrongColumnCount => 0,
-            Refusal::WrongVarlenCount => 0,
-            Refusal::BadRange(column) => column,
-            Refusal::NoValue(column) => column,
-            Refusal::NoSuchColumn => 0,
-            Refusal::BadValueList(at) => at,
-            Refusal::WrongKind(column) => column,
-            Refusal::Unsuitable(column) => column,
-            Refusal::RowLimit => 0,
-            Refusal::NoRoom => 0,
-            Refusal::NotSound => 0,
-            Refusal::BadList => 0,
-            Refusal::Unprintable(column) => column,
+            Refusal::BadRecord(at) | Refusal::BadSchema(at) | Refusal::BadValueList(at) => at,
+            Refusal::BadRange(column)
+            | Refusal::NoValue(column)
+            | Refusal::WrongKind(column)
+            | Refusal::Unsuitable(column)
+            | Refusal::Unprintable(column) => column,
+            _ => 0,
         }
     }
 }

@@ -1,4 +1,5 @@
 -- A run of calls through a handle against the run of the plain calls, and the handle's layout after it.
+use Rattle.std.specs.Prelude.{Err, Ok}
 use Prim.Native.Nat.{ℕ}
 use mathlib.Core.Bool.{Bool, true, cond}
 use mathlib.Core.List.{List, [], ◌∷◌, map}
@@ -8,10 +9,9 @@ use native.Mathlib.Omega.{arith}
 use lib.ListN.{length, replicate}
 use lib.Seq.{sets, length-take-le}
 use Rattle.error.specs.declared.Refusal.{Refusal}
-use Rattle.error.specs.declared.Answer.{Answer}
-use Rattle.error.specs.declared.Answer.TheVariants.{Done, Refused}
+
 use Rattle.error.specs.Answer.{Outcome}
-use Rattle.error.specs.Result.{on_result}
+use Rattle.error.specs.Result.{on_result, Result}
 use Rattle.row_format.specs.Places.{offset_width}
 use Rattle.row_format.specs.Zeroed.{zeroed_row}
 use Rattle.datatype.specs.declared.DataType.{DataType}
@@ -40,16 +40,16 @@ use Rattle.handle_history.specs.Runs.{handle_zeroed, handle_sheet, Carries, Hand
 use Rattle.handle_history.proofs.Flag.{flag-row}
 use Rattle.handle_history.specs.InnerRuns.{Laid}
 
-abbrev IsRefused : Answer → Type 0
-IsRefused (Done m) = ⊥
-IsRefused (Refused e) = Unit {0}
+abbrev IsRefused : Result ℕ → Type 0
+IsRefused (Ok m) = ⊥
+IsRefused (Err e) = Unit {0}
 
 module _ (schema : List ℕ) where
   -- ---- from any handle: one call
 
-  length-after : (l : HandleLayout) (h : RowHandle) (a : Answer) → (handle_after l h a).length ≡ handed_back a h.length
-  length-after l h (Done m) = refl
-  length-after l h (Refused e) = refl
+  length-after : (l : HandleLayout) (h : RowHandle) (a : Result ℕ) → (handle_after l h a).length ≡ handed_back a h.length
+  length-after l h (Ok m) = refl
+  length-after l h (Err e) = refl
 
   -- a call through a handle is the plain call on the buffer and the handle's length
   step : (c : Call) (s : HandleState) → handle_called schema c s ≡ handled (sort_of (state_of s)) schema s.handle (called schema c (state_of s))
@@ -73,8 +73,8 @@ module _ (schema : List ℕ) where
   pub run-answers : (cs : List Call) (s : HandleState) → handle_answers schema cs s ≡ answers schema cs (state_of s)
   run-answers [] s = refl
   run-answers (c ∷ cs) s =
-      ap (λ (a : Answer). a ∷ handle_answers schema cs (handle_next (handle_called schema c s))) (step_answer c s)
-      ∙ ap (λ (as' : List Answer). (called schema c (state_of s)).0 ∷ as') (run-answers cs (handle_next (handle_called schema c s)) ∙ ap (answers schema cs) (step_state c s))
+      ap (λ (a : Result ℕ). a ∷ handle_answers schema cs (handle_next (handle_called schema c s))) (step_answer c s)
+      ∙ ap (λ (as' : List (Result ℕ)). (called schema c (state_of s)).0 ∷ as') (run-answers cs (handle_next (handle_called schema c s)) ∙ ap (answers schema cs) (step_state c s))
 
   -- ---- the layout
 
@@ -104,11 +104,11 @@ module _ (schema : List ℕ) where
   sort-next c s = ap sort_of (step_state c s) ∙ sort-kept (state_of s) (called schema c (state_of s)) (ends c (state_of s))
 
   -- a refused call leaves buffer and handle as they were
-  refused_of_lem : (k : Bool) (s : HandleState) (o : Outcome) → Ends s.buf (Marked (state_of s)) o → {e : Refusal} → o.0 ≡ Refused e → handle_next (handled k schema s.handle o) ≡ s
+  refused_of_lem : (k : Bool) (s : HandleState) (o : Outcome) → Ends s.buf (Marked (state_of s)) o → {e : Refusal} → o.0 ≡ Err e → handle_next (handled k schema s.handle o) ≡ s
   refused_of_lem k s o (refusal b q) f = subst (λ (x : Outcome). handle_next (handled k schema s.handle x) ≡ s) (sym q) refl
   refused_of_lem k s o (written r q u) f = absurd (subst IsRefused (sym f ∙ ap (λ (x : Outcome). x.0) q) tt)
 
-  pub refused-same : (c : Call) (s : HandleState) {e : Refusal} → (handle_called schema c s).0 ≡ Refused e → handle_next (handle_called schema c s) ≡ s
+  pub refused-same : (c : Call) (s : HandleState) {e : Refusal} → (handle_called schema c s).0 ≡ Err e → handle_next (handle_called schema c s) ≡ s
   refused-same c s f = ap handle_next (step c s) ∙ refused_of_lem (sort_of (state_of s)) s (called schema c (state_of s)) (ends c (state_of s)) (sym (step_answer c s) ∙ f)
 
   module _ (sort : Bool) where
@@ -116,8 +116,8 @@ module _ (schema : List ℕ) where
     laid_of s o (refusal e q) l = subst (λ (x : Outcome). Laid sort schema (handle_next (handled sort schema s.handle x))) (sym q) l
     laid_of s o (written r q u) l = subst (λ (x : Outcome). Laid sort schema (handle_next (handled sort schema s.handle x))) (sym q) refl
 
-    laid_done : (s : HandleState) (o : Outcome) {m : ℕ} → o.0 ≡ Done m → Laid sort schema (handle_next (handled sort schema s.handle o))
-    laid_done s o e = ap (λ (a : Answer). (handle_after (stored_layout sort schema o.1) s.handle a).layout) e
+    laid_done : (s : HandleState) (o : Outcome) {m : ℕ} → o.0 ≡ Ok m → Laid sort schema (handle_next (handled sort schema s.handle o))
+    laid_done s o e = ap (λ (a : Result ℕ). (handle_after (stored_layout sort schema o.1) s.handle a).layout) e
 
     module _ (c : Call) (s : HandleState) (is : sort_of (state_of s) ≡ sort) where
       step_sort : handle_called schema c s ≡ handled sort schema s.handle (called schema c (state_of s))
@@ -126,7 +126,7 @@ module _ (schema : List ℕ) where
       laid_next : Laid sort schema s → Laid sort schema (handle_next (handle_called schema c s))
       laid_next l = subst (λ (x : Handled). Laid sort schema (handle_next x)) (sym step_sort) (laid_of s (called schema c (state_of s)) (ends c (state_of s)) l)
 
-      accepted-next : {m : ℕ} → (handle_called schema c s).0 ≡ Done m → Laid sort schema (handle_next (handle_called schema c s))
+      accepted-next : {m : ℕ} → (handle_called schema c s).0 ≡ Ok m → Laid sort schema (handle_next (handle_called schema c s))
       accepted-next e = subst (λ (x : Handled). Laid sort schema (handle_next x)) (sym step_sort) (laid_done s (called schema c (state_of s)) (sym (step_answer c s) ∙ e))
 
     -- behind an accepted call the handle has the layout of schema, sort and flag, whatever it began with; else it is
@@ -139,7 +139,7 @@ module _ (schema : List ℕ) where
       abbrev after : HandleState
       after = handle_next (handle_called schema c s)
 
-      abbrev replied : List Answer
+      abbrev replied : List (Result ℕ)
       replied = handle_answers schema cs after
 
       abbrev laid : HandleLayout
@@ -148,10 +148,10 @@ module _ (schema : List ℕ) where
       -- one call more in front
       layout-more :
           (handle_run schema cs after).handle.layout ≡ cond (some_done replied) laid after.handle.layout
-          → (a : Answer) → (handle_called schema c s).0 ≡ a
+          → (a : Result ℕ) → (handle_called schema c s).0 ≡ a
           → (handle_run schema cs after).handle.layout ≡ cond (some_done (a ∷ replied)) laid s.handle.layout
-      layout-more rest (Done m) e = laid_run cs after (sort-next c s ∙ is) (accepted-next c s is e)
-      layout-more rest (Refused f) e =
+      layout-more rest (Ok m) e = laid_run cs after (sort-next c s ∙ is) (accepted-next c s is e)
+      layout-more rest (Err f) e =
           rest ∙ ap (λ (x : HandleState). cond (some_done replied) laid x.handle.layout) (refused-same c s e)
 
     pub run-layout : (cs : List Call) (s : HandleState) → sort_of (state_of s) ≡ sort
@@ -194,7 +194,7 @@ module _ {sort : Bool} {schema : List ℕ} {ts : List DataType} (g : HandleHisto
       ∙ flag-row l.buf l.row-length (told-row sort ts (row_of l) (accepts g.plain).sound)
 
   sheet-same : handle_sheet g ≡ sheet g.plain
-  sheet-same = ap (λ (as' : List Answer). sheet_by g.plain.calls as' (replicate (length ts) none)) answers-same
+  sheet-same = ap (λ (as' : List (Result ℕ)). sheet_by g.plain.calls as' (replicate (length ts) none)) answers-same
 
   zeroed-same : handle_zeroed g ≡ zeroed g.plain
   zeroed-same = ap (λ (x : State). zeroed_row (offset_width sort) (map shape_of ts) (row_of x)) left-same

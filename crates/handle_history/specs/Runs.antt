@@ -1,9 +1,9 @@
 -- FORMAT 8.7, 9.1. 01, "Histories of edits", through a handle: lists of set and set null calls on one buffer and one
 -- handle, each as the one before left them.
-use Rattle.std.specs.Prelude.{ℕ, Bool, true, false, cond, List, [], ◌∷◌, map, ◌↔◌, ◌≡◌, length, replicate}
+use Rattle.error.specs.Result.{Result}
+use Rattle.std.specs.Prelude.{ℕ, Bool, true, false, cond, List, [], ◌∷◌, map, ◌↔◌, ◌≡◌, length, replicate, Err, Ok}
 use Rattle.std.proofs.Math.Option.{none}
-use Rattle.error.specs.declared.Answer.{Answer}
-use Rattle.error.specs.declared.Answer.TheVariants.{Done, Refused}
+
 use Rattle.error.specs.Answer.{placed_both}
 use Rattle.row_format.specs.Places.{offset_width}
 use Rattle.row_format.specs.Table.{Cell}
@@ -38,16 +38,16 @@ abbrev pub handle_run : List ℕ → List Call → HandleState → HandleState
 handle_run schema [] s = s
 handle_run schema (c ∷ cs) s = handle_run schema cs (handle_next (handle_called schema c s))
 
-abbrev pub handle_answers : List ℕ → List Call → HandleState → List Answer
+abbrev pub handle_answers : List ℕ → List Call → HandleState → List (Result ℕ)
 handle_answers schema [] s = []
 handle_answers schema (c ∷ cs) s =
     (handle_called schema c s).0 ∷ handle_answers schema cs (handle_next (handle_called schema c s))
 
 -- whether a call was accepted
-abbrev pub some_done : List Answer → Bool
+abbrev pub some_done : List (Result ℕ) → Bool
 some_done [] = false
-some_done (Done m ∷ as') = true
-some_done (Refused e ∷ as') = some_done as'
+some_done (Ok m ∷ as') = true
+some_done (Err e ∷ as') = some_done as'
 
 -- ---- a history through a handle: any handle that has the length which fresh handed back, whatever its layout says
 
@@ -63,7 +63,7 @@ module _ {sort : Bool} {schema : List ℕ} {ts : List DataType} (g : HandleHisto
   abbrev pub handle_left : HandleState
   handle_left = handle_run schema g.plain.calls handle_start
 
-  abbrev pub handle_replies : List Answer
+  abbrev pub handle_replies : List (Result ℕ)
   handle_replies = handle_answers schema g.plain.calls handle_start
 
   abbrev pub handle_zeroed : List ℕ

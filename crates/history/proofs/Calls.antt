@@ -1,4 +1,5 @@
--- How a call ends: refused, with the buffer as it was, or with a row in the buffer's first bytes.
+-- How a call ends: Err, with the buffer as it was, or with a row in the buffer's first bytes.
+use Rattle.std.specs.Prelude.{Err, Ok}
 use Prim.Native.Nat.{ℕ, ◌≤◌, ◌<◌}
 use mathlib.Core.Bool.{Bool, true, false, cond}
 use mathlib.Core.List.{List, [], ◌∷◌}
@@ -12,7 +13,7 @@ use Rattle.laws.proofs.Truths.{by_cond}
 use Rattle.error.specs.declared.Refusal.{Refusal}
 use Rattle.error.specs.declared.Refusal.TheVariants as No
 use Rattle.error.specs.Answer.{Outcome, unchanged}
-use Rattle.error.specs.Result.{Result, ok, refused, on_result}
+use Rattle.error.specs.Result.{Result, on_result}
 use Rattle.datatype.specs.declared.DataType.{DataType}
 use Rattle.datatype.specs.Schema.{schema_of}
 use Rattle.value.specs.declared.DataValue.{DataValue}
@@ -47,10 +48,10 @@ module _ {buf : List ℕ} {P : List ℕ → Type 0} where
 
   -- 1, 2, 14, 15, then 9
   pub opened_ends : (sort : Bool) (schema : List ℕ) (n i : ℕ) (k : List DataType → Bool → Outcome)
-      → ((ts : List DataType) (p : Bool) → schema_of sort schema ≡ ok ts → n ≤ length buf → SoundRow sort ts p (take n buf) → i < length ts → Ends buf P (k ts p)) → Ends buf P (opened sort schema buf n i k)
+      → ((ts : List DataType) (p : Bool) → schema_of sort schema ≡ Ok ts → n ≤ length buf → SoundRow sort ts p (take n buf) → i < length ts → Ends buf P (k ts p)) → Ends buf P (opened sort schema buf n i k)
   opened_ends = opened_by buf (Ends buf P) unwritten
 
-  pub tested_ends : {A : Type 0} (q : Result A) (k : A → Outcome) → ((x : A) → q ≡ ok x → Ends buf P (k x)) → Ends buf P (on_result q (unchanged buf) k)
+  pub tested_ends : {A : Type 0} (q : Result A) (k : A → Outcome) → ((x : A) → q ≡ Ok x → Ends buf P (k x)) → Ends buf P (on_result q (unchanged buf) k)
   tested_ends = tested_by buf (Ends buf P) unwritten
 
   -- 13, then 14
@@ -65,14 +66,14 @@ pub record Chosen (t : DataType) (v : DataValue) (area b : List ℕ) : Type 0 wh
   pub form : b ≡ stored_form t v (text_of area v)
 
 abbrev IsGood : {A : Type 0} → Result A → Type 0
-IsGood (ok x) = Unit {0}
-IsGood (refused e) = ⊥
+IsGood (Ok x) = Unit {0}
+IsGood (Err e) = ⊥
 
-pub stored_chosen : (i : ℕ) (t : DataType) (v : DataValue) (area b : List ℕ) → stored_in i t v area ≡ ok b → Chosen t v area b
+pub stored_chosen : (i : ℕ) (t : DataType) (v : DataValue) (area b : List ℕ) → stored_in i t v area ≡ Ok b → Chosen t v area b
 stored_chosen i t v area b e = of_tests (matches t v) (accepted t v area) refl refl e
   where
     of_tests : (x y : Bool) → matches t v ≡ x → accepted t v area ≡ y
-        → cond x (cond y (ok (stored_form t v (text_of area v))) (refused (No.Unsuitable i))) (refused (No.WrongKind i)) ≡ ok b → Chosen t v area b
+        → cond x (cond y (Ok (stored_form t v (text_of area v))) (Err (No.Unsuitable i))) (Err (No.WrongKind i)) ≡ Ok b → Chosen t v area b
     of_tests true true m a q = record { match = m; accept = a; form = cc }
     of_tests true false m a q = absurd (subst IsGood (sym q) tt)
     of_tests false y m a q = absurd (subst IsGood (sym q) tt)
@@ -86,12 +87,12 @@ pub record Taken (t : DataType) (list area b : List ℕ) : Type 0 where
   pub chosen : Chosen t (one_value (values_of list)) area b
   pub sized : Sized (one_value (values_of list))
 
-pub given-taken : (sort : Bool) (t : DataType) (i : ℕ) (list area b : List ℕ) → AllBytes list → given sort t i list area ≡ ok b → Taken t list area b
+pub given-taken : (sort : Bool) (t : DataType) (i : ℕ) (list area b : List ℕ) → AllBytes list → given sort t i list area ≡ Ok b → Taken t list area b
 given-taken sort t i list area b a e = of_values (checked sort 1 (length area) list) refl e
   where
-    of_values : (q : Values) → checked sort 1 (length area) list ≡ q → on_result q refused (λ vs. stored_in i t (get_or vs 0 Null) area) ≡ ok b → Taken t list area b
-    of_values (refused r) c q = absurd (subst IsGood (sym q) tt)
-    of_values (ok vs) c q =
+    of_values : (q : Values) → checked sort 1 (length area) list ≡ q → on_result q Err (λ vs. stored_in i t (get_or vs 0 Null) area) ≡ Ok b → Taken t list area b
+    of_values (Err r) c q = absurd (subst IsGood (sym q) tt)
+    of_values (Ok vs) c q =
         let all = (checked-taken sort 1 (length area) list c).all in
         let one : get_or vs 0 Null ≡ one_value (values_of list) = sym (ap one_value all) in
         record {

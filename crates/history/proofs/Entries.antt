@@ -1,4 +1,5 @@
 -- Entries of the sheet that suit their columns: their cells, and what the builder makes of them as one value list with one text area.
+use Rattle.std.specs.Prelude.{Ok}
 use Prim.Native.Nat.{ℕ, zero, suc, ◌+◌, ◌≤◌, ◌<◌}
 use mathlib.Core.Bool.{Bool, true, false, cond, false≢true}
 use mathlib.Core.List.{List, [], ◌∷◌, ◌++◌, map, append_assoc}
@@ -9,7 +10,6 @@ use native.Mathlib.Omega.{arith}
 use borrow.Author.Tests.{le-leb, eqb-true}
 use lib.Dec.{leb}
 use lib.ListN.{length, set, take, drop, replicate, length-append}
-use Rattle.error.specs.Result.{ok}
 use Rattle.laws.specs.InnerForall.{Forall₂, nil, cons}
 use Rattle.laws.proofs.Parts.{part_at}
 use Rattle.bit_utils.specs.Bits.{bytes_for, unpack_bits}
@@ -294,28 +294,28 @@ values_narrow sort (cons {b = some (v, x)} {ys = es} q f) at h =
 -- ---- and they are stored as the sheet's cells
 
 stored_in_lem : (i : ℕ) (t : DataType) (v : DataValue) (area b : List ℕ) → matches t v ≡ true → in_area (length area) (range_of v) ≡ true → suits t v (text_of area v) ≡ true → stored_form t v (text_of area v) ≡ b
-    → stored_in i t v area ≡ ok b
+    → stored_in i t v area ≡ Ok b
 stored_in_lem i t v area b m h s e = rw (m, h, s, e)
 
-cell_in_lem : (i : ℕ) (t : DataType) (v : DataValue) (area b : List ℕ) → is_null v ≡ false → stored_in i t v area ≡ ok b → cell_in i t v area ≡ ok (some b)
+cell_in_lem : (i : ℕ) (t : DataType) (v : DataValue) (area b : List ℕ) → is_null v ≡ false → stored_in i t v area ≡ Ok b → cell_in i t v area ≡ Ok (some b)
 cell_in_lem i t v area b n e = rw (n, e)
 
-entry_in : (i : ℕ) (t : DataType) (v : DataValue) (us x vs : List ℕ) (at : ℕ) → length us ≡ at → Suitable t v x → cell_in i t (moved at (length x) v) (us ++ (x ++ vs)) ≡ ok (some (stored_form t v x))
+entry_in : (i : ℕ) (t : DataType) (v : DataValue) (us x vs : List ℕ) (at : ℕ) → length us ≡ at → Suitable t v x → cell_in i t (moved at (length x) v) (us ++ (x ++ vs)) ≡ Ok (some (stored_form t v x))
 entry_in i t v us x vs at e q =
     let m = moving v at (length x) in
     let p = placing us x vs at e v (spelt_of q) in
     cell_in_lem i t (moved at (length x) v) (us ++ (x ++ vs)) (stored_form t v x) (m.seen t x (suit_of q))
     (stored_in_lem i t (moved at (length x) v) (us ++ (x ++ vs)) (stored_form t v x) (rw m.kind q.match) p.inside (rw (p.text, m.suit t x) (suit_of q)) (rw (p.text, m.form t x)))
 
-cells_in : {ts : List DataType} {es : List Entry} → Forall₂ SuitsEntry ts es → (i : ℕ) (us : List ℕ) (at : ℕ) → length us ≡ at → cells_from i ts (last_values at es) (us ++ texts es) ≡ ok (sheet_cells ts es)
+cells_in : {ts : List DataType} {es : List Entry} → Forall₂ SuitsEntry ts es → (i : ℕ) (us : List ℕ) (at : ℕ) → length us ≡ at → cells_from i ts (last_values at es) (us ++ texts es) ≡ Ok (sheet_cells ts es)
 cells_in nil i us at e = refl
 cells_in (cons {b = none} q f) i us at e = rw (cells_in f (i + 1) us at e)
 cells_in (cons {a = t} {b = some (v, x)} {xs = ts} {ys = es} q f) i us at e =
     let here = entry_in i t v us x (texts es) at e q in
     let next : length (us ++ x) ≡ at + length x = length-append us x ∙ ap (λ (m : ℕ). m + length x) e in
-    let rest : cells_from (i + 1) ts (last_values (at + length x) es) (us ++ (x ++ texts es)) ≡ ok (sheet_cells ts es)
+    let rest : cells_from (i + 1) ts (last_values (at + length x) es) (us ++ (x ++ texts es)) ≡ Ok (sheet_cells ts es)
     = ap (λ (l : List ℕ). cells_from (i + 1) ts (last_values (at + length x) es) l) (sym (append_assoc us x (texts es))) ∙ cells_in f (i + 1) (us ++ x) (at + length x) next in
     rw (here, rest)
 
-pub cells-read : {ts : List DataType} {es : List Entry} → Forall₂ SuitsEntry ts es → cells_from 0 ts (last_values 0 es) (texts es) ≡ ok (sheet_cells ts es)
+pub cells-read : {ts : List DataType} {es : List Entry} → Forall₂ SuitsEntry ts es → cells_from 0 ts (last_values 0 es) (texts es) ≡ Ok (sheet_cells ts es)
 cells-read f = cells_in f 0 [] 0 refl

@@ -1,4 +1,6 @@
 -- What a history keeps: the row in the buffer is laid out of the sheet's cells.
+use Rattle.error.specs.Result.{Result}
+use Rattle.std.specs.Prelude.{Err, Ok, Some}
 use Prim.Native.Nat.{ℕ, ◌+◌, ◌≤◌, ◌<◌}
 use mathlib.Core.Bool.{Bool, true, false, cond}
 use mathlib.Core.List.{List, [], ◌∷◌, map}
@@ -14,10 +16,7 @@ use Rattle.laws.specs.InnerForall.{Forall₂}
 use Rattle.laws.proofs.Maps.{at_map}
 use Rattle.laws.proofs.Stores.{sets-start}
 use Rattle.error.specs.declared.Refusal.TheVariants.{NoSuchColumn, NoRoom}
-use Rattle.error.specs.declared.Answer.{Answer}
-use Rattle.error.specs.declared.Answer.TheVariants.{Done, Refused}
 use Rattle.error.specs.Answer.{Outcome, unchanged, placed, placed_both}
-use Rattle.error.specs.Result.{ok}
 use Rattle.row_format.specs.declared.Shape.{Shape}
 use Rattle.row_format.specs.declared.Shape.TheVariants.{Varlen}
 use Rattle.row_format.specs.Places.{varlens, minimum, offset_width, row_limit}
@@ -43,12 +42,10 @@ use Rattle.datatype.specs.Check.{type_at}
 use Rattle.value.specs.Ranges.{text_of}
 use Rattle.value_list.specs.Lists.{values_of, list_of}
 use Rattle.value_list.proofs.Lists.{list-checked}
-use Rattle.row_sound.specs.declared.Soundness.TheVariants.{Sound}
 use Rattle.row_sound.specs.Sound.{soundness}
 use Rattle.row_sound.proofs.Rows.{row_told_lem, cells-row}
 use Rattle.row_build.specs.Build.{cells_points, build_call, fresh_row, fresh_call}
 use Rattle.row_build.proofs.Schemas.{schema-minimum, schema-few}
-use Rattle.row_column.specs.declared.Frame.TheVariants as Frame
 use Rattle.row_column.specs.Frame.{on_frame}
 use Rattle.row_edit.specs.Edit.{opened, edited, row_stored, given}
 use Rattle.row_edit.specs.Edit as Edit
@@ -136,7 +133,7 @@ module _ (sort : Bool) (ts : List DataType) where
 
 -- ---- the calls
 
-module _ (sort : Bool) (schema : List ℕ) (ts : List DataType) (columns : schema_of sort schema ≡ ok ts) where
+module _ (sort : Bool) (schema : List ℕ) (ts : List DataType) (columns : schema_of sort schema ≡ Ok ts) where
   abbrev pub Keeps : State → List Entry → Type 0
   Keeps s es = Kept sort ts s.buf s.row-length es
 
@@ -148,7 +145,7 @@ module _ (sort : Bool) (schema : List ℕ) (ts : List DataType) (columns : schem
     n = s.row-length
 
     -- the row is sound and packed, so nothing but 9 comes before a call's own conditions
-    pub kept-sound : soundness sort ts (take n buf) ≡ Sound true
+    pub kept-sound : soundness sort ts (take n buf) ≡ Some true
     kept-sound =
         let short = k.short in
         let long = kept-length sort ts k in
@@ -163,7 +160,7 @@ module _ (sort : Bool) (schema : List ℕ) (ts : List DataType) (columns : schem
     pub open_kept : (i : ℕ) (f : List DataType → Bool → Outcome) → opened sort schema buf n i f ≡ cond (leb (length ts) i) (unchanged buf NoSuchColumn) (f ts true)
     open_kept i f = rw (columns, le-ltb (length buf) n k.room, kept-sound) (by_column (leb (length ts) i))
       where
-        by_column : (t : Bool) → on_frame (cond t (Frame.Refused NoSuchColumn) (Frame.Good true)) (unchanged buf) (f ts) ≡ cond t (unchanged buf NoSuchColumn) (f ts true)
+        by_column : (t : Bool) → on_frame (cond t (Err NoSuchColumn) (Ok true)) (unchanged buf) (f ts) ≡ cond t (unchanged buf NoSuchColumn) (f ts true)
         by_column true = refl
         by_column false = refl
 
@@ -193,7 +190,7 @@ module _ (sort : Bool) (schema : List ℕ) (ts : List DataType) (columns : schem
         (column_ends (length ts) i _ λ h. let le = null-le sort ts k i h in written r refl (set-kept sort ts k i h none tt r refl (omega arith) (omega arith)))
 
     -- a refused call changes nothing, and an accepted one puts its entry down
-    of_ends : (c : Call) (P : List ℕ → Type 0) (o : Outcome) → ((r : List ℕ) → P r → Keeps (next (row_stored buf r) s) (noted (Done (length r)) c es)) → Ends buf P o → Keeps (next o s) (noted o.0 c es)
+    of_ends : (c : Call) (P : List ℕ → Type 0) (o : Outcome) → ((r : List ℕ) → P r → Keeps (next (row_stored buf r) s) (noted (Ok (length r)) c es)) → Ends buf P o → Keeps (next o s) (noted o.0 c es)
     of_ends c P o f (refusal e q) = subst (λ x. Keeps (next x s) (noted x.0 c es)) (sym q) k
     of_ends c P o f (written r q p) = subst (λ x. Keeps (next x s) (noted x.0 c es)) (sym q) (f r p)
 
@@ -211,9 +208,9 @@ module _ (sort : Bool) (schema : List ℕ) (ts : List DataType) (columns : schem
   abbrev blank : List Entry
   blank = replicate (length ts) none
 
-  abbrev IsDone : Answer → Type 0
-  IsDone (Done m) = Unit {0}
-  IsDone (Refused e) = ⊥
+  abbrev IsDone : Result ℕ → Type 0
+  IsDone (Ok m) = Unit {0}
+  IsDone (Err e) = ⊥
 
   fresh_kept : (out : List ℕ) → length (fresh_row sort ts) ≤ length out → Kept sort ts (sets out 0 (fresh_row sort ts)) (length (fresh_row sort ts)) blank
   fresh_kept out room =
@@ -234,13 +231,13 @@ module _ (sort : Bool) (schema : List ℕ) (ts : List DataType) (columns : schem
       fits_blank : Forall₂ FitsCell (map shape_of ts) (sheet_cells ts blank)
       fits_blank = cells_suit (blank_suits ts)
 
-  pub keeps_start : (out : List ℕ) (s : State) → fresh_call sort schema out ≡ (Done s.row-length, s.buf) → Keeps s blank
+  pub keeps_start : (out : List ℕ) (s : State) → fresh_call sort schema out ≡ (Ok s.row-length, s.buf) → Keeps s blank
   keeps_start out s e = of_test (ltb (length out) (length (fresh_row sort ts))) refl (sym on_columns ∙ e)
     where
       on_columns : fresh_call sort schema out ≡ placed out (fresh_row sort ts)
       on_columns = rw columns
 
-      of_test : (t : Bool) → ltb (length out) (length (fresh_row sort ts)) ≡ t → cond t (unchanged out NoRoom) (row_stored out (fresh_row sort ts)) ≡ (Done s.row-length, s.buf) → Keeps s blank
+      of_test : (t : Bool) → ltb (length out) (length (fresh_row sort ts)) ≡ t → cond t (unchanged out NoRoom) (row_stored out (fresh_row sort ts)) ≡ (Ok s.row-length, s.buf) → Keeps s blank
       of_test true h q = absurd (subst (λ (o : Outcome). IsDone o.0) (sym q) tt)
       of_test false h q =
           subst (λ (o : Outcome). Kept sort ts o.1 (handed_back o.0 0) blank) q (fresh_kept out (ltb-false (length out) (length (fresh_row sort ts)) h))

@@ -1,4 +1,6 @@
 -- One accepted edit: what a read of all columns gives before and after it.
+use Rattle.error.specs.Result.{Result}
+use Rattle.std.specs.Prelude.{Err, Ok}
 use Prim.Native.Nat.{ℕ, ◌+◌, ◌≤◌, ◌<◌}
 use mathlib.Core.Path.{◌≡◌, refl, sym, ap, ◌∙◌, subst}
 use mathlib.Core.Bool.{Bool}
@@ -10,10 +12,7 @@ use lib.Seq.{ext_get_or, get_or-set_same, get_or-set_other, length-take-le, take
 use Rattle.laws.proofs.Bytes.{Below, AllBytes, all-below, below-take}
 use Rattle.laws.proofs.Stores.{sets-start}
 use Rattle.laws.proofs.Truths.{same_or}
-use Rattle.error.specs.declared.Answer.{Answer}
-use Rattle.error.specs.declared.Answer.TheVariants.{Done, Refused}
 use Rattle.error.specs.Answer.{Outcome}
-use Rattle.error.specs.Result.{ok}
 use Rattle.row_format.specs.Places.{offset_width, row_limit}
 use Rattle.row_format.specs.Table.{Cell}
 use Rattle.row_format.specs.Header.{is_long}
@@ -42,7 +41,7 @@ use Rattle.history.proofs.Reading.{row_values, reads_all, length-contents, conte
 record Went (sort : Bool) (schema : List ℕ) (c : Call) (s : State) (r : List ℕ) : Type 0 where
   held : s.row-length ≤ length s.buf
   columns : List DataType
-  schema-good : schema_of sort schema ≡ ok columns
+  schema-good : schema_of sort schema ≡ Ok columns
   packed : Bool
   sound : SoundRow sort columns packed (row_of s)
   inside : column_of c < length columns
@@ -166,17 +165,17 @@ module _ {schema : List ℕ} {c : Call} {s : State} {r : List ℕ} (w : Went (so
 
 -- ---- the call
 
-abbrev IsDone : Answer → Type 0
-IsDone (Done m) = Unit {0}
-IsDone (Refused e) = ⊥
+abbrev IsDone : Result ℕ → Type 0
+IsDone (Ok m) = Unit {0}
+IsDone (Err e) = ⊥
 
-pub edits : {schema : List ℕ} (c : Call) → OfBytes c → {old new : State} → AllBytes old.buf → called schema c old ≡ (Done new.row-length, new.buf) → Edits schema c old new
+pub edits : {schema : List ℕ} (c : Call) → OfBytes c → {old new : State} → AllBytes old.buf → called schema c old ≡ (Ok new.row-length, new.buf) → Edits schema c old new
 edits {schema} c of {old} {new} bytes done = by_end (went schema old c of)
   where
     by_end : Ends old.buf (Went (sort_of old) schema c old) (called schema c old) → Edits schema c old new
     by_end (refusal e q) = absurd (subst (λ (o : Outcome). IsDone o.0) (sym done ∙ q) tt)
     by_end (written r q w) =
-        let same : row_stored old.buf r ≡ (Done new.row-length, new.buf) = sym q ∙ done in
+        let same : row_stored old.buf r ≡ (Ok new.row-length, new.buf) = sym q ∙ done in
         let size : length r ≡ new.row-length = ap (λ (o : Outcome). handed_back o.0 0) same in
         let whole : r ++ drop (length r) old.buf ≡ new.buf = sym (sets-start old.buf r w.room) ∙ ap (λ (o : Outcome). o.1) same in
         let row : r ≡ row_of new = rw (← size, ← whole) (sym (take-append_seam r (drop (length r) old.buf))) in

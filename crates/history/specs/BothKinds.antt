@@ -1,8 +1,7 @@
 -- FORMAT 2.2, 9.1. 02, request 3: "histories of edits may contain both kinds". Each kind takes a text and refuses one.
-use Rattle.std.specs.Prelude.{ℕ, true, false, List, [], ◌∷◌, ◌++◌, ◌≡◌}
+use Rattle.std.specs.Prelude.{ℕ, true, false, List, [], ◌∷◌, ◌++◌, ◌≡◌, Err, Ok}
 use Rattle.std.proofs.Math.Option.{none, some}
 use Rattle.error.specs.declared.Refusal.TheVariants.{Unsuitable}
-use Rattle.error.specs.declared.Answer.TheVariants.{Done, Refused}
 use Rattle.datatype.specs.declared.DataType.{DataType}
 use Rattle.datatype.specs.declared.DataType.TheVariants as T
 use Rattle.value.specs.declared.DataValue.TheVariants as D
@@ -34,7 +33,7 @@ pub record BothKinds : Type 0 where
   -- these calls are a history: all that `History` asks is met
   pub history : History false schema columns
   pub these : history.calls ≡ edits
-  pub answers-given : replies history ≡ Done 20 ∷ Refused (Unsuitable 1) ∷ Refused (Unsuitable 0) ∷ Done 22 ∷ []
+  pub answers-given : replies history ≡ Ok 20 ∷ Err (Unsuitable 1) ∷ Err (Unsuitable 0) ∷ Ok 22 ∷ []
   pub leaves : left history
       ≡ record {
         buf =

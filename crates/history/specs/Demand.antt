@@ -1,15 +1,13 @@
 -- Demand 3, and 01, "Histories of edits": "Demand 3 is one claim about the whole list, not one for each call."
 -- FORMAT 9.3, 9.4.
-use Rattle.std.specs.Prelude.{ℕ, ◌+◌, ◌<◌, ◌≤◌, Bool, true, List, [], ◌∷◌, map, ◌↔◌, ◌≡◌, length, get_or, replicate}
+use Rattle.error.specs.Result.{Result}
+use Rattle.std.specs.Prelude.{ℕ, ◌+◌, ◌<◌, ◌≤◌, Bool, true, List, [], ◌∷◌, map, ◌↔◌, ◌≡◌, length, get_or, replicate, Err, Ok, Some}
 use Rattle.std.proofs.Math.Option.{none, some}
 use Rattle.std.specs.Int.{w8}
 use Rattle.std.proofs.Common.{Fits}
 use Rattle.error.specs.declared.Refusal.{Refusal}
 use Rattle.error.specs.declared.Refusal.TheVariants.{NoSuchColumn}
-use Rattle.error.specs.declared.Answer.{Answer}
-use Rattle.error.specs.declared.Answer.TheVariants.{Done}
 use Rattle.error.specs.Answer.{unchanged, placed_both}
-use Rattle.error.specs.Result.{ok, refused}
 use Rattle.row_format.specs.Places.{offset_width, minimum}
 use Rattle.row_format.specs.Table.{Cell, payloads}
 use Rattle.row_format.specs.Row.{varlen_cells}
@@ -20,7 +18,6 @@ use Rattle.datatype.specs.Types.{shape_of}
 use Rattle.datatype.specs.Schema.{schema_of}
 use Rattle.datatype.specs.Check.{type_at}
 use Rattle.value_list.specs.Lists.{list_of}
-use Rattle.row_sound.specs.declared.Soundness.TheVariants.{Sound}
 use Rattle.row_sound.specs.Sound.{soundness}
 use Rattle.row_build.specs.Build.{row_placed, cells_points, build_call, fresh_call}
 use Rattle.row_edit.specs.Edit.{row_stored, given}
@@ -39,13 +36,13 @@ AllOfBytes [] = Unit {0}
 AllOfBytes (c ∷ cs) = OfBytes c × AllOfBytes cs
 
 -- "A history starts where fresh answers 0": `out` is what fresh was lent, `start` what it left and handed back. "a
--- list of set and set null calls, refused ones included": any calls. 02, request 5: "The caller chooses short or long
+-- list of set and set null calls, Err ones included": any calls. 02, request 5: "The caller chooses short or long
 -- when a row is made", here by `sort`; each call goes by the row's own mark.
 pub record History (sort : Bool) (schema : List ℕ) (ts : List DataType) : Type 0 where
-  pub columns : schema_of sort schema ≡ ok ts
+  pub columns : schema_of sort schema ≡ Ok ts
   pub out : List ℕ
   pub start : State
-  pub fresh : fresh_call sort schema out ≡ (Done start.row-length, start.buf)
+  pub fresh : fresh_call sort schema out ≡ (Ok start.row-length, start.buf)
   pub calls : List Call
   pub bytes : AllOfBytes calls
 
@@ -62,7 +59,7 @@ module _ {sort : Bool} {schema : List ℕ} {ts : List DataType} (h : History sor
   zeroed = zeroed_row (offset_width sort) (map shape_of ts) row
 
   -- what its calls answer
-  abbrev pub replies : List Answer
+  abbrev pub replies : List (Result ℕ)
   replies = answers schema h.calls h.start
 
   -- the sheet, by the calls and those answers: "one entry a column, all null at first"; and "the same stored form, or
@@ -74,16 +71,16 @@ module _ {sort : Bool} {schema : List ℕ} {ts : List DataType} (h : History sor
   cells = sheet_cells ts sheet
 
   -- ---- No history ends in a row that refuses every edit: the row left is sound, so a set of a column that is there,
-  -- with a value that passes 10, 11 and 12, is refused by nothing but 13 and 14 for the row it makes, and a set null
-  -- of such a column by nothing. The other calls are refused by 9, or by what is wrong with the value. So no call of a
+  -- with a value that passes 10, 11 and 12, is Err by nothing but 13 and 14 for the row it makes, and a set null
+  -- of such a column by nothing. The other calls are Err by 9, or by what is wrong with the value. So no call of a
   -- history answers 1, 2, 15, or 14 for the row length.
   pub record Accepts : Type 0 where
-    pub sound : soundness sort ts row ≡ Sound true
-    pub set : (i : ℕ) (list area b : List ℕ) → i < length ts → given sort (type_at ts i) i list area ≡ ok b
+    pub sound : soundness sort ts row ≡ Some true
+    pub set : (i : ℕ) (list area b : List ℕ) → i < length ts → given sort (type_at ts i) i list area ≡ Ok b
         → called schema (set_value i list area) left
         ≡ row_placed sort left.buf (edited_row (offset_width sort) true (map shape_of ts) i (some b) row)
     pub bad_value : (i : ℕ) (list area : List ℕ) {e : Refusal} → i < length ts
-        → given sort (type_at ts i) i list area ≡ refused e
+        → given sort (type_at ts i) i list area ≡ Err e
         → called schema (set_value i list area) left ≡ unchanged left.buf e
     pub no_column : (i : ℕ) (list area : List ℕ) → length ts ≤ i
         → called schema (set_value i list area) left ≡ unchanged left.buf NoSuchColumn

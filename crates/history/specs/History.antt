@@ -1,11 +1,9 @@
--- FORMAT 9.1, 9.2. Demand 3, and 01, "Histories of edits": lists of set and set null calls, refused ones included, from
+-- FORMAT 9.1, 9.2. Demand 3, and 01, "Histories of edits": lists of set and set null calls, Err ones included, from
 -- a fresh row of a schema.
-use Rattle.std.specs.Prelude.{ℕ, ◌+◌, Bool, List, [], ◌∷◌, ◌++◌, length, get_or, set, take}
+use Rattle.error.specs.Result.{Result}
+use Rattle.std.specs.Prelude.{ℕ, ◌+◌, Bool, List, [], ◌∷◌, ◌++◌, length, get_or, set, take, Err, Ok}
 use Rattle.std.proofs.Math.Option.{Option, none, some}
-use Rattle.error.specs.declared.Answer.{Answer}
-use Rattle.error.specs.declared.Answer.TheVariants.{Done, Refused}
 use Rattle.error.specs.Answer.{Outcome}
-use Rattle.error.specs.Result.{ok, refused}
 use Rattle.row_format.specs.Table.{Cell}
 use Rattle.row_format.specs.Header.{sort_in}
 use Rattle.datatype.specs.declared.DataType.{DataType}
@@ -42,9 +40,9 @@ called schema (set_value i list area) s = set_call schema s.buf s.row-length i l
 called schema (set_null i) s = set_null_call schema s.buf s.row-length i
 
 -- "accepted means answered 0"
-abbrev pub handed_back : Answer → ℕ → ℕ
-handed_back (Done m) n = m
-handed_back (Refused e) n = n
+abbrev pub handed_back : Result ℕ → ℕ → ℕ
+handed_back (Ok m) n = m
+handed_back (Err e) n = n
 
 -- "each call gets the row and the length that the one before left"
 abbrev pub next : Outcome → State → State
@@ -56,20 +54,20 @@ abbrev pub Entry : Type 0
 Entry = Option (DataValue × List ℕ)
 
 abbrev pub one_value : Values → DataValue
-one_value (ok vs) = get_or vs 0 D.Null
-one_value (refused e) = D.Null
+one_value (Ok vs) = get_or vs 0 D.Null
+one_value (Err e) = D.Null
 
 -- "An accepted set puts its value, with the bytes of its text range, in its column's entry. An accepted set null puts
--- null there. A refused call changes no entry."
-abbrev pub noted : Answer → Call → List Entry → List Entry
-noted (Refused e) c sheet = sheet
-noted (Done m) (set_value i list area) sheet =
+-- null there. A Err call changes no entry."
+abbrev pub noted : Result ℕ → Call → List Entry → List Entry
+noted (Err e) c sheet = sheet
+noted (Ok m) (set_value i list area) sheet =
     set sheet i (some (one_value (values_of list), text_of area (one_value (values_of list))))
-noted (Done m) (set_null i) sheet = set sheet i none
+noted (Ok m) (set_null i) sheet = set sheet i none
 
 -- "fed the schema and each call's column, value list, text area and answer, never the row": the calls, with their
 -- answers, put down on a sheet
-abbrev pub sheet_by : List Call → List Answer → List Entry → List Entry
+abbrev pub sheet_by : List Call → List (Result ℕ) → List Entry → List Entry
 sheet_by [] as' sheet = sheet
 sheet_by (c ∷ cs) [] sheet = sheet
 sheet_by (c ∷ cs) (a ∷ as') sheet = sheet_by cs as' (noted a c sheet)
@@ -80,7 +78,7 @@ abbrev pub run : List ℕ → List Call → State → State
 run schema [] s = s
 run schema (c ∷ cs) s = run schema cs (next (called schema c s) s)
 
-abbrev pub answers : List ℕ → List Call → State → List Answer
+abbrev pub answers : List ℕ → List Call → State → List (Result ℕ)
 answers schema [] s = []
 answers schema (c ∷ cs) s = (called schema c s).0 ∷ answers schema cs (next (called schema c s) s)
 

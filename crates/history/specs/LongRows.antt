@@ -1,8 +1,7 @@
 -- FORMAT 3.11, 4.6, 9.1. 02, request 5: a history of long rows on S, "with the last accepted texts of a long row in
 -- kinds 17, 18 and 19".
-use Rattle.std.specs.Prelude.{true, List, [], ◌∷◌, ◌≡◌, replicate}
+use Rattle.std.specs.Prelude.{true, List, [], ◌∷◌, ◌≡◌, replicate, Err, Ok}
 use Rattle.error.specs.declared.Refusal.TheVariants.{WrongKind, Unsuitable}
-use Rattle.error.specs.declared.Answer.TheVariants.{Done, Refused}
 use Rattle.value_list.specs.Lists.{list_of}
 use Rattle.history.specs.History.{Call, set_value, last_values, texts}
 use Rattle.history.specs.Demand.{History, left, replies, sheet}
@@ -22,7 +21,7 @@ pub record LongRows : Type 0 where
   -- these calls are a history of long rows: all that `History` asks is met
   pub history : History true S columns_s
   pub these : history.calls ≡ edits
-  pub answers-given : replies history ≡ Done 15 ∷ Done 17 ∷ Refused (Unsuitable 1) ∷ Refused (WrongKind 2) ∷ []
+  pub answers-given : replies history ≡ Ok 15 ∷ Ok 17 ∷ Err (Unsuitable 1) ∷ Err (WrongKind 2) ∷ []
   pub leaves : left history
       ≡ record {
         buf =

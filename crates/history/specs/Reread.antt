@@ -1,8 +1,7 @@
 -- 01, "Read" and "Editing", for one set or set null that answers 0: a read of all columns gives the new value in its
 -- column and what it gave before in every other, a text compared by the bytes of its range. FORMAT 8.4, 8.5.
-use Rattle.std.specs.Prelude.{ℕ, ◌+◌, ◌<◌, Bool, true, List, map, ◌≡◌, length, drop, set}
+use Rattle.std.specs.Prelude.{ℕ, ◌+◌, ◌<◌, Bool, true, List, map, ◌≡◌, length, drop, set, Ok}
 use Rattle.error.specs.Answer.{placed_both}
-use Rattle.error.specs.Result.{ok}
 use Rattle.row_format.specs.Places.{offset_width}
 use Rattle.row_format.specs.Header.{is_long}
 use Rattle.datatype.specs.declared.DataType.{DataType}
@@ -12,7 +11,6 @@ use Rattle.value.specs.declared.DataValue.{DataValue}
 use Rattle.value.specs.Ranges.{text_of}
 use Rattle.value_list.specs.Lists.{values_of, list_of}
 use Rattle.stored_form.specs.Points.{points_in}
-use Rattle.row_column.specs.declared.ColumnRead.TheVariants.{Value}
 use Rattle.row_decode.specs.Read.{is_wanted, read_call}
 use Rattle.row_sound.specs.Sound.{SoundRow}
 use Rattle.row_sound.specs.Reread.{Content, content, null_content, value_content, payload_of, length_in}
@@ -38,7 +36,7 @@ pub record ReadsAll (schema : List ℕ) (n : ℕ) (row : List ℕ) (vs : List Da
 
 -- what they are, wherever their texts stand
 abbrev pub contents : List ℕ → List DataValue → List Content
-contents row vs = map (λ (v : DataValue). content row (Value v)) vs
+contents row vs = map (λ (v : DataValue). content row (Ok v)) vs
 
 -- a call on a row of a sort that got `old` and left `new`, a row of that sort
 pub record Edits (schema : List ℕ) (c : Call) (old new : State) : Type 0 where
@@ -46,7 +44,7 @@ pub record Edits (schema : List ℕ) (c : Call) (old new : State) : Type 0 where
   pub old_sort : sort_of old ≡ sort
   pub new_sort : sort_of new ≡ sort
   pub columns : List DataType
-  pub schema-good : schema_of sort schema ≡ ok columns
+  pub schema-good : schema_of sort schema ≡ Ok columns
   pub inside : column_of c < length columns
   pub old_values : List DataValue
   pub new_values : List DataValue

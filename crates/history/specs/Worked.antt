@@ -1,10 +1,9 @@
 -- FORMAT 9.1, 9.3. 01, "Histories of edits": "On S, setting column 0 to 1 and column 1 to "AB" leaves 1, "AB", null:
--- row 2, of 13 + 2 bytes; cases 3 and 4 go on from there." Refused calls come between.
-use Rattle.std.specs.Prelude.{ℕ, false, List, [], ◌∷◌, ◌++◌, ◌≡◌, pos, replicate}
+-- row 2, of 13 + 2 bytes; cases 3 and 4 go on from there." Err calls come between.
+use Rattle.error.specs.Result.{Result}
+use Rattle.std.specs.Prelude.{ℕ, false, List, [], ◌∷◌, ◌++◌, ◌≡◌, pos, replicate, Err, Ok}
 use Rattle.std.proofs.Math.Option.{none, some}
 use Rattle.error.specs.declared.Refusal.TheVariants.{NoSuchColumn, Unsuitable}
-use Rattle.error.specs.declared.Answer.{Answer}
-use Rattle.error.specs.declared.Answer.TheVariants.{Done, Refused}
 use Rattle.datatype.specs.declared.DataType.{DataType}
 use Rattle.datatype.specs.declared.DataType.TheVariants as T
 use Rattle.value.specs.declared.DataValue.TheVariants as D
@@ -38,8 +37,8 @@ edits =
     ∷ set_value 1 (9 ∷ 1 ∷ 0 ∷ 2 ∷ 0 ∷ []) (0x40 ∷ 0x41 ∷ 0x42 ∷ [])
     ∷ []
 
-abbrev pub answered : List Answer
-answered = Done 13 ∷ Refused (Unsuitable 1) ∷ Refused NoSuchColumn ∷ Done 15 ∷ []
+abbrev pub answered : List (Result ℕ)
+answered = Ok 13 ∷ Err (Unsuitable 1) ∷ Err NoSuchColumn ∷ Ok 15 ∷ []
 
 abbrev pub row2 : State
 row2 =
@@ -53,7 +52,7 @@ after more = run S (edits ++ more) start
 
 pub record Worked : Type 0 where
   -- 1
-  pub fresh : fresh_call false S lent ≡ (Done 13, start.buf)
+  pub fresh : fresh_call false S lent ≡ (Ok 13, start.buf)
   -- these calls are a history on S: all that `History` asks is met
   pub history : History false S columns_s
   pub from_start : history.start ≡ start

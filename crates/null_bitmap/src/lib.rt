@@ -7,14 +7,8 @@ ghost use Rattle.row_format.specs.Places.{bitmap_start};
 ghost use Rattle.null_bitmap.specs.Bitmap.{null_flag};
 ghost use Rattle.null_bitmap.specs.InnerBitmap.{flag_in, flag_put};
 
-use error::{Flag, Refusal};
+use error::Refusal;
 use row_layout::RowLayout;
-
-#[derive(Clone, Copy)]
-pub enum BitAnswer {
-    Done,
-    Refused(Refusal),
-}
 
 // The byte b with bit k set or cleared.
 fn put_bit(b: u8, k: usize, set: bool) -> u8
@@ -45,62 +39,62 @@ pub fn column_bit_is_set(row: &[u8], i: usize) -> bool
 }
 
 // Whether column i of n is null.
-pub fn is_null(bits: &[u8], n: usize, i: usize) -> Flag
+pub fn is_null(bits: &[u8], n: usize, i: usize) -> error::Result<bool>
     ensures { result ≡ flag_in n i bits.now }
 {
     if n <= i {
-        return Flag::Refused(Refusal::NoSuchColumn);
+        return Err(Refusal::NoSuchColumn);
     }
     if bits.len() <= i / 8 {
-        return Flag::Refused(Refusal::NoSuchColumn);
+        return Err(Refusal::NoSuchColumn);
     }
-    Flag::Is(bit_is_set(bits, i))
+    Ok(bit_is_set(bits, i))
 }
 
 // Column i of n marked null, or not null.
-fn put_null(bits: &mut [u8], n: usize, i: usize, null: bool) -> BitAnswer
+fn put_null(bits: &mut [u8], n: usize, i: usize, null: bool) -> error::Result<()>
     ensures { (result, bits.new) ≡ flag_put (bit_value null) n i bits.old }
 {
     if n <= i {
-        return BitAnswer::Refused(Refusal::NoSuchColumn);
+        return Err(Refusal::NoSuchColumn);
     }
     if bits.len() <= i / 8 {
-        return BitAnswer::Refused(Refusal::NoSuchColumn);
+        return Err(Refusal::NoSuchColumn);
     }
     bits[i / 8] = put_bit(bits[i / 8], i % 8, null);
-    BitAnswer::Done
+    Ok(())
 }
 
-pub fn set_null(bits: &mut [u8], n: usize, i: usize) -> BitAnswer
+pub fn set_null(bits: &mut [u8], n: usize, i: usize) -> error::Result<()>
     ensures { (result, bits.new) ≡ flag_put 1 n i bits.old }
 {
     put_null(bits, n, i, true)
 }
 
-pub fn clear_null(bits: &mut [u8], n: usize, i: usize) -> BitAnswer
+pub fn clear_null(bits: &mut [u8], n: usize, i: usize) -> error::Result<()>
     ensures { (result, bits.new) ≡ flag_put 0 n i bits.old }
 {
     put_null(bits, n, i, false)
 }
 
 // Whether a column of a row is null, by the row's own mark, header and bitmap.
-pub fn is_column_null_in_row(row: &[u8], column: usize) -> Flag
+pub fn is_column_null_in_row(row: &[u8], column: usize) -> error::Result<bool>
     ensures { result ≡ null_flag row.now column }
 {
     let is_long = row_layout::is_long(row);
     if row_layout::row_limit(is_long) < row.len() {
-        return Flag::Refused(Refusal::RowTooLong);
+        return Err(Refusal::RowTooLong);
     }
     let bitmap = RowLayout::bitmap_offset();
     if row.len() < bitmap {
-        return Flag::Refused(Refusal::RowTooShort);
+        return Err(Refusal::RowTooShort);
     }
     let n = endian::read_u16(row, 0) as usize;
     if n <= column {
-        return Flag::Refused(Refusal::NoSuchColumn);
+        return Err(Refusal::NoSuchColumn);
     }
     if row.len() < bitmap + (n + 7) / 8 {
-        return Flag::Refused(Refusal::RowTooShort);
+        return Err(Refusal::RowTooShort);
     }
-    Flag::Is(column_bit_is_set(row, column))
+    Ok(column_bit_is_set(row, column))
 }

@@ -1,4 +1,6 @@
 -- Two texts by what follows the bytes that they have in common.
+use Rattle.std.specs.declared.cmp.Ordering.{Ordering}
+use Rattle.std.specs.declared.cmp.Ordering.TheVariants.{Equal, Greater, Less}
 use Prim.Native.Nat.{ℕ, zero, suc, ◌+◌, ◌-◌, ◌≤◌, ◌<◌}
 use mathlib.Core.Path.{◌≡◌, refl, sym, ap, ◌∙◌}
 use mathlib.Core.Bool.{Bool, true, false, cond}
@@ -10,10 +12,8 @@ use lib.ListN.{length, get_or, take, drop}
 use lib.Seq.{drop-cons}
 use lib.ListN.{drop_of_length-le}
 use borrow.Author.Tests.{eq-eqb, ne_eqb, lt-ltb, le-ltb}
-use Rattle.occupation.specs.declared.Comparison.TheVariants.{Less, Equal, Greater}
 use Rattle.occupation.specs.Occupation.{Occupation}
 use Rattle.occupation.specs.Order.{bytes_before, null_first, precedes}
-use Rattle.occupation.specs.declared.Comparison.{Comparison}
 use Rattle.occupation.specs.InnerFields.{spanned, moment_from}
 use Rattle.laws.proofs.Truths.{same_ltb}
 use Rattle.occupation.specs.InnerCompare.{Agree, comparison}
@@ -84,7 +84,7 @@ module _ {a b : List ℕ} {i : ℕ} (g : Agree a b i) where
 
 -- ---- platforms, null first
 
-abbrev pub both : Option (List ℕ) → Option (List ℕ) → Comparison
+abbrev pub both : Option (List ℕ) → Option (List ℕ) → Ordering
 both x y = comparison (null_first bytes_before x y) (null_first bytes_before y x)
 
 module _ (r r' : List ℕ) (s e s' e' : ℕ) where
@@ -104,7 +104,7 @@ module _ (r r' : List ℕ) (s e s' e' : ℕ) where
 
 -- ---- then arrivals
 
-abbrev pub decided : Comparison → Bool → Bool
+abbrev pub decided : Ordering → Bool → Bool
 decided Less t = true
 decided Greater t = false
 decided Equal t = t
@@ -114,7 +114,7 @@ decided_is true y t = refl
 decided_is false true t = refl
 decided_is false false t = refl
 
-pub by_both : (a b : Occupation) {c : Comparison} → c ≡ both a.platform b.platform → decided c (null_first ltb a.arrival b.arrival) ≡ precedes a b
+pub by_both : (a b : Occupation) {c : Ordering} → c ≡ both a.platform b.platform → decided c (null_first ltb a.arrival b.arrival) ≡ precedes a b
 by_both a b e =
     let t = null_first ltb a.arrival b.arrival in
     ap (λ c. decided c t) e ∙ decided_is (null_first bytes_before a.platform b.platform) (null_first bytes_before b.platform a.platform) t

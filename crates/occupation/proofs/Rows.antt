@@ -1,4 +1,6 @@
 -- A row read column after column is read as the definition reads it, and is read so again.
+use Rattle.std.specs.Prelude.{Err, Ok}
+use Rattle.value.specs.declared.DataValue.{DataValue}
 use Prim.Native.Nat.{ℕ, ◌-◌, ◌≤◌}
 use mathlib.Core.Path.{◌≡◌, refl, sym, ap, ◌∙◌, subst}
 use mathlib.Core.Bool.{Bool, true, false, cond, false≢true}
@@ -9,7 +11,7 @@ use lib.ListN.{length, take, drop}
 use Rattle.laws.proofs.Truths.{cases}
 use Rattle.error.specs.declared.Refusal.{Refusal}
 use Rattle.error.specs.declared.Refusal.TheVariants.{Unprintable}
-use Rattle.error.specs.Result.{Result, ok, refused, on_result}
+use Rattle.error.specs.Result.{Result, on_result}
 use Rattle.row_format.specs.Header.{is_long}
 use Rattle.row_format.specs.Places.{offset_width, varlens, minimum}
 use Rattle.row_layout.specs.declared.VarlenRange.{VarlenRange}
@@ -17,15 +19,10 @@ use Rattle.row_layout.specs.declared.VarlenRange.TheVariants.{Null, Bytes, Outsi
 use Rattle.row_layout.specs.InnerRange.{Inside}
 use Rattle.datatype.specs.Types.{shape_of}
 use Rattle.text.specs.Rfc3629.{is_text}
-use Rattle.row_column.specs.declared.ColumnRead.{ColumnRead}
-use Rattle.row_column.specs.declared.ColumnRead.TheVariants.{Value, Refused}
-use Rattle.row_column.specs.declared.Frame.{Frame}
 use Rattle.row_column.specs.Frame.{frame_of, on_frame}
 use Rattle.row_column.specs.Column.{column_value}
 use Rattle.row_column.proofs.Framing.{fine, same_good}
 use Rattle.row_decode.specs.Read.{on_column, read_from}
-use Rattle.occupation.specs.declared.MomentRead.{MomentRead}
-use Rattle.occupation.specs.declared.MomentRead.TheVariants as Moment
 use Rattle.occupation.specs.declared.Fields.{Fields}
 use Rattle.occupation.specs.Occupation.{Occupation, columns, occupation_of, has_unprintable, printable, occupation_as, occupation_in}
 use Rattle.occupation.specs.InnerFields.{moment_from, fields_shown, moment_limit, SpanIn, FieldsIn, is_good}
@@ -34,27 +31,27 @@ use Rattle.occupation.proofs.Reading.{text-null, text_outside, text-long, text-g
 
 -- ---- the columns one after the other
 
-by_columns : (r : List ℕ) (a b c d : ColumnRead) →
-    on_result (text_of_read r a) refused (λ platform. on_result (text_of_read r b) refused (λ unit.
-    on_result (moment_of_read c) refused (λ arrival. on_result (moment_of_read d) refused (λ departure.
+by_columns : (r : List ℕ) (a b c d : Result DataValue) →
+    on_result (text_of_read r a) Err (λ platform. on_result (text_of_read r b) Err (λ unit.
+    on_result (moment_of_read c) Err (λ arrival. on_result (moment_of_read d) Err (λ departure.
     printable (record { platform = platform; unit = unit; arrival = arrival; departure = departure })))))
-    ≡ on_result (on_column a (on_column b (on_column c (on_column d (ok []))))) refused (λ vs. printable (occupation_of r vs))
-by_columns r (Refused e) b c d = refl
-by_columns r (Value u) (Refused e) c d = refl
-by_columns r (Value u) (Value v) (Refused e) d = refl
-by_columns r (Value u) (Value v) (Value x) (Refused e) = refl
-by_columns r (Value u) (Value v) (Value x) (Value y) = refl
+    ≡ on_result (on_column a (on_column b (on_column c (on_column d (Ok []))))) Err (λ vs. printable (occupation_of r vs))
+by_columns r (Err e) b c d = refl
+by_columns r (Ok u) (Err e) c d = refl
+by_columns r (Ok u) (Ok v) (Err e) d = refl
+by_columns r (Ok u) (Ok v) (Ok x) (Err e) = refl
+by_columns r (Ok u) (Ok v) (Ok x) (Ok y) = refl
 
 -- a padded row has its slots where a packed one has them
 in_frame : (k : Bool) (r : List ℕ) (p : Bool) → with_platform k r
-    ≡ on_result (read_from (offset_width k) p columns (λ i. true) r 0 (length columns)) refused (λ vs. printable (occupation_of r vs))
+    ≡ on_result (read_from (offset_width k) p columns (λ i. true) r 0 (length columns)) Err (λ vs. printable (occupation_of r vs))
 in_frame false r true = by_columns r (column_value (offset_width false) true columns 0 r) (column_value (offset_width false) true columns 1 r) (column_value (offset_width false) true columns 2 r) (column_value (offset_width false) true columns 3 r)
 in_frame true r true = by_columns r (column_value (offset_width true) true columns 0 r) (column_value (offset_width true) true columns 1 r) (column_value (offset_width true) true columns 2 r) (column_value (offset_width true) true columns 3 r)
 in_frame false r false = by_columns r (column_value (offset_width false) false columns 0 r) (column_value (offset_width false) false columns 1 r) (column_value (offset_width false) false columns 2 r) (column_value (offset_width false) false columns 3 r)
 in_frame true r false = by_columns r (column_value (offset_width true) false columns 0 r) (column_value (offset_width true) false columns 1 r) (column_value (offset_width true) false columns 2 r) (column_value (offset_width true) false columns 3 r)
 
-pub by_frame : (k : Bool) (r : List ℕ) → on_frame (frame_of k columns r) refused (λ p. with_platform k r) ≡ occupation_as k r
-by_frame k r = same_good (frame_of k columns r) refused (λ p e. in_frame k r p)
+pub by_frame : (k : Bool) (r : List ℕ) → on_frame (frame_of k columns r) Err (λ p. with_platform k r) ≡ occupation_as k r
+by_frame k r = same_good (frame_of k columns r) Err (λ p e. in_frame k r p)
 
 least : (k p : Bool) → minimum (offset_width k) p (map shape_of columns) ≡ least_length k
 least false true = refl
@@ -62,16 +59,16 @@ least false false = refl
 least true true = refl
 least true false = refl
 
-pub long-enough : (k : Bool) (r : List ℕ) {p : Bool} → frame_of k columns r ≡ Frame.Good p → least_length k ≤ length r
+pub long-enough : (k : Bool) (r : List ℕ) {p : Bool} → frame_of k columns r ≡ Ok p → least_length k ≤ length r
 long-enough k r {p} e =
     let f = fine k (length columns) (varlens (map shape_of columns)) (λ q. minimum (offset_width k) q (map shape_of columns)) r e in
     omega (arith, f.long, least k p)
 
 -- ---- a row that can be printed
 
-good-frame : (k : Bool) (r : List ℕ) (f : Frame) → f ≡ frame_of k columns r → is_good (on_frame f refused (λ p. with_platform k r)) ≡ true → (least_length k ≤ length r) × (with_platform k r ≡ occupation_as k r)
-good-frame k r (Frame.Good p) e h = (long-enough k r (sym e), ap (λ (x : Frame). on_frame x refused (λ p. with_platform k r)) e ∙ by_frame k r)
-good-frame k r (Frame.Refused q) e h = absurd (false≢true h)
+good-frame : (k : Bool) (r : List ℕ) (f : Result Bool) → f ≡ frame_of k columns r → is_good (on_frame f Err (λ p. with_platform k r)) ≡ true → (least_length k ≤ length r) × (with_platform k r ≡ occupation_as k r)
+good-frame k r (Ok p) e h = (long-enough k r (sym e), ap (λ (x : Result Bool). on_frame x Err (λ p. with_platform k r)) e ∙ by_frame k r)
+good-frame k r (Err q) e h = absurd (false≢true h)
 
 pub good-row : (k : Bool) (r : List ℕ) → is_good (occupation_as k r) ≡ true → (least_length k ≤ length r) × (with_platform k r ≡ occupation_as k r)
 good-row k r h = good-frame k r (frame_of k columns r) refl (ap is_good (by_frame k r) ∙ h)
@@ -83,32 +80,32 @@ good-sort r e h = subst (λ (q : Bool). is_good (occupation_as q r) ≡ true) (s
 pub good_length : (r : List ℕ) {k : Bool} → k ≡ is_long r → is_good (occupation_in r) ≡ true → least_length k ≤ length r
 good_length r {k} e h = (good-row k r (good-sort r e h)).0
 
--- the first of two steps was not refused
-first_good : {A : Type 0} (x : Result A) (k : A → Result Occupation) → is_good (on_result x refused k) ≡ true → (a : A) × ((x ≡ ok a) × (is_good (k a) ≡ true))
-first_good (ok a) k h = (a, (refl, h))
-first_good (refused e) k h = absurd (false≢true h)
+-- the first of two steps was not Err
+first_good : {A : Type 0} (x : Result A) (k : A → Result Occupation) → is_good (on_result x Err k) ≡ true → (a : A) × ((x ≡ Ok a) × (is_good (k a) ≡ true))
+first_good (Ok a) k h = (a, (refl, h))
+first_good (Err e) k h = absurd (false≢true h)
 
-taken : {A : Type 0} {x : Result A} {a : A} {y : Result Occupation} (k : A → Result Occupation) → x ≡ ok a → k a ≡ y → on_result x refused k ≡ y
-taken k e f = ap (λ v. on_result v refused k) e ∙ f
+taken : {A : Type 0} {x : Result A} {a : A} {y : Result Occupation} (k : A → Result Occupation) → x ≡ Ok a → k a ≡ y → on_result x Err k ≡ y
+taken k e f = ap (λ v. on_result v Err k) e ∙ f
 
-not_refused : (o : Occupation) (s t : Bool) (e f : Refusal) → is_good (cond s (refused e) (cond t (refused f) (ok o))) ≡ true → cond s (refused e) (cond t (refused f) (ok o)) ≡ ok o
+not_refused : (o : Occupation) (s t : Bool) (e f : Refusal) → is_good (cond s (Err e) (cond t (Err f) (Ok o))) ≡ true → cond s (Err e) (cond t (Err f) (Ok o)) ≡ Ok o
 not_refused o true t e f h = absurd (false≢true h)
 not_refused o false true e f h = absurd (false≢true h)
 not_refused o false false e f h = refl
 
-printed : (o : Occupation) → is_good (printable o) ≡ true → printable o ≡ ok o
+printed : (o : Occupation) → is_good (printable o) ≡ true → printable o ≡ Ok o
 printed o h = not_refused o (has_unprintable o.platform) (has_unprintable o.unit) (Unprintable 0) (Unprintable 1) h
 
 -- ---- its fields again
 
 module _ (k : Bool) (n i : ℕ) (r : List ℕ) (w : Inside r (text_range_in k r i)) where
-  not_both : {A : Type 0} {e : Refusal} {t : Option (List ℕ)} → refused e ≡ text_column k n i r → text_column k n i r ≡ ok t → A
+  not_both : {A : Type 0} {e : Refusal} {t : Option (List ℕ)} → Err e ≡ text_column k n i r → text_column k n i r ≡ Ok t → A
   not_both p q = absurd (false≢true (ap is_good (p ∙ q)))
 
-  pub text_again : {t : Option (List ℕ)} → text_column k n i r ≡ ok t → (t ≡ shown_in r (span_of (text_range_in k r i))) × SpanIn (length r) n (span_of (text_range_in k r i)).start (span_of (text_range_in k r i)).end
+  pub text_again : {t : Option (List ℕ)} → text_column k n i r ≡ Ok t → (t ≡ shown_in r (span_of (text_range_in k r i))) × SpanIn (length r) n (span_of (text_range_in k r i)).start (span_of (text_range_in k r i)).end
   text_again {t} h = go (text_range_in k r i) refl
     where
-      same : {x y : Option (List ℕ)} → ok x ≡ ok y → y ≡ x
+      same : {x y : Option (List ℕ)} → ◌≡◌ {A = Result (Option (List ℕ))} (Ok x) (Ok y) → y ≡ x
       same e = sym cc
 
       go : (q : VarlenRange) → q ≡ text_range_in k r i → (t ≡ shown_in r (span_of q)) × SpanIn (length r) n (span_of q).start (span_of q).end
@@ -123,11 +120,11 @@ module _ (k : Bool) (n i : ℕ) (r : List ℕ) (w : Inside r (text_range_in k r 
           valid true f g = f refl
           valid false f g = g refl
 
-pub moment_again : (m : MomentRead) {t : Option ℕ} → moment_shown m ≡ ok t → MomentIn m → (t ≡ moment_from (count_of m)) × (count_of m ≤ moment_limit)
-moment_again (Moment.Good n) h w = (sym cc, w)
-moment_again (Moment.Refused e) h w = absurd (false≢true (ap is_good h))
+pub moment_again : (m : Result ℕ) {t : Option ℕ} → moment_shown m ≡ Ok t → MomentIn m → (t ≡ moment_from (count_of m)) × (count_of m ≤ moment_limit)
+moment_again (Ok n) h w = (sym cc, w)
+moment_again (Err e) h w = absurd (false≢true (ap is_good h))
 
-module _ (k : Bool) (r : List ℕ) (w : Inside r (text_range_in k r 0)) (w' : Inside r (text_range_in k r 1)) (a d : MomentRead) (ea : moment_shown a ≡ moment_column 2 (arrival_place k) r) (ed : moment_shown d ≡ moment_column 3 (departure_place k) r) (wa : MomentIn a) (wd : MomentIn d)
+module _ (k : Bool) (r : List ℕ) (w : Inside r (text_range_in k r 0)) (w' : Inside r (text_range_in k r 1)) (a d : Result ℕ) (ea : moment_shown a ≡ moment_column 2 (arrival_place k) r) (ed : moment_shown d ≡ moment_column 3 (departure_place k) r) (wa : MomentIn a) (wd : MomentIn d)
     (h : is_good (occupation_as k r) ≡ true) where
   abbrev fields : Fields
   fields =
@@ -140,7 +137,7 @@ module _ (k : Bool) (r : List ℕ) (w : Inside r (text_range_in k r 0)) (w' : In
         departure = count_of d;
       }
 
-  pub read_again : (ok (fields_shown r fields) ≡ occupation_as k r) × FieldsIn (length r) fields
+  pub read_again : (Ok (fields_shown r fields) ≡ occupation_as k r) × FieldsIn (length r) fields
   read_again =
       let g = good-row k r h in
       let first = first_good (text_column k 16 0 r) (with_unit k r) (ap is_good g.1 ∙ h) in
@@ -152,6 +149,6 @@ module _ (k : Bool) (r : List ℕ) (w : Inside r (text_range_in k r 0)) (w' : In
       let x = moment_again a (ea ∙ third.1.0) wa in
       let y = moment_again d (ed ∙ fourth.1.0) wd in
       let o : Occupation = record { platform = first.0; unit = second.0; arrival = third.0; departure = fourth.0 } in
-      let whole : with_platform k r ≡ ok o
+      let whole : with_platform k r ≡ Ok o
       = taken (with_unit k r) first.1.0 (taken (with_arrival k r first.0) second.1.0 (taken (with_departure k r first.0 second.0) third.1.0 (taken _ fourth.1.0 (printed o fourth.1.1)))) in
       (rw (← p.0, ← u.0, ← x.0, ← y.0) (sym whole ∙ g.1), record { platform_in = p.1; unit_in = u.1; arrival_in = x.1; departure_in = y.1 })

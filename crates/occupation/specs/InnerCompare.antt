@@ -1,7 +1,7 @@
 -- For the proofs: two texts compared by what follows the bytes that they have in common.
+use Rattle.std.specs.declared.cmp.Ordering.{Ordering}
+use Rattle.std.specs.declared.cmp.Ordering.TheVariants.{Equal, Greater, Less}
 use Rattle.std.specs.Prelude.{ℕ, ◌≤◌, ◌<◌, Bool, cond, List, ◌≡◌, length, get_or, drop}
-use Rattle.occupation.specs.declared.Comparison.{Comparison}
-use Rattle.occupation.specs.declared.Comparison.TheVariants.{Less, Equal, Greater}
 use Rattle.occupation.specs.Order.{bytes_before}
 
 pub record Agree (a b : List ℕ) (i : ℕ) : Type 0 where
@@ -12,5 +12,5 @@ pub record Agree (a b : List ℕ) (i : ℕ) : Type 0 where
   pub back : bytes_before (drop i b) (drop i a) ≡ bytes_before b a
 
 -- whether the first is before the second, and the second before the first
-abbrev pub comparison : Bool → Bool → Comparison
+abbrev pub comparison : Bool → Bool → Ordering
 comparison less greater = cond less Less (cond greater Greater Equal)

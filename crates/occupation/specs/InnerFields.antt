@@ -1,10 +1,8 @@
 -- For the proofs: the fields of a row as the code holds them, and what it hands on.
-use Rattle.std.specs.Prelude.{ℕ, zero, suc, ◌+◌, ◌-◌, ◌≤◌, Bool, true, false, cond, List, [], ◌∷◌, ◌++◌, ◌≡◌, eqb, take, drop}
+use Rattle.std.specs.Prelude.{ℕ, zero, suc, ◌+◌, ◌-◌, ◌≤◌, Bool, true, false, cond, List, [], ◌∷◌, ◌++◌, ◌≡◌, eqb, take, drop, Err, Ok}
 use Rattle.std.proofs.Math.Option.{Option, none, some}
-use Rattle.error.specs.Result.{Result, ok, refused}
+use Rattle.error.specs.Result.{Result}
 use Rattle.occupation.specs.declared.Fields.{Fields}
-use Rattle.occupation.specs.declared.FieldsRead.{FieldsRead}
-use Rattle.occupation.specs.declared.FieldsRead.TheVariants.{Good, Refused}
 use Rattle.calendar.specs.Moment.{moment_text}
 use Rattle.occupation.specs.Occupation.{Occupation}
 use Rattle.occupation.specs.Line.{quoted, or_hyphen}
@@ -26,9 +24,9 @@ fields_shown r f =
       departure = moment_from f.departure;
     }
 
-abbrev pub read_shown : List ℕ → FieldsRead → Result Occupation
-read_shown r (Good f) = ok (fields_shown r f)
-read_shown r (Refused e) = refused e
+abbrev pub read_shown : List ℕ → Result Fields → Result Occupation
+read_shown r (Ok f) = Ok (fields_shown r f)
+read_shown r (Err e) = Err e
 
 -- ---- bounds, in a row of n bytes
 
@@ -53,14 +51,14 @@ ShortTexts f =
     ((f.platform_start ≤ f.platform_end) × (f.platform_end - f.platform_start ≤ 16))
     × ((f.unit_start ≤ f.unit_end) × (f.unit_end - f.unit_start ≤ 64))
 
-abbrev pub ReadIn : ℕ → FieldsRead → Type 0
-ReadIn n (Good f) = FieldsIn n f
-ReadIn n (Refused e) = Unit {0}
+abbrev pub ReadIn : ℕ → Result Fields → Type 0
+ReadIn n (Ok f) = FieldsIn n f
+ReadIn n (Err e) = Unit {0}
 
 -- a row that can be printed, or a column that can be read
 abbrev pub is_good : {A : Type 0} → Result A → Bool
-is_good (ok o) = true
-is_good (refused e) = false
+is_good (Ok o) = true
+is_good (Err e) = false
 
 -- ---- the bytes of a line
 

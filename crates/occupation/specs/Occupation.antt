@@ -1,8 +1,8 @@
 -- FORMAT 10.2. 02, request 2: what is printed of a row, and 17.
-use Rattle.std.specs.Prelude.{ℕ, Bool, true, false, cond, ◌||◌, List, [], ◌∷◌, eqb, ltb, length, get_or}
+use Rattle.std.specs.Prelude.{ℕ, Bool, true, false, cond, ◌||◌, List, [], ◌∷◌, eqb, ltb, length, get_or, Err, Ok}
 use Rattle.std.proofs.Math.Option.{Option, none, some}
 use Rattle.error.specs.declared.Refusal.TheVariants.{Unprintable}
-use Rattle.error.specs.Result.{Result, ok, refused, on_result}
+use Rattle.error.specs.Result.{Result, on_result}
 use Rattle.row_format.specs.Places.{offset_width}
 use Rattle.row_format.specs.Header.{is_long}
 use Rattle.datatype.specs.declared.DataType.{DataType}
@@ -67,15 +67,15 @@ has_unprintable (some t) = is_unprintable t
 -- 17: "place the first such column"
 abbrev pub printable : Occupation → Result Occupation
 printable o =
-    cond (has_unprintable o.platform) (refused (Unprintable 0))
-    (cond (has_unprintable o.unit) (refused (Unprintable 1)) (ok o))
+    cond (has_unprintable o.platform) (Err (Unprintable 0))
+    (cond (has_unprintable o.unit) (Err (Unprintable 1)) (Ok o))
 
 -- "the reading refusals", which are those of a read of all columns; "17, after those of its row".
 -- The row is taken as of sort k.
 abbrev pub occupation_as : Bool → List ℕ → Result Occupation
 occupation_as k r =
-    on_frame (frame_of k columns r) refused
-    (λ p. on_result (read_from (offset_width k) p columns (λ i. true) r 0 (length columns)) refused
+    on_frame (frame_of k columns r) Err
+    (λ p. on_result (read_from (offset_width k) p columns (λ i. true) r 0 (length columns)) Err
     (λ vs. printable (occupation_of r vs)))
 
 -- 02, request 5: "On a read or edit the row's own mark tells the sort"

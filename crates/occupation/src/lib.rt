@@ -3,10 +3,9 @@
 // two slots where a packed one has them, at bytes 9 and 17 of a short row and at 13 and 21 of a long one.
 #![tactic(auto)]
 
-ghost use Rattle.std.specs.Prelude.{◌≡◌, true, ◌+◌, ◌-◌, ◌≤◌, ◌<◌, length};
+ghost use Rattle.std.specs.Prelude.{◌≡◌, true, ◌+◌, ◌-◌, ◌≤◌, ◌<◌, length, Ok};
 ghost use Rattle.std.proofs.lemmas.List.Edits.{sets};
 ghost use Rattle.calendar.specs.Moment.{moment_text};
-ghost use Rattle.error.specs.Result.{ok};
 ghost use Rattle.row_layout.specs.InnerRange.{Inside};
 ghost use Rattle.occupation.specs.Occupation.{is_unprintable, printable, occupation_in};
 ghost use Rattle.occupation.specs.Order.{bytes_before, null_first, precedes};
@@ -15,10 +14,9 @@ ghost use Rattle.occupation.specs.InnerFields.{spanned, moment_from, fields_show
 ghost use Rattle.occupation.specs.InnerRead.{arrival_place, least_length, text_range_in, text_column, moment_column, shown_in, text_shown, moment_shown, span_of, count_of, TextIn, MomentIn, with_platform, with_unit, with_arrival, with_departure};
 ghost use Rattle.occupation.specs.InnerCompare.{Agree, comparison};
 
-use calendar::Moment;
 use error::Refusal;
-use row_column::Frame;
 use row_layout::{RowLayout, VarlenRange};
+use std::cmp::Ordering;
 
 // Where the texts of a row stand in it, from 0 up to 0 for a null; and its moments, in microseconds from the year 1 on
 // and one more, so that 0 is a null.
@@ -32,29 +30,11 @@ pub struct Fields {
     pub departure: u64,
 }
 
-#[derive(Clone, Copy)]
-pub enum FieldsRead {
-    Good(Fields),
-    Refused(Refusal),
-}
-
 // A text from `start` up to `end`, a null from 0 up to 0.
 #[derive(Clone, Copy)]
 struct Span {
     start: usize,
     end: usize,
-}
-
-#[derive(Clone, Copy)]
-enum TextRead {
-    Good(Span),
-    Refused(Refusal),
-}
-
-#[derive(Clone, Copy)]
-enum MomentRead {
-    Good(u64),
-    Refused(Refusal),
 }
 
 // Where the slot of the arrival starts; that of the departure is behind it.
@@ -76,37 +56,37 @@ fn text_range(row: &[u8], is_long: bool, column: usize) -> VarlenRange
 }
 
 // A text of at most n bytes.
-fn read_text(row: &[u8], is_long: bool, column: usize, n: usize) -> TextRead
+fn read_text(row: &[u8], is_long: bool, column: usize, n: usize) -> error::Result<Span>
     requires { (column < 2) × (least_length is_long ≤ length row.now) }
     ensures { (text_shown row.now result ≡ text_column is_long n column row.now)
         × TextIn (length row.now) n result }
 {
     match text_range(row, is_long, column) {
-        VarlenRange::Null => TextRead::Good(Span { start: 0, end: 0 }),
-        VarlenRange::Outside => TextRead::Refused(Refusal::BadRange(column)),
+        VarlenRange::Null => Ok(Span { start: 0, end: 0 }),
+        VarlenRange::Outside => Err(Refusal::BadRange(column)),
         VarlenRange::Bytes(start, end) => {
             if n < end - start {
-                return TextRead::Refused(Refusal::NoValue(column));
+                return Err(Refusal::NoValue(column));
             }
             if text::is_valid(&row[start..end]) {
-                return TextRead::Good(Span { start, end });
+                return Ok(Span { start, end });
             }
-            TextRead::Refused(Refusal::NoValue(column))
+            Err(Refusal::NoValue(column))
         }
     }
 }
 
 // The moment whose slot starts at a byte of the row.
-fn read_moment(row: &[u8], column: usize, at: usize) -> MomentRead
+fn read_moment(row: &[u8], column: usize, at: usize) -> error::Result<u64>
     requires { (column < 4) × (at + 8 ≤ length row.now) }
     ensures { (moment_shown result ≡ moment_column column at row.now) × MomentIn result }
 {
     if null_bitmap::column_bit_is_set(row, column) {
-        return MomentRead::Good(0);
+        return Ok(0);
     }
     match calendar::moment_of(endian::read_u64(row, at)) {
-        Moment::Micros(micros) => MomentRead::Good(micros + 1),
-        Moment::OutOfRange => MomentRead::Refused(Refusal::NoValue(column)),
+        Some(micros) => Ok(micros + 1),
+        None => Err(Refusal::NoValue(column)),
     }
 }
 
@@ -124,7 +104,7 @@ fn is_unprintable(text: &[u8]) -> bool
 }
 
 // A row whose columns were read.
-fn check_texts(row: &[u8], f: Fields) -> FieldsRead
+fn check_texts(row: &[u8], f: Fields) -> error::Result<Fields>
     requires { FieldsIn (length row.now) f }
     ensures { (read_shown row.now result ≡ printable (fields_shown row.now f))
         × ReadIn (length row.now) result }
@@ -132,17 +112,23 @@ fn check_texts(row: &[u8], f: Fields) -> FieldsRead
     let start = f.platform_start;
     let end = f.platform_end;
     if is_unprintable(&row[start..end]) {
-        return FieldsRead::Refused(Refusal::Unprintable(0));
+        return Err(Refusal::Unprintable(0));
     }
     let start = f.unit_start;
     let end = f.unit_end;
     if is_unprintable(&row[start..end]) {
-        return FieldsRead::Refused(Refusal::Unprintable(1));
+        return Err(Refusal::Unprintable(1));
     }
-    FieldsRead::Good(f)
+    Ok(f)
 }
 
-fn read_departure(row: &[u8], is_long: bool, platform: Span, unit: Span, arrival: u64) -> FieldsRead
+fn read_departure(
+    row: &[u8],
+    is_long: bool,
+    platform: Span,
+    unit: Span,
+    arrival: u64,
+) -> error::Result<Fields>
     requires { (least_length is_long ≤ length row.now)
         × (SpanIn (length row.now) 16 platform.start platform.end
         × (SpanIn (length row.now) 64 unit.start unit.end × (arrival ≤ moment_limit))) }
@@ -150,23 +136,19 @@ fn read_departure(row: &[u8], is_long: bool, platform: Span, unit: Span, arrival
         ≡ with_departure is_long row.now (shown_in row.now platform)
         (shown_in row.now unit) (moment_from arrival)) × ReadIn (length row.now) result }
 {
-    match read_moment(row, 3, arrival_place(is_long) + 8) {
-        MomentRead::Refused(e) => FieldsRead::Refused(e),
-        MomentRead::Good(departure) => {
-            let fields = Fields {
-                platform_start: platform.start,
-                platform_end: platform.end,
-                unit_start: unit.start,
-                unit_end: unit.end,
-                arrival,
-                departure,
-            };
-            check_texts(row, fields)
-        }
-    }
+    let departure = read_moment(row, 3, arrival_place(is_long) + 8)?;
+    let fields = Fields {
+        platform_start: platform.start,
+        platform_end: platform.end,
+        unit_start: unit.start,
+        unit_end: unit.end,
+        arrival,
+        departure,
+    };
+    check_texts(row, fields)
 }
 
-fn read_arrival(row: &[u8], is_long: bool, platform: Span, unit: Span) -> FieldsRead
+fn read_arrival(row: &[u8], is_long: bool, platform: Span, unit: Span) -> error::Result<Fields>
     requires { (least_length is_long ≤ length row.now)
         × (SpanIn (length row.now) 16 platform.start platform.end
         × SpanIn (length row.now) 64 unit.start unit.end) }
@@ -175,38 +157,32 @@ fn read_arrival(row: &[u8], is_long: bool, platform: Span, unit: Span) -> Fields
         (shown_in row.now unit))
         × ReadIn (length row.now) result }
 {
-    match read_moment(row, 2, arrival_place(is_long)) {
-        MomentRead::Refused(e) => FieldsRead::Refused(e),
-        MomentRead::Good(arrival) => read_departure(row, is_long, platform, unit, arrival),
-    }
+    let arrival = read_moment(row, 2, arrival_place(is_long))?;
+    read_departure(row, is_long, platform, unit, arrival)
 }
 
-fn read_unit(row: &[u8], is_long: bool, platform: Span) -> FieldsRead
+fn read_unit(row: &[u8], is_long: bool, platform: Span) -> error::Result<Fields>
     requires { (least_length is_long ≤ length row.now)
         × SpanIn (length row.now) 16 platform.start platform.end }
     ensures { (read_shown row.now result
         ≡ with_unit is_long row.now (shown_in row.now platform))
         × ReadIn (length row.now) result }
 {
-    match read_text(row, is_long, 1, 64) {
-        TextRead::Refused(e) => FieldsRead::Refused(e),
-        TextRead::Good(unit) => read_arrival(row, is_long, platform, unit),
-    }
+    let unit = read_text(row, is_long, 1, 64)?;
+    read_arrival(row, is_long, platform, unit)
 }
 
-fn read_columns(row: &[u8], is_long: bool) -> FieldsRead
+fn read_columns(row: &[u8], is_long: bool) -> error::Result<Fields>
     requires { least_length is_long ≤ length row.now }
     ensures { (read_shown row.now result ≡ with_platform is_long row.now)
         × ReadIn (length row.now) result }
 {
-    match read_text(row, is_long, 0, 16) {
-        TextRead::Refused(e) => FieldsRead::Refused(e),
-        TextRead::Good(platform) => read_unit(row, is_long, platform),
-    }
+    let platform = read_text(row, is_long, 0, 16)?;
+    read_unit(row, is_long, platform)
 }
 
 // The fields of a row, or why it is not printed. The row's own mark tells its sort.
-pub fn read(row: &[u8]) -> FieldsRead
+pub fn read(row: &[u8]) -> error::Result<Fields>
     ensures { (read_shown row.now result ≡ occupation_in row.now)
         × ReadIn (length row.now) result }
 {
@@ -218,10 +194,8 @@ pub fn read(row: &[u8]) -> FieldsRead
         padded_size: 16,
         is_long,
     };
-    match row_column::check_frame(layout, row) {
-        Frame::Refused(e) => FieldsRead::Refused(e),
-        Frame::Good(_) => read_columns(row, is_long),
-    }
+    row_column::check_frame(layout, row)?;
+    read_columns(row, is_long)
 }
 
 fn span_of(range: VarlenRange) -> Span
@@ -234,19 +208,19 @@ fn span_of(range: VarlenRange) -> Span
     }
 }
 
-fn count_of(moment: MomentRead) -> u64
+fn count_of(moment: error::Result<u64>) -> u64
     ensures { result ≡ count_of moment }
 {
     match moment {
-        MomentRead::Good(count) => count,
-        MomentRead::Refused(_) => 0,
+        Ok(count) => count,
+        Err(_) => 0,
     }
 }
 
 // The fields of a row that `read` did not refuse, without its tests of the texts.
 pub fn fields_of(row: &[u8]) -> Fields
     requires { is_good (occupation_in row.now) ≡ true }
-    ensures { (ok (fields_shown row.now result) ≡ occupation_in row.now)
+    ensures { (Ok (fields_shown row.now result) ≡ occupation_in row.now)
         × FieldsIn (length row.now) result }
 {
     let is_long = row_layout::is_long(row);
@@ -261,13 +235,6 @@ pub fn fields_of(row: &[u8]) -> Fields
         arrival: count_of(read_moment(row, 2, at)),
         departure: count_of(read_moment(row, 3, at + 8)),
     }
-}
-
-#[derive(Clone, Copy)]
-enum Comparison {
-    Less,
-    Equal,
-    Greater,
 }
 
 // How many bytes two texts have in common at their front.
@@ -287,27 +254,27 @@ fn common_bytes(a: &[u8], b: &[u8]) -> usize
     i
 }
 
-fn compare_bytes(a: &[u8], b: &[u8]) -> Comparison
+fn compare_bytes(a: &[u8], b: &[u8]) -> Ordering
     ensures { result
         ≡ comparison (bytes_before a.now b.now) (bytes_before b.now a.now) }
 {
     let i = common_bytes(a, b);
     if b.len() <= i {
         if a.len() <= i {
-            return Comparison::Equal;
+            return Ordering::Equal;
         }
-        return Comparison::Greater;
+        return Ordering::Greater;
     }
     if a.len() <= i {
-        return Comparison::Less;
+        return Ordering::Less;
     }
     if a[i] < b[i] {
-        return Comparison::Less;
+        return Ordering::Less;
     }
-    Comparison::Greater
+    Ordering::Greater
 }
 
-fn compare_platforms(a_row: &[u8], a: Fields, b_row: &[u8], b: Fields) -> Comparison
+fn compare_platforms(a_row: &[u8], a: Fields, b_row: &[u8], b: Fields) -> Ordering
     requires { FieldsIn (length a_row.now) a × FieldsIn (length b_row.now) b }
     ensures { result
         ≡ comparison
@@ -322,12 +289,12 @@ fn compare_platforms(a_row: &[u8], a: Fields, b_row: &[u8], b: Fields) -> Compar
     let b_end = b.platform_end;
     if b_start == 0 {
         if a_start == 0 {
-            return Comparison::Equal;
+            return Ordering::Equal;
         }
-        return Comparison::Greater;
+        return Ordering::Greater;
     }
     if a_start == 0 {
-        return Comparison::Less;
+        return Ordering::Less;
     }
     compare_bytes(&a_row[a_start..a_end], &b_row[b_start..b_end])
 }
@@ -339,9 +306,9 @@ pub fn precedes(a_row: &[u8], a: Fields, b_row: &[u8], b: Fields) -> bool
         ≡ precedes (fields_shown a_row.now a) (fields_shown b_row.now b) }
 {
     match compare_platforms(a_row, a, b_row, b) {
-        Comparison::Less => true,
-        Comparison::Greater => false,
-        Comparison::Equal => a.arrival < b.arrival,
+        Ordering::Less => true,
+        Ordering::Greater => false,
+        Ordering::Equal => a.arrival < b.arrival,
     }
 }
 

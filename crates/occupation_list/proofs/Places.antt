@@ -1,4 +1,6 @@
 -- The rows at their places: one of them, and one more put among them.
+use Rattle.error.specs.Result.{Result}
+use Rattle.std.specs.Prelude.{Err, Ok}
 use Prim.Native.Nat.{ℕ, ◌+◌, ◌-◌, ◌≤◌, ◌<◌}
 use mathlib.Core.Path.{◌≡◌, sym, ap, ◌∙◌, subst}
 use mathlib.Core.Bool.{true, false}
@@ -7,10 +9,7 @@ use native.Mathlib.Omega.{arith}
 use lib.ListN.{length, get_or, set, take, drop, length-set}
 use lib.Seq.{sets, length-take-le, length-sets, get_or-take}
 use Rattle.error.specs.declared.Refusal.{Refusal}
-use Rattle.error.specs.Result.{ok, refused}
 use Rattle.occupation.specs.declared.Fields.{Fields}
-use Rattle.occupation.specs.declared.FieldsRead.{FieldsRead}
-use Rattle.occupation.specs.declared.FieldsRead.TheVariants.{Good, Refused}
 use Rattle.occupation.specs.Occupation.{Occupation, occupation_in}
 use Rattle.occupation.specs.Order.{precedes}
 use Rattle.occupation.specs.Line.{line}
@@ -27,8 +26,8 @@ pub known_at : (list : List ℕ) (p : ℕ) (r : List ℕ) {f : Fields} → r ≡
 unfolding occupation_at
 known_at list p r e k = ap good_one k.shown ∙ ap (λ (s : List ℕ). good_one (occupation_in s)) e
 
-pub known_ok : (list : List ℕ) (p : ℕ) (r : List ℕ) {f : Fields} → r ≡ row_in list p → Known r f → occupation_in (row_in list p) ≡ ok (occupation_at list p)
-known_ok list p r e k = ap occupation_in (sym e) ∙ sym k.shown ∙ ap ok (known_at list p r e k)
+pub known_ok : (list : List ℕ) (p : ℕ) (r : List ℕ) {f : Fields} → r ≡ row_in list p → Known r f → occupation_in (row_in list p) ≡ Ok (occupation_at list p)
+known_ok list p r e k = ap occupation_in (sym e) ∙ sym k.shown ∙ ap Ok (known_at list p r e k)
 
 pub good_at : {list : List ℕ} {p : ℕ} (r : List ℕ) → r ≡ row_in list p → Place list p → is_good (occupation_in r) ≡ true
 good_at r e p = ap (λ (s : List ℕ). is_good (occupation_in s)) e ∙ p.good
@@ -116,13 +115,13 @@ module _ {list order : List ℕ} {k at : ℕ} (a : Addable list order k at) {r :
 
 -- ---- as the functions hand it on
 
-pub known_fields : (r : List ℕ) {f : Fields} → (ok (fields_shown r f) ≡ occupation_in r) × FieldsIn (length r) f → Known r f
+pub known_fields : (r : List ℕ) {f : Fields} → (Ok (fields_shown r f) ≡ occupation_in r) × FieldsIn (length r) f → Known r f
 known_fields r (a, b) = record { shown = a; bounds = b }
 
-pub read_known : (r : List ℕ) (x : FieldsRead) {f : Fields} → x ≡ Good f → (read_shown r x ≡ occupation_in r) × ReadIn (length r) x → Known r f
+pub read_known : (r : List ℕ) (x : Result Fields) {f : Fields} → x ≡ Ok f → (read_shown r x ≡ occupation_in r) × ReadIn (length r) x → Known r f
 read_known r x e (a, b) = record { shown = ap (read_shown r) (sym e) ∙ a; bounds = subst (ReadIn (length r)) e b }
 
-pub read-refused : (r : List ℕ) (x : FieldsRead) {e : Refusal} → x ≡ Refused e → read_shown r x ≡ occupation_in r → occupation_in r ≡ refused e
+pub read-refused : (r : List ℕ) (x : Result Fields) {e : Refusal} → x ≡ Err e → read_shown r x ≡ occupation_in r → occupation_in r ≡ Err e
 read-refused r x e a = sym a ∙ ap (read_shown r) e
 
 pub add_row : {list order : List ℕ} {k at : ℕ} → Addable list order k at → (row : List ℕ) {f : Fields} → row ≡ row_in list at → Known row f → {r : ℕ} → FoundPlace list order k (fields_shown row f) r

@@ -1,8 +1,8 @@
 -- FORMAT 10.5, 10.6. 02, request 2, the whole call and all that the program prints.
-use Rattle.std.specs.Prelude.{ℕ, cond, List, [], ◌∷◌, ◌++◌, map, ltb}
+use Rattle.std.specs.Prelude.{ℕ, cond, List, [], ◌∷◌, ◌++◌, map, ltb, Err, Ok}
 use Rattle.error.specs.declared.Refusal.{Refusal}
 use Rattle.error.specs.Refusal.{number_of, place_of}
-use Rattle.error.specs.Result.{Result, ok, refused, on_result, before}
+use Rattle.error.specs.Result.{Result, on_result, before}
 use Rattle.error.specs.Answer.{Outcome, unchanged, placed}
 use Rattle.laws.specs.Bytes.{concat}
 use Rattle.calendar.specs.Moment.{ascii_digits}
@@ -16,15 +16,15 @@ use Rattle.occupation_list.specs.Ordered.{ordered}
 abbrev pub row_count_limit : ℕ
 row_count_limit = 512
 
--- "then the reading refusals row by row; 17, after those of its row": the first row that is refused decides. Each row
+-- "then the reading refusals row by row; 17, after those of its row": the first row that is Err decides. Each row
 -- is of the sort that its own mark tells.
 abbrev pub occupations_in : List (List ℕ) → Result (List Occupation)
-occupations_in [] = ok []
-occupations_in (r ∷ rs) = on_result (occupation_in r) refused (λ o. before o (occupations_in rs))
+occupations_in [] = Ok []
+occupations_in (r ∷ rs) = on_result (occupation_in r) Err (λ o. before o (occupations_in rs))
 
 -- "16 for a list that is cut or over its limits, tested first"
 abbrev pub occupations_of : List ℕ → Result (List Occupation)
-occupations_of list = on_result (rows_of row_count_limit list) refused occupations_in
+occupations_of list = on_result (rows_of row_count_limit list) Err occupations_in
 
 -- "It prints one line a row, ordered"
 abbrev pub lines_of : List Occupation → List ℕ

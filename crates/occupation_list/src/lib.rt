@@ -13,23 +13,8 @@ ghost use Rattle.occupation_list.specs.InnerOrder.{occupation_at, Place, Known, 
 ghost use Rattle.occupation_list.specs.InnerOrder.{Addable, AddedAs, Arrangeable, ArrangedAs, LinesReady};
 ghost use Rattle.occupation_list.specs.InnerOrder.{numbers_line};
 
-use error::{Answer, Refusal};
-use occupation::{Fields, FieldsRead};
-use row_list::ListCheck;
-
-// The rows in order: how many, and the bytes of all their lines.
-#[derive(Clone, Copy)]
-enum Arranged {
-    Rows(usize, usize),
-    Refused(Refusal),
-}
-
-// A row that was put in its place: the bytes of its line.
-#[derive(Clone, Copy)]
-enum Added {
-    Line(usize),
-    Refused(Refusal),
-}
+use error::Refusal;
+use occupation::Fields;
 
 // The most rows of a list.
 const ROW_LIMIT: usize = 512;
@@ -84,23 +69,19 @@ fn insert(order: &mut [u16], k: usize, p: usize, at: u16)
 }
 
 // The row at a place of the list, put behind all that it does not come before.
-fn add_row(list: &[u8], at: usize, order: &mut [u16], k: usize) -> Added
+fn add_row(list: &[u8], at: usize, order: &mut [u16], k: usize) -> error::Result<usize>
     requires { Addable list.now order.old k at }
     ensures { AddedAs list.now order.old k at result order.new }
 {
     let row = row_list::row_at(list, at);
-    match occupation::read(row) {
-        FieldsRead::Refused(e) => Added::Refused(e),
-        FieldsRead::Good(f) => {
-            let p = place_for(list, order, k, row, f);
-            insert(order, k, p, at as u16);
-            Added::Line(occupation::line_length(f))
-        }
-    }
+    let f = occupation::read(row)?;
+    let p = place_for(list, order, k, row, f);
+    insert(order, k, p, at as u16);
+    Ok(occupation::line_length(f))
 }
 
 // The rows of a list that is whole.
-fn arrange_rows(list: &[u8], order: &mut [u16]) -> Arranged
+fn arrange_rows(list: &[u8], order: &mut [u16]) -> error::Result<(usize, usize)>
     requires { Arrangeable list.now order.old }
     ensures { ArrangedAs list.now order.new result }
 {
@@ -108,28 +89,20 @@ fn arrange_rows(list: &[u8], order: &mut [u16]) -> Arranged
     let mut k = 0;
     let mut size = 0;
     while at < list.len() {
-        match add_row(list, at, order, k) {
-            Added::Refused(e) => {
-                return Arranged::Refused(e);
-            }
-            Added::Line(n) => {
-                at = row_list::row_end(list, at);
-                k += 1;
-                size += n;
-            }
-        }
+        let n = add_row(list, at, order, k)?;
+        at = row_list::row_end(list, at);
+        k += 1;
+        size += n;
     }
-    Arranged::Rows(k, size)
+    Ok((k, size))
 }
 
-fn arrange(list: &[u8], order: &mut [u16]) -> Arranged
+fn arrange(list: &[u8], order: &mut [u16]) -> error::Result<(usize, usize)>
     requires { length order.old ≡ row_count_limit }
     ensures { ArrangedAs list.now order.new result }
 {
-    match row_list::check(list, ROW_LIMIT) {
-        ListCheck::Refused(e) => Arranged::Refused(e),
-        ListCheck::Rows(_) => arrange_rows(list, order),
-    }
+    row_list::check(list, ROW_LIMIT)?;
+    arrange_rows(list, order)
 }
 
 fn write_row(out: &mut [u8], end: usize, list: &[u8], at: usize) -> usize
@@ -156,30 +129,34 @@ fn write_lines(out: &mut [u8], list: &[u8], order: &[u16], k: usize)
 }
 
 // The rows that were arranged: nothing is written where there is no room for all of their lines.
-fn print_rows(list: &[u8], order: &[u16], k: usize, size: usize, out: &mut [u8]) -> Answer
+fn print_rows(
+    list: &[u8],
+    order: &[u16],
+    k: usize,
+    size: usize,
+    out: &mut [u8],
+) -> error::Result<usize>
     requires { LinesReady list.now order.now k size }
     ensures { (result, out.new)
         ≡ placed out.old (lines_at list.now (take k order.now)) }
 {
     if out.len() < size {
-        return Answer::Refused(Refusal::NoRoom);
+        return Err(Refusal::NoRoom);
     }
     write_lines(out, list, order, k);
-    Answer::Done(size)
+    Ok(size)
 }
 
-fn print_with(list: &[u8], order: &mut [u16], out: &mut [u8]) -> Answer
+fn print_with(list: &[u8], order: &mut [u16], out: &mut [u8]) -> error::Result<usize>
     requires { length order.old ≡ row_count_limit }
     ensures { (result, out.new) ≡ print_call list.now out.old }
 {
-    match arrange(list, order) {
-        Arranged::Refused(e) => Answer::Refused(e),
-        Arranged::Rows(k, size) => print_rows(list, order, k, size, out),
-    }
+    let (k, size) = arrange(list, order)?;
+    print_rows(list, order, k, size, out)
 }
 
 // A line for each row of a list, in order.
-pub fn print(list: &[u8], out: &mut [u8]) -> Answer
+pub fn print(list: &[u8], out: &mut [u8]) -> error::Result<usize>
     ensures { (result, out.new) ≡ print_call list.now out.old }
 {
     let mut order = [0; ROW_LIMIT];
@@ -223,31 +200,31 @@ fn write_refusal(out: &mut [u8], number: usize, place: usize)
 }
 
 // The line of a refusal.
-fn print_refusal(e: Refusal, out: &mut [u8]) -> Answer
+fn print_refusal(e: Refusal, out: &mut [u8]) -> error::Result<usize>
     ensures { (result, out.new) ≡ placed out.old (refusal_line e) }
 {
     let number = e.number() as usize;
     let place = e.place();
     let length = decimal_length(number) + decimal_length(place) + 2;
     if out.len() < length {
-        return Answer::Refused(Refusal::NoRoom);
+        return Err(Refusal::NoRoom);
     }
     write_refusal(out, number, place);
-    Answer::Done(length)
+    Ok(length)
 }
 
-fn report_with(list: &[u8], order: &mut [u16], out: &mut [u8]) -> Answer
+fn report_with(list: &[u8], order: &mut [u16], out: &mut [u8]) -> error::Result<usize>
     requires { length order.old ≡ row_count_limit }
     ensures { (result, out.new) ≡ report_call list.now out.old }
 {
     match arrange(list, order) {
-        Arranged::Refused(e) => print_refusal(e, out),
-        Arranged::Rows(k, size) => print_rows(list, order, k, size, out),
+        Err(e) => print_refusal(e, out),
+        Ok((k, size)) => print_rows(list, order, k, size, out),
     }
 }
 
 // All that the program prints: the lines of a list, or the line of its refusal.
-pub fn report(list: &[u8], out: &mut [u8]) -> Answer
+pub fn report(list: &[u8], out: &mut [u8]) -> error::Result<usize>
     ensures { (result, out.new) ≡ report_call list.now out.old }
 {
     let mut order = [0; ROW_LIMIT];

@@ -4,8 +4,6 @@
 
 ghost use Rattle.std.specs.Prelude.{◌≤◌, length};
 
-use error::Answer;
-
 // The descriptors of POSIX.
 const STDIN_FILENO: i32 = 0;
 
@@ -36,7 +34,7 @@ fn main() {
     let n = read_list(&mut input);
     let mut out = io::large_buffer();
     match occupation_list::report(&input[0..n], &mut out) {
-        Answer::Done(size) => write_first(&out, size),
-        Answer::Refused(_) => {}
+        Ok(size) => write_first(&out, size),
+        Err(_) => {}
     }
 }

@@ -1,4 +1,5 @@
 -- The theorems about a list that is not refused: what its lines tell, their order, their length.
+use Rattle.std.specs.Prelude.{Ok}
 use Prim.Native.Nat.{ℕ, ◌≤◌}
 use mathlib.Core.Path.{◌≡◌, refl, sym, ap, subst, ◌∙◌}
 use mathlib.Core.List.{List, [], ◌∷◌, map}
@@ -7,8 +8,7 @@ use lib.Seq.{sets}
 use borrow.Author.Tests.{le-ltb}
 use lib.ListN.{length}
 use Rattle.laws.specs.Bytes.{concat}
-use Rattle.error.specs.declared.Answer.TheVariants.{Done}
-use Rattle.error.specs.Result.{ok}
+
 use Rattle.error.specs.Answer.{placed}
 use Rattle.occupation.specs.Occupation.{Occupation}
 use Rattle.occupation.specs.Order.{precedes}
@@ -25,7 +25,7 @@ use Rattle.printed_list.proofs.Results.{of_good}
 use Rattle.printed_list.proofs.Reading.{Good, list_read_lem}
 use Rattle.printed_list.proofs.Lines.{line_of, line-shown, lines_cut, lines-length}
 
-pub all-good : (bytes : List ℕ) (os : List Occupation) → occupations_of bytes ≡ ok os → Good row_count_limit os
+pub all-good : (bytes : List ℕ) (os : List Occupation) → occupations_of bytes ≡ Ok os → Good row_count_limit os
 all-good bytes os e = of_good (list_read_lem bytes) e
 
 -- ---- what the lines tell
@@ -70,7 +70,7 @@ lines-short {os} g =
     let l = lines-length (ordered precedes os) (ordered-printable g) in
     omega arith
 
-pub placed-done : (n : ℕ) (out x : List ℕ) → length x ≤ n → n ≤ length out → placed out x ≡ (Done (length x), sets out 0 x)
+pub placed-done : (n : ℕ) (out x : List ℕ) → length x ≤ n → n ≤ length out → placed out x ≡ (Ok (length x), sets out 0 x)
 placed-done n out x h l = rw (le-ltb (length out) (length x) (omega arith))
 
 pub lines_fit : LinesFitAlways

@@ -1,4 +1,5 @@
 -- What is known of an occupation that was read, and of a refusal of a list.
+use Rattle.std.specs.Prelude.{Err, None, Ok, Some}
 use Prim.Native.Nat.{ℕ, zero, suc, ◌+◌, ◌-◌, ◌%◌, ◌≤◌}
 use mathlib.Core.Path.{◌≡◌, refl, ap}
 use mathlib.Core.Bool.{Bool, true, false, cond, false≢true}
@@ -15,7 +16,7 @@ use Rattle.laws.specs.Bits.{bit_at}
 use Rattle.laws.proofs.Truths.{by_cond, cases}
 use Rattle.error.specs.declared.Refusal.{Refusal}
 use Rattle.error.specs.declared.Refusal.TheVariants.{RowTooShort, RowTooLong, WrongColumnCount, WrongVarlenCount, Unprintable}
-use Rattle.error.specs.Result.{Result, ok, refused, before}
+use Rattle.error.specs.Result.{Result, before}
 use Rattle.text_limit.specs.Limit.{fits_text}
 use Rattle.text_limit.proofs.Limits.{fits-size, fits-valid}
 use Rattle.temporal.specs.Ranges.{is_timestamp}
@@ -28,13 +29,10 @@ use Rattle.row_layout.specs.Range.{varlen_range}
 use Rattle.datatype.specs.Types.{size_of, shape_of}
 use Rattle.value.specs.declared.DataValue.{DataValue}
 use Rattle.value.specs.declared.DataValue.TheVariants as D
-use Rattle.stored_form.specs.declared.SlotRead.TheVariants as Slot
+
 use Rattle.stored_form.specs.Read.{value_if, whole}
 use Rattle.calendar.proofs.Since.{since_lt}
-use Rattle.row_column.specs.declared.ColumnRead.{ColumnRead}
-use Rattle.row_column.specs.declared.ColumnRead.TheVariants.{Value, Refused}
-use Rattle.row_column.specs.declared.Frame.{Frame}
-use Rattle.row_column.specs.declared.Frame.TheVariants as Header
+
 use Rattle.row_format.specs.Header.{column_count, varlen_field, is_packed, is_long}
 use Rattle.row_column.specs.Frame.{frame_with, on_frame}
 use Rattle.row_column.specs.Column.{slot_value, read_bytes, varlen_value, column_with}
@@ -52,9 +50,9 @@ use Rattle.printed_list.proofs.Rows.{rows_of_lem}
 
 -- ---- one column
 
-data Reads (P : DataValue → Type 0) : ColumnRead → Type 0 where
-  val : {v : DataValue} → P v → Reads P (Value v)
-  none : {e : Refusal} → OfList e → Reads P (Refused e)
+data Reads (P : DataValue → Type 0) : Result DataValue → Type 0 where
+  val : {v : DataValue} → P v → Reads P (Ok v)
+  none : {e : Refusal} → OfList e → Reads P (Err e)
 
 abbrev Text : List ℕ → ℕ → DataValue → Type 0
 Text r n v = NullOrText n (text_in r v)
@@ -68,7 +66,7 @@ module _ (i : ℕ) (h : i ≤ 3) (r : List ℕ) where
   text-slot : (n a : ℕ) (bs : List ℕ) → take (length bs) (drop a r) ≡ bs
       → Reads (Text r n) (slot_value i (value_if (fits_text false n bs) (D.Varchar (whole a bs))))
   text-slot n a bs same =
-      by_cond (λ s. Reads (Text r n) (slot_value i s)) (fits_text false n bs) (Slot.Value (D.Varchar (whole a bs))) Slot.NoValue
+      by_cond (λ s. Reads (Text r n) (slot_value i s)) (fits_text false n bs) (Some (D.Varchar (whole a bs))) None
       (λ t. val (rw same (fits-size false n bs t, fits-valid false n bs t)))
       (λ t. none (value i h))
 
@@ -79,24 +77,24 @@ module _ (i : ℕ) (h : i ≤ 3) (r : List ℕ) where
 
   text-column : (n : ℕ) (q : VarlenRange) (at : ℕ) → Reads (Text r n) (column_with (Varchar false n) i r q at)
   text-column n q at =
-      by_cond (Reads (Text r n)) (eqb (bit_at i (drop bitmap_start r)) 1) (Value D.Null) (varlen_value (Varchar false n) i r q)
+      by_cond (Reads (Text r n)) (eqb (bit_at i (drop bitmap_start r)) 1) (Ok D.Null) (varlen_value (Varchar false n) i r q)
       (λ e. val tt) (λ e. text-range n q)
 
 module _ (i : ℕ) (h : i ≤ 3) (r : List ℕ) where
   moment_slot : (z : ℤ) → Reads (λ v. NullOrInYears (moment_in v)) (slot_value i (value_if (is_timestamp z) (D.Timestamp z)))
   moment_slot z =
-      by_cond (λ s. Reads (λ v. NullOrInYears (moment_in v)) (slot_value i s)) (is_timestamp z) (Slot.Value (D.Timestamp z)) Slot.NoValue
+      by_cond (λ s. Reads (λ v. NullOrInYears (moment_in v)) (slot_value i s)) (is_timestamp z) (Some (D.Timestamp z)) None
       (λ t. val (since_lt z t)) (λ t. none (value i h))
 
   moment_column_lem : (q : VarlenRange) (at : ℕ) → Reads (λ v. NullOrInYears (moment_in v)) (column_with Timestamp i r q at)
   moment_column_lem q at =
       let e = at + size_of Timestamp in
-      by_cond (Reads (λ v. NullOrInYears (moment_in v))) (eqb (bit_at i (drop bitmap_start r)) 1) (Value D.Null) (read_bytes Timestamp i r at e)
+      by_cond (Reads (λ v. NullOrInYears (moment_in v))) (eqb (bit_at i (drop bitmap_start r)) 1) (Ok D.Null) (read_bytes Timestamp i r at e)
       (λ b. val tt) (λ b. moment_slot (to_z w64 (from_le (take (e - at) (drop at r)))))
 
 -- ---- all columns, and 17
 
-on_column_lem : {P : DataValue → Type 0} {Q S : List DataValue → Type 0} {c : ColumnRead} {rest : Result (List DataValue)} → Reads P c
+on_column_lem : {P : DataValue → Type 0} {Q S : List DataValue → Type 0} {c : Result DataValue} {rest : Result (List DataValue)} → Reads P c
     → Gives Q OfList rest → ((v : DataValue) (vs : List DataValue) → P v → Q vs → S (v ∷ vs)) → Gives S OfList (on_column c rest)
 on_column_lem (val {v = v} p) g f = before-good v g (λ vs q. f v vs p q)
 on_column_lem (none e) g f = bad e
@@ -126,29 +124,29 @@ module _ (k p : Bool) (r : List ℕ) where
 
 printed : (o : Occupation) → InLimits o → Gives Printable OfList (printable o)
 printed o s =
-    by_cond (Gives Printable OfList) (has_unprintable o.platform) (refused (Unprintable 0))
-    (cond (has_unprintable o.unit) (refused (Unprintable 1)) (ok o)) (λ t. bad (text 0 (omega arith)))
+    by_cond (Gives Printable OfList) (has_unprintable o.platform) (Err (Unprintable 0))
+    (cond (has_unprintable o.unit) (Err (Unprintable 1)) (Ok o)) (λ t. bad (text 0 (omega arith)))
     (λ a.
-    by_cond (Gives Printable OfList) (has_unprintable o.unit) (refused (Unprintable 1)) (ok o)
+    by_cond (Gives Printable OfList) (has_unprintable o.unit) (Err (Unprintable 1)) (Ok o)
     (λ t. bad (text 1 (omega arith))) (λ b. good (record { sized = s; platform_clean = a; unit_clean = b })))
 
 -- ---- the header: never too long
 
 module _ {B : Type 0} (S : B → Type 0) (k : Bool → Result B) (f : (p : Bool) → Gives S OfList (k p)) where
-  abbrev Goes : Frame → Type 0
-  Goes q = Gives S OfList (on_frame q refused k)
+  abbrev Goes : Result Bool → Type 0
+  Goes q = Gives S OfList (on_frame q Err k)
 
   on_frame_lem : (s : Bool) (n v : ℕ) (least : Bool → ℕ) (r : List ℕ) → length r ≤ row_limit s → Goes (frame_with s n v least r)
   on_frame_lem s n v least r h =
-      let sized = cond (ltb (length r) (least (is_packed r))) (Header.Refused RowTooShort) (Header.Good (is_packed r)) in
-      let varchars = cond (eqb (varlen_field r % least_mark s) v) sized (Header.Refused WrongVarlenCount) in
-      let counted = cond (eqb (column_count r) n) varchars (Header.Refused WrongColumnCount) in
-      by_cond Goes (ltb (row_limit s) (length r)) (Header.Refused RowTooLong) (cond (ltb (length r) 4) (Header.Refused RowTooShort) counted)
+      let sized = cond (ltb (length r) (least (is_packed r))) (Err RowTooShort) (Ok (is_packed r)) in
+      let varchars = cond (eqb (varlen_field r % least_mark s) v) sized (Err WrongVarlenCount) in
+      let counted = cond (eqb (column_count r) n) varchars (Err WrongColumnCount) in
+      by_cond Goes (ltb (row_limit s) (length r)) (Err RowTooLong) (cond (ltb (length r) 4) (Err RowTooShort) counted)
       (λ t. let l = ltb-true (row_limit s) (length r) t in absurd (omega arith))
-      (λ t. by_cond Goes (ltb (length r) 4) (Header.Refused RowTooShort) counted (λ t. bad short)
-      (λ t. by_cond Goes (eqb (column_count r) n) varchars (Header.Refused WrongColumnCount)
-      (λ t. by_cond Goes (eqb (varlen_field r % least_mark s) v) sized (Header.Refused WrongVarlenCount)
-      (λ t. by_cond Goes (ltb (length r) (least (is_packed r))) (Header.Refused RowTooShort) (Header.Good (is_packed r))
+      (λ t. by_cond Goes (ltb (length r) 4) (Err RowTooShort) counted (λ t. bad short)
+      (λ t. by_cond Goes (eqb (column_count r) n) varchars (Err WrongColumnCount)
+      (λ t. by_cond Goes (eqb (varlen_field r % least_mark s) v) sized (Err WrongVarlenCount)
+      (λ t. by_cond Goes (ltb (length r) (least (is_packed r))) (Err RowTooShort) (Ok (is_packed r))
       (λ t. bad short) (λ t. f (is_packed r)))
       (λ t. bad R.varchars))
       (λ t. bad R.columns)))

@@ -1,4 +1,5 @@
 -- The theorems about the program, on any list: the refusals it can print, what its output tells, and that it has room.
+use Rattle.std.specs.Prelude.{Err}
 use Prim.Native.Nat.{ℕ, ◌+◌, ◌/◌, ◌%◌, ◌≤◌, ◌<◌}
 use mathlib.Core.Path.{◌≡◌, refl, sym, ap, subst, ◌∙◌}
 use mathlib.Core.Bool.{cond}
@@ -12,7 +13,7 @@ use Rattle.laws.proofs.Truths.{cases, by_cond}
 use Rattle.error.specs.declared.Refusal.{Refusal}
 use Rattle.error.specs.declared.Refusal.TheVariants.{RowTooShort, WrongColumnCount, WrongVarlenCount, BadRange, NoValue, BadList, Unprintable}
 use Rattle.error.specs.Refusal.{number_of, place_of}
-use Rattle.error.specs.Result.{Result, refused, on_result}
+use Rattle.error.specs.Result.{Result, on_result}
 use Rattle.calendar.specs.Moment.{ascii_digits}
 use Rattle.occupation.specs.Occupation.{Occupation}
 use Rattle.occupation.specs.Order.{precedes}
@@ -122,7 +123,7 @@ tells : {x y : Result (List Occupation)} → Gives (Good row_count_limit) OfList
 tells (good {x = os} g) (good {x = qs} k) h = lines os qs (lines-told g k h)
 tells (good {x = os} g) (bad {e = e} q) h = absurd (no_line e (ordered precedes os) (sym h))
 tells (bad {e = e} q) (good {x = os} g) h = absurd (no_line e (ordered precedes os) h)
-tells (bad {e = e} p) (bad {e = f} q) h = subst (λ k. SameReport (refused e) (refused k)) (refusal_tells p q h) (refusal e)
+tells (bad {e = e} p) (bad {e = f} q) h = subst (λ k. SameReport (Err e) (Err k)) (refusal_tells p q h) (refusal e)
 
 pub report_tells : ReportTells
 report_tells a b e = tells (list_read_lem a) (list_read_lem b) e

@@ -1,4 +1,5 @@
 -- The rows of a list: how many, how long, and that they are the whole of it; and the list that has given rows.
+use Rattle.std.specs.Prelude.{Err, Ok}
 use Prim.Native.Nat.{ℕ, zero, suc, ◌+◌, ◌≤◌, ◌<◌}
 use mathlib.Core.Path.{◌≡◌, refl, sym, ap, ◌∙◌}
 use mathlib.Core.Bool.{false, cond}
@@ -12,7 +13,7 @@ use Rattle.laws.specs.Bytes.{to_le}
 use Rattle.laws.proofs.Bytes.{to_from, Below, below-take, below-drop}
 use Rattle.laws.proofs.Truths.{by_cond}
 use Rattle.error.specs.declared.Refusal.TheVariants.{BadList}
-use Rattle.error.specs.Result.{Result, ok, refused, before}
+use Rattle.error.specs.Result.{Result, before}
 use Rattle.row_list.specs.Rows.{first_size, first_row, later_rows, rows_from, rows_of, list_limit}
 use Rattle.row_list.specs.Framed.{framed}
 use Rattle.printed_list.specs.Sorted.{Every}
@@ -66,14 +67,14 @@ module _ (s : List ℕ) (h : 2 + first_size s ≤ length s) where
 
 pub rows-from : (n : ℕ) (s : List ℕ) → Gives (RowsIn n s) OfList (rows_from n s)
 rows-from zero s =
-    by_cond (Gives (RowsIn 0 s) OfList) (eqb (length s) 0) (ok []) (refused BadList)
+    by_cond (Gives (RowsIn 0 s) OfList) (eqb (length s) 0) (Ok []) (Err BadList)
     (λ e. good (no_rows 0 s (eqb-true (length s) 0 e))) (λ e. bad list)
 rows-from (suc n) s =
-    by_cond (Gives (RowsIn (suc n) s) OfList) (eqb (length s) 0) (ok [])
-    (cond (ltb (length s) (2 + first_size s)) (refused BadList) (before (first_row s) (rows_from n (later_rows s))))
+    by_cond (Gives (RowsIn (suc n) s) OfList) (eqb (length s) 0) (Ok [])
+    (cond (ltb (length s) (2 + first_size s)) (Err BadList) (before (first_row s) (rows_from n (later_rows s))))
     (λ e. good (no_rows (suc n) s (eqb-true (length s) 0 e)))
     (λ e.
-    by_cond (Gives (RowsIn (suc n) s) OfList) (ltb (length s) (2 + first_size s)) (refused BadList)
+    by_cond (Gives (RowsIn (suc n) s) OfList) (ltb (length s) (2 + first_size s)) (Err BadList)
     (before (first_row s) (rows_from n (later_rows s))) (λ l. bad list)
     (λ l. before-good (first_row s) (rows-from n (later_rows s)) (one_more s (ltb-false (length s) (2 + first_size s) l) n)))
 
@@ -84,7 +85,7 @@ pub record ListIn (n : ℕ) (s : List ℕ) (rs : List (List ℕ)) : Type 0 where
 
 pub rows_of_lem : (most : ℕ) (s : List ℕ) → Gives (ListIn most s) OfList (rows_of most s)
 rows_of_lem most s =
-    by_cond (Gives (ListIn most s) OfList) (ltb list_limit (length s)) (refused BadList) (rows_from most s) (λ l. bad list)
+    by_cond (Gives (ListIn most s) OfList) (ltb list_limit (length s)) (Err BadList) (rows_from most s) (λ l. bad list)
     (λ l. within (ltb-false list_limit (length s) l) (rows-from most s))
   where
     within : length s ≤ list_limit → {res : Result (List (List ℕ))} → Gives (RowsIn most s) OfList res
@@ -92,7 +93,7 @@ rows_of_lem most s =
     within h (good k) = good (record { rows = k; limit = h })
     within h (bad q) = bad q
 
-pub rows-count : (most : ℕ) (s : List ℕ) (rs : List (List ℕ)) → rows_of most s ≡ ok rs → length rs ≤ most
+pub rows-count : (most : ℕ) (s : List ℕ) (rs : List (List ℕ)) → rows_of most s ≡ Ok rs → length rs ≤ most
 rows-count most s rs e = (of_good (rows_of_lem most s) e).rows.count
 
 -- the list is its rows, each after its length
@@ -125,7 +126,7 @@ module _ (r rest : List ℕ) (h : length r < 65536) where
   not_cut : ltb (length one) (2 + first_size one) ≡ false
   not_cut = le-ltb (length one) (2 + first_size one) (omega (arith, size_back, length-append r rest))
 
-framed-from : (n : ℕ) (rs : List (List ℕ)) → length rs ≤ n → length (framed rs) < 65536 → rows_from n (framed rs) ≡ ok rs
+framed-from : (n : ℕ) (rs : List (List ℕ)) → length rs ≤ n → length (framed rs) < 65536 → rows_from n (framed rs) ≡ Ok rs
 framed-from zero [] h l = refl
 framed-from zero (r ∷ rs) h l = absurd (omega arith)
 framed-from (suc n) [] h l = refl

@@ -1,9 +1,9 @@
--- FORMAT 10.2. 02, request 2: "the reading refusals": a row is refused with a number other than 17 exactly if a read of
+-- FORMAT 10.2. 02, request 2: "the reading refusals": a row is Err with a number other than 17 exactly if a read of
 -- all of its columns is, whatever is lent to it, and not for want of room.
-use Rattle.std.specs.Prelude.{ℕ, ◌≡◌, ◌↔◌, List, [], ◌∷◌}
+use Rattle.std.specs.Prelude.{ℕ, ◌≡◌, ◌↔◌, List, [], ◌∷◌, Err}
 use Rattle.error.specs.declared.Refusal.{Refusal}
 use Rattle.error.specs.Refusal.{number_of}
-use Rattle.error.specs.Result.{refused}
+
 use Rattle.error.specs.Answer.{unchanged_both}
 use Rattle.row_decode.specs.Read.{read_call}
 use Rattle.occupation.specs.Occupation.{occupation_in}
@@ -18,5 +18,5 @@ all_columns = 0 ∷ 1 ∷ 2 ∷ 3 ∷ []
 abbrev pub RefusedAsRead : Type 0
 RefusedAsRead =
     (r out counts : List ℕ) (e : Refusal) → (number_of e ≡ 14 → ⊥) → (number_of e ≡ 17 → ⊥)
-    → (occupation_in r ≡ refused e)
+    → (occupation_in r ≡ Err e)
     ↔ (read_call occupation_schema r all_columns out counts ≡ unchanged_both out counts e)

@@ -1,7 +1,7 @@
 -- FORMAT 10.2. What is known of an occupation that was read and not refused.
-use Rattle.std.specs.Prelude.{ℕ, ◌≤◌, ◌<◌, ◌≡◌, true, false, List, length}
+use Rattle.std.specs.Prelude.{ℕ, ◌≤◌, ◌<◌, ◌≡◌, true, false, List, length, Ok}
 use Rattle.std.proofs.Math.Option.{Option, none, some}
-use Rattle.error.specs.Result.{ok}
+
 use Rattle.text.specs.Rfc3629.{is_text}
 use Rattle.occupation.specs.Occupation.{Occupation, has_unprintable, occupation_in}
 
@@ -29,4 +29,4 @@ pub record Printable (o : Occupation) : Type 0 where
   pub unit_clean : has_unprintable o.unit ≡ false
 
 abbrev pub ReadPrintable : Type 0
-ReadPrintable = (r : List ℕ) (o : Occupation) → occupation_in r ≡ ok o → Printable o
+ReadPrintable = (r : List ℕ) (o : Occupation) → occupation_in r ≡ Ok o → Printable o

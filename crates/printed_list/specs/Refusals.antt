@@ -1,10 +1,10 @@
 -- FORMAT 10.5. 02, request 2: the refusals of a list: 16, "the reading refusals" and 17. No list gives 4, since none of
 -- its rows is that long, nor 2, nor 14.
-use Rattle.std.specs.Prelude.{ℕ, ◌≤◌, ◌≡◌, List}
+use Rattle.std.specs.Prelude.{ℕ, ◌≤◌, ◌≡◌, List, Err}
 use Rattle.error.specs.declared.Refusal.{Refusal}
 use Rattle.error.specs.declared.Refusal.TheVariants.{RowTooShort, WrongColumnCount, WrongVarlenCount}
 use Rattle.error.specs.declared.Refusal.TheVariants.{BadRange, NoValue, BadList, Unprintable}
-use Rattle.error.specs.Result.{refused}
+
 use Rattle.occupation_list.specs.Print.{occupations_of}
 
 pub data OfList : Refusal → Type 0 where
@@ -17,4 +17,4 @@ pub data OfList : Refusal → Type 0 where
   text : (i : ℕ) → i ≤ 1 → OfList (Unprintable i)
 
 abbrev pub RefusalsTold : Type 0
-RefusalsTold = (bytes : List ℕ) (e : Refusal) → occupations_of bytes ≡ refused e → OfList e
+RefusalsTold = (bytes : List ℕ) (e : Refusal) → occupations_of bytes ≡ Err e → OfList e

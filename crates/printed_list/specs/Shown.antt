@@ -1,9 +1,9 @@
--- FORMAT 10.7. 02, request 2: "Two lists that are not refused and whose texts, nulls or seconds differ, taken in this
+-- FORMAT 10.7. 02, request 2: "Two lists that are not Err and whose texts, nulls or seconds differ, taken in this
 -- order, never give the same lines."
-use Rattle.std.specs.Prelude.{ℕ, ◌/◌, ◌≡◌, ◌↔◌, true, List, map}
+use Rattle.std.specs.Prelude.{ℕ, ◌/◌, ◌≡◌, ◌↔◌, true, List, map, Err, Ok}
 use Rattle.std.proofs.Math.Option.{Option, none, some}
 use Rattle.error.specs.declared.Refusal.{Refusal}
-use Rattle.error.specs.Result.{Result, ok, refused}
+use Rattle.error.specs.Result.{Result}
 use Rattle.occupation.specs.Occupation.{Occupation}
 use Rattle.occupation.specs.Order.{precedes}
 use Rattle.occupation_list.specs.Ordered.{ordered}
@@ -36,13 +36,13 @@ shown_in_order os = map shown (ordered precedes os)
 
 abbrev pub NeverSame : Type 0
 NeverSame =
-    (a b : List ℕ) (os qs : List Occupation) → occupations_of a ≡ ok os → occupations_of b ≡ ok qs
+    (a b : List ℕ) (os qs : List Occupation) → occupations_of a ≡ Ok os → occupations_of b ≡ Ok qs
     → (shown_in_order os ≡ shown_in_order qs → ⊥) → lines_of os ≡ lines_of qs → ⊥
 
 -- and, as nothing else is printed, exactly
 abbrev pub LinesTell : Type 0
 LinesTell =
-    (a b : List ℕ) (os qs : List Occupation) → occupations_of a ≡ ok os → occupations_of b ≡ ok qs
+    (a b : List ℕ) (os qs : List Occupation) → occupations_of a ≡ Ok os → occupations_of b ≡ Ok qs
     → (lines_of os ≡ lines_of qs) ↔ (shown_in_order os ≡ shown_in_order qs)
 
 -- the rows are printed in order, of which there is one
@@ -58,8 +58,8 @@ LevelIs =
 
 -- what two lists have in common of which it prints the same
 pub data SameReport : Result (List Occupation) → Result (List Occupation) → Type 0 where
-  lines : (os qs : List Occupation) → shown_in_order os ≡ shown_in_order qs → SameReport (ok os) (ok qs)
-  refusal : (e : Refusal) → SameReport (refused e) (refused e)
+  lines : (os qs : List Occupation) → shown_in_order os ≡ shown_in_order qs → SameReport (Ok os) (Ok qs)
+  refusal : (e : Refusal) → SameReport (Err e) (Err e)
 
 abbrev pub ReportTells : Type 0
 ReportTells = (a b : List ℕ) → report a ≡ report b → SameReport (occupations_of a) (occupations_of b)

@@ -1,4 +1,6 @@
 -- A column's value by the bytes of both records: whether the column holds it, what it adds to the row, and its stored form.
+use Rattle.error.specs.Result.{Result}
+use Rattle.std.specs.Prelude.{Err, Ok}
 use Prim.Native.Nat.{ℕ, ◌+◌, ◌/◌, ◌%◌, ◌≤◌, ◌<◌}
 use mathlib.Core.Path.{◌≡◌, refl, sym, ap, ◌∙◌, subst}
 use mathlib.Core.Bool.{Bool, true, false, cond, false≢true}
@@ -11,15 +13,12 @@ use mir.Syntax.{Width}
 use mir.Val.{Fits, to_z, of_z}
 use mir.ValLaws.{of_z-to_z}
 use Rattle.error.specs.declared.Refusal.TheVariants.{WrongKind, Unsuitable}
-use Rattle.error.specs.declared.Answer.TheVariants as Answer
 use Rattle.laws.proofs.Truths.{both}
 use Rattle.text_limit.specs.Limit.{size_by, fits_text}
 use Rattle.text_limit.proofs.Limits.{fits-size, fits-valid}
 use Rattle.bit_utils.specs.Bits.{bytes_for}
 use Rattle.datatype.specs.declared.DataType.{DataType}
 use Rattle.datatype.specs.declared.DataType.TheVariants as T
-use Rattle.datatype.specs.declared.Record.{Record}
-use Rattle.datatype.specs.declared.Record.TheVariants.{Column, Refused}
 use Rattle.datatype.specs.Types.{size_of, is_varlen, precision_of, counts_points}
 use Rattle.datatype.specs.Schema.{column_kind, column_record_at}
 use Rattle.datatype.specs.InnerSteps.{type_in}
@@ -226,9 +225,9 @@ digits_declared T.Timestamp n d e = absurd (omega (arith, e))
 pub slot-bytes : {s : List ℕ} {at : ℕ} → HasType s at → {k n : ℕ} → k ≡ held_kind (column_kind (get_or s at 0)) → n ≡ declared_at s at → slot_size k n ≡ size_of (type_in (column_record_at s at))
 slot-bytes {s} {at} h {k} {n} f g = rw (f, g) (by_record (column_record_at s at) refl)
   where
-    by_record : (q : Record) → column_record_at s at ≡ q → slot_size (held_kind (column_kind (get_or s at 0))) (declared_at s at) ≡ size_of (type_in q)
-    by_record (Column t next) e = rw (told s at e).0 (body_of 0 [] 0 t (declared_at s at) (told s at e).1).size
-    by_record (Refused u) e = absurd (h.type_there e)
+    by_record : (q : Result (DataType × ℕ)) → column_record_at s at ≡ q → slot_size (held_kind (column_kind (get_or s at 0))) (declared_at s at) ≡ size_of (type_in q)
+    by_record (Ok (t, next)) e = rw (told s at e).0 (body_of 0 [] 0 t (declared_at s at) (told s at e).1).size
+    by_record (Err u) e = absurd (h.type_there e)
 
 -- ---- the column's value at a place
 
@@ -284,11 +283,11 @@ module _ {s : List ℕ} {at : ℕ} {list : List ℕ} {from : ℕ} (r : Readable 
   -- ---- what it adds to the row
 
   module _ (i : ℕ) (area : List ℕ) where
-    pub null-payload : k ≡ 0 → Answer.Done 0 ≡ payload_in i s at list from area
+    pub null-payload : k ≡ 0 → Ok 0 ≡ payload_in i s at list from area
     null-payload e = size-null i t v area (is-null e)
 
     module _ (z : k ≡ 0 → ⊥) where
-      pub wrong_kind : (k ≡ held_kind (column_kind (get_or s at 0)) → ⊥) → Answer.Refused (WrongKind i) ≡ payload_in i s at list from area
+      pub wrong_kind : (k ≡ held_kind (column_kind (get_or s at 0)) → ⊥) → Err (WrongKind i) ≡ payload_in i s at list from area
       wrong_kind y =
           let e : matches t v ≡ false = rw (value_body r, kind_of_lem w list (from + 1) k (omega (arith, z)) known) (ne_eqb k (value_kind t) (λ f. y (f ∙ sym (told s at (read_at r).type_is).0))) in
           size-refused i t v area (cell_wrong i t v area (is-value z) e)
@@ -329,17 +328,17 @@ module _ {s : List ℕ} {at : ℕ} {list : List ℕ} {from : ℕ} (r : Readable 
             sym held-suits ∙ ap (λ (j : ℕ). suits_at q w k j list (from + 1) area) (sym d)
             ∙ ap (λ (b : Bool). suits_at b w k m list (from + 1) area) (sym points-held) ∙ sym f ∙ e
 
-        pub unsuitable : {m : ℕ} {b : Bool} → m ≡ n → b ≡ suits_at (eqb (get_or s at 0) 16) w k m list (from + 1) area → b ≡ false → Answer.Refused (Unsuitable i) ≡ payload_in i s at list from area
+        pub unsuitable : {m : ℕ} {b : Bool} → m ≡ n → b ≡ suits_at (eqb (get_or s at 0) 16) w k m list (from + 1) area → b ≡ false → Err (Unsuitable i) ≡ payload_in i s at list from area
         unsuitable d f e = size-refused i t v area (cell_unsuited i t v area (is-value z) held-matches (told-suits d f e))
 
         module _ {m : ℕ} {b : Bool} (d : m ≡ n) (f : b ≡ suits_at (eqb (get_or s at 0) 16) w k m list (from + 1) area) (e : b ≡ true) where
           suited : accepted t v area ≡ true
           suited = told-suits d f e
 
-          pub found_payload : Answer.Done (payload_length w k list (from + 1)) ≡ payload_in i s at list from area
+          pub found_payload : Ok (payload_length w k list (from + 1)) ≡ payload_in i s at list from area
           found_payload = rw held-size (by_shape (is_varlen t) refl)
             where
-              by_shape : (o : Bool) → is_varlen t ≡ o → Answer.Done (cond o (range_of v).length 0) ≡ payload_in i s at list from area
+              by_shape : (o : Bool) → is_varlen t ≡ o → Ok (cond o (range_of v).length 0) ≡ payload_in i s at list from area
               by_shape true g = size-varchar i t v area (is-value z) held-matches suited g
               by_shape false g = size-fixed i t v area (is-value z) held-matches suited g
 

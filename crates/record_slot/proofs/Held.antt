@@ -1,4 +1,7 @@
 -- A column's value by the bytes of both records: what the kinds and the body tell of it.
+use Rattle.error.specs.Result.{Result}
+use Rattle.std.specs.Prelude.{Err, Ok}
+use Rattle.value.specs.declared.DataValue.{DataValue}
 use Prim.Native.Nat.{ℕ, ◌+◌, ◌*◌, ◌-◌, ◌/◌, ◌%◌, ◌≤◌, ◌<◌}
 use mathlib.Core.Path.{◌≡◌, refl, sym, ap, ◌∙◌}
 use mathlib.Core.Bool.{Bool, true, false, cond, ◌&&◌}
@@ -14,8 +17,6 @@ use Rattle.text_limit.specs.Limit.{fits_text}
 use Rattle.bit_utils.specs.Bits.{bytes_for}
 use Rattle.datatype.specs.declared.DataType.{DataType}
 use Rattle.datatype.specs.declared.DataType.TheVariants as T
-use Rattle.datatype.specs.declared.Record.{Record}
-use Rattle.datatype.specs.declared.Record.TheVariants.{Column, Refused}
 use Rattle.datatype.specs.Schema.{Kind, unknown, plain, sized, digits, column_kind, good_digits, column_record_of, column_record_at}
 use Rattle.datatype.specs.InnerSteps.{plain_size, type_in}
 use Rattle.datatype.proofs.KindTable.{Bodied, no, word, pair, bodied}
@@ -23,8 +24,6 @@ use Rattle.datatype.proofs.Plain.{plain_record}
 use Rattle.value.specs.declared.TextRange.{TextRange}
 use Rattle.value.specs.Kinds.{value_kind, plain_kind, is_long_kind, is_value_kind}
 use Rattle.value.specs.InnerKinds.{held_kind}
-use Rattle.value_list.specs.declared.ValueRecord.{ValueRecord}
-use Rattle.value_list.specs.declared.ValueRecord.TheVariants as Value
 use Rattle.value_list.specs.Records.{body_length, number_at, record_at as valueRecordAt}
 use Rattle.value_list.specs.InnerSizes.{body_in, size_at}
 use Rattle.value_list.proofs.Records.{Given, given}
@@ -46,22 +45,22 @@ null-plain k z =
 -- ---- the records at two places
 
 module _ (s : List ℕ) (at : ℕ) where
-  abbrev Long : Record → Type 0
-  Long (Column t next) = next ≡ at + 3
-  Long (Refused e) = Unit {0}
+  abbrev Long : Result (DataType × ℕ) → Type 0
+  Long (Ok (t, next)) = next ≡ at + 3
+  Long (Err e) = Unit {0}
 
   long_of : {q : Kind} → Bodied q → Long (column_record_of q s at)
   long_of no = tt
-  long_of word = by_cond Long (ltb (length s) (at + 3)) (Refused (BadRecord at)) _ (λ f. tt) (λ f. refl)
+  long_of word = by_cond Long (ltb (length s) (at + 3)) (Err (BadRecord at)) _ (λ f. tt) (λ f. refl)
   long_of (pair {t}) =
-      by_cond Long (ltb (length s) (at + 3)) (Refused (BadRecord at)) _ (λ f. tt)
-      (λ f. by_cond Long (good_digits (get_or s (at + 1) 0) (get_or s (at + 2) 0)) (Column (t (get_or s (at + 1) 0) (get_or s (at + 2) 0)) (at + 3)) (Refused (BadSchema at)) (λ g. refl) (λ g. tt))
+      by_cond Long (ltb (length s) (at + 3)) (Err (BadRecord at)) _ (λ f. tt)
+      (λ f. by_cond Long (good_digits (get_or s (at + 1) 0) (get_or s (at + 2) 0)) (Ok ((t (get_or s (at + 1) 0) (get_or s (at + 2) 0)), (at + 3))) (Err (BadSchema at)) (λ g. refl) (λ g. tt))
 
-  abbrev place_in : Record → ℕ
-  place_in (Column t next) = next
-  place_in (Refused e) = 0
+  abbrev place_in : Result (DataType × ℕ) → ℕ
+  place_in (Ok (t, next)) = next
+  place_in (Err e) = 0
 
-  after_is : {t : DataType} {next : ℕ} → column_record_at s at ≡ Column t next → after_column s at ≡ next
+  after_is : {t : DataType} {next : ℕ} → column_record_at s at ≡ Ok (t, next) → after_column s at ≡ next
   after_is {t} {next} e = by_size (eqb (plain_size (column_kind (get_or s at 0))) 0) refl
     where
       by_size : (b : Bool) → eqb (plain_size (column_kind (get_or s at 0))) 0 ≡ b → cond b (at + 3) (at + 1) ≡ next
@@ -79,20 +78,20 @@ module _ (list : List ℕ) (from : ℕ) {z : ℕ} (e : z ≡ length_at list from
   pub some-length : (z ≡ 0 → ⊥) → (from < length list) × (Whole list from × (z ≡ size_at list from))
   some-length n = (there n, (size-some list from (there n) (λ f. n (size_is (there n) ∙ f)), size_is (there n)))
 
-  pub no_length : z ≡ 0 → from < length list → valueRecordAt list from ≡ Value.Refused (BadValueList from)
+  pub no_length : z ≡ 0 → from < length list → valueRecordAt list from ≡ Err (BadValueList from)
   no_length n h = size_none list from h (sym (size_is h) ∙ n)
 
 module _ {s : List ℕ} {at : ℕ} {list : List ℕ} {from : ℕ} (r : Readable s at list from) where
   pub has_type : HasType s at
   has_type = record { column = r.column; type_there = λ e. r.type_there e }
 
-  type_read : (q : Record) → column_record_at s at ≡ q → column_record_at s at ≡ Column (type_in (column_record_at s at)) (after_column s at)
-  type_read (Column t next) e = rw (after_is s at e, e)
-  type_read (Refused u) e = absurd (r.type_there e)
+  type_read : (q : Result (DataType × ℕ)) → column_record_at s at ≡ q → column_record_at s at ≡ Ok ((type_in (column_record_at s at)), (after_column s at))
+  type_read (Ok (t, next)) e = rw (after_is s at e, e)
+  type_read (Err u) e = absurd (r.type_there e)
 
-  value_read : (q : ValueRecord) → valueRecordAt list from ≡ q → valueRecordAt list from ≡ Value.Value (value_in (valueRecordAt list from)) (from + 1 + body_length (get_or list from 0))
-  value_read (Value.Value v next) e = e ∙ ap (Value.Value v) (given list from e).place ∙ ap (λ (q : ValueRecord). Value.Value (value_in q) (from + 1 + body_length (get_or list from 0))) (sym e)
-  value_read (Value.Refused u) e = absurd (r.value_there e)
+  value_read : (q : Result (DataValue × ℕ)) → valueRecordAt list from ≡ q → valueRecordAt list from ≡ Ok ((value_in (valueRecordAt list from)), (from + 1 + body_length (get_or list from 0)))
+  value_read (Ok (v, next)) e = e ∙ ap ((λ z. Ok (v, z))) (given list from e).place ∙ ap (λ (q : Result (DataValue × ℕ)). Ok ((value_in q), (from + 1 + body_length (get_or list from 0)))) (sym e)
+  value_read (Err u) e = absurd (r.value_there e)
 
   pub read_at : ReadAt s at list from (given_at s at list from)
   read_at = record { type_is = type_read (column_record_at s at) refl; value-is = value_read (valueRecordAt list from) refl }
@@ -158,9 +157,9 @@ telling k =
     (either (eqb k 15) _ _ (λ n. tt)
     (either (eqb k 16) _ _ (λ n. (refl, refl)) tt)))))))))))))))
 
-abbrev Told : ℕ → ℕ → Record → Type 0
-Told h n (Column t next) = (h ≡ value_kind t) × Declared t n
-Told h n (Refused e) = Unit {0}
+abbrev Told : ℕ → ℕ → Result (DataType × ℕ) → Type 0
+Told h n (Ok (t, next)) = (h ≡ value_kind t) × Declared t n
+Told h n (Err e) = Unit {0}
 
 two_bytes : (s : List ℕ) (at : ℕ) → at + 2 ≤ length s → number_at 2 s at ≡ get_or s at 0 + 256 * get_or s (at + 1) 0
 two_bytes s at h = from-add 1 1 at s (omega arith) ∙ rw (from_one at s (omega arith), from_one (at + 1) s (omega arith))
@@ -170,7 +169,7 @@ told_of unknown f s at = tt
 told_of (plain t) f s at = (refl, f (declared_at s at))
 told_of (sized t) f s at = by_room (ltb (length s) (at + 3))
   where
-    by_room : (b : Bool) → Told (value_kind (t 0)) (cond b 0 (number_at 2 s (at + 1))) (cond b (Refused (BadRecord at)) (Column (t (number_at 2 s (at + 1))) (at + 3)))
+    by_room : (b : Bool) → Told (value_kind (t 0)) (cond b 0 (number_at 2 s (at + 1))) (cond b (Err (BadRecord at)) (Ok ((t (number_at 2 s (at + 1))), (at + 3))))
     by_room true = tt
     by_room false = f (number_at 2 s (at + 1))
 told_of (digits t) f s at = by_room (ltb (length s) (at + 3)) refl
@@ -182,10 +181,10 @@ told_of (digits t) f s at = by_room (ltb (length s) (at + 3)) refl
     z = get_or s (at + 2) 0
 
     by_room : (b : Bool) → ltb (length s) (at + 3) ≡ b
-        → Told (value_kind (t 0 0)) (cond b 0 (number_at 2 s (at + 1))) (cond b (Refused (BadRecord at)) (cond (good_digits p z) (Column (t p z) (at + 3)) (Refused (BadSchema at))))
+        → Told (value_kind (t 0 0)) (cond b 0 (number_at 2 s (at + 1))) (cond b (Err (BadRecord at)) (cond (good_digits p z) (Ok ((t p z), (at + 3))) (Err (BadSchema at))))
     by_room true e = tt
     by_room false e =
-        by_cond (Told (value_kind (t 0 0)) (number_at 2 s (at + 1))) (good_digits p z) (Column (t p z) (at + 3)) (Refused (BadSchema at))
+        by_cond (Told (value_kind (t 0 0)) (number_at 2 s (at + 1))) (good_digits p z) (Ok ((t p z), (at + 3))) (Err (BadSchema at))
         (λ g.
         let m : at + 1 + 1 ≡ at + 2 = omega arith in
         let n : number_at 2 s (at + 1) ≡ p + 256 * z = rw m at (two_bytes s (at + 1) (omega (arith, ltb-false (length s) (at + 3) e))) in
@@ -193,7 +192,7 @@ told_of (digits t) f s at = by_room (ltb (length s) (at + 3)) refl
         f p z (number_at 2 s (at + 1)) (rw n (omega arith)) (rw n (omega arith)))
         (λ g. tt)
 
-pub told : (s : List ℕ) (at : ℕ) {t : DataType} {next : ℕ} → column_record_at s at ≡ Column t next → (held_kind (column_kind (get_or s at 0)) ≡ value_kind t) × Declared t (declared_at s at)
+pub told : (s : List ℕ) (at : ℕ) {t : DataType} {next : ℕ} → column_record_at s at ≡ Ok (t, next) → (held_kind (column_kind (get_or s at 0)) ≡ value_kind t) × Declared t (declared_at s at)
 told s at e = rw e at (told_of (column_kind (get_or s at 0)) (telling (get_or s at 0)) s at)
 
 -- ---- the text or the bits of a range

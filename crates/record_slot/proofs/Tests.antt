@@ -1,4 +1,5 @@
 -- The cell of a column by the tests on its value.
+use Rattle.std.specs.Prelude.{Err, Ok}
 use Prim.Native.Nat.{ℕ, ◌+◌, ◌≤◌}
 use mathlib.Core.Path.{◌≡◌, refl, sym, ap, ◌∙◌, subst}
 use mathlib.Core.Bool.{Bool, true, false, cond}
@@ -9,8 +10,7 @@ use lib.ListN.{length, drop, length-drop}
 use lib.Seq.{length-take-le}
 use Rattle.error.specs.declared.Refusal.{Refusal}
 use Rattle.error.specs.declared.Refusal.TheVariants.{WrongKind, Unsuitable}
-use Rattle.error.specs.declared.Answer.TheVariants as Answer
-use Rattle.error.specs.Result.{Result, ok, refused}
+use Rattle.error.specs.Result.{Result}
 use Rattle.row_format.specs.Table.{Cell, bytes}
 use Rattle.datatype.specs.declared.DataType.{DataType}
 use Rattle.datatype.specs.Types.{size_of, is_varlen}
@@ -53,17 +53,17 @@ module _ (t : DataType) (v : DataValue) (area : List ℕ) (m : matches t v ≡ t
 -- ---- the four outcomes
 
 module _ (i : ℕ) (t : DataType) (v : DataValue) (area : List ℕ) where
-  pub cell_null : is_null v ≡ true → cell_in i t v area ≡ ok none
+  pub cell_null : is_null v ≡ true → cell_in i t v area ≡ Ok none
   cell_null n = rw n
 
   module _ (n : is_null v ≡ false) where
-    pub cell_wrong : matches t v ≡ false → cell_in i t v area ≡ refused (WrongKind i)
+    pub cell_wrong : matches t v ≡ false → cell_in i t v area ≡ Err (WrongKind i)
     cell_wrong m = rw (n, m)
 
-    pub cell_unsuited : matches t v ≡ true → accepted t v area ≡ false → cell_in i t v area ≡ refused (Unsuitable i)
+    pub cell_unsuited : matches t v ≡ true → accepted t v area ≡ false → cell_in i t v area ≡ Err (Unsuitable i)
     cell_unsuited m a = rw (n, m, a)
 
-    pub cell_stored : matches t v ≡ true → accepted t v area ≡ true → cell_in i t v area ≡ ok (some (stored_form t v (text_of area v)))
+    pub cell_stored : matches t v ≡ true → accepted t v area ≡ true → cell_in i t v area ≡ Ok (some (stored_form t v (text_of area v)))
     cell_stored m a = rw (n, m, a)
 
 -- ---- and back: what a cell says of the value
@@ -73,20 +73,20 @@ pub data CellIs (t : DataType) (v : DataValue) (area : List ℕ) : Cell → Type
   stored : is_null v ≡ false → matches t v ≡ true → accepted t v area ≡ true → CellIs t v area (some (stored_form t v (text_of area v)))
 
 abbrev cell_of : Result Cell → Cell
-cell_of (ok c) = c
-cell_of (refused e) = none
+cell_of (Ok c) = c
+cell_of (Err e) = none
 
 abbrev pub IsGood : {A : Type 0} → Result A → Type 0
-IsGood (ok x) = Unit {0}
-IsGood (refused e) = ⊥
+IsGood (Ok x) = Unit {0}
+IsGood (Err e) = ⊥
 
-pub cell_is : (i : ℕ) (t : DataType) (v : DataValue) (area : List ℕ) {c : Cell} → cell_in i t v area ≡ ok c → CellIs t v area c
+pub cell_is : (i : ℕ) (t : DataType) (v : DataValue) (area : List ℕ) {c : Cell} → cell_in i t v area ≡ Ok c → CellIs t v area c
 cell_is i t v area {c} e = by_null (is_null v) refl
   where
-    same : {d : Cell} → cell_in i t v area ≡ ok d → d ≡ c
+    same : {d : Cell} → cell_in i t v area ≡ Ok d → d ≡ c
     same f = ap cell_of (sym f ∙ e)
 
-    never : {q : Refusal} → cell_in i t v area ≡ refused q → ⊥
+    never : {q : Refusal} → cell_in i t v area ≡ Err q → ⊥
     never f = subst IsGood (sym e ∙ f) tt
 
     by_suited : is_null v ≡ false → matches t v ≡ true → (b : Bool) → accepted t v area ≡ b → CellIs t v area c
@@ -104,10 +104,10 @@ cell_is i t v area {c} e = by_null (is_null v) refl
 -- ---- the payload's size
 
 module _ (i : ℕ) (t : DataType) (v : DataValue) (area : List ℕ) where
-  pub size_of_lem : {c : Cell} {n : ℕ} → cell_in i t v area ≡ ok c → n ≡ cond (is_varlen t) (length (bytes c)) 0 → Answer.Done n ≡ payload_answer t (cell_in i t v area)
-  size_of_lem e h = rw e (ap Answer.Done h)
+  pub size_of_lem : {c : Cell} {n : ℕ} → cell_in i t v area ≡ Ok c → n ≡ cond (is_varlen t) (length (bytes c)) 0 → Ok n ≡ payload_answer t (cell_in i t v area)
+  size_of_lem e h = rw e (ap Ok h)
 
-  pub size-refused : {e : Refusal} → cell_in i t v area ≡ refused e → Answer.Refused e ≡ payload_answer t (cell_in i t v area)
+  pub size-refused : {e : Refusal} → cell_in i t v area ≡ Err e → Err e ≡ payload_answer t (cell_in i t v area)
   size-refused e = rw e
 
 zero-null : (b : Bool) → ◌≡◌ {A = ℕ} 0 (cond b 0 0)
@@ -115,12 +115,12 @@ zero-null true = refl
 zero-null false = refl
 
 module _ (i : ℕ) (t : DataType) (v : DataValue) (area : List ℕ) where
-  pub size-null : is_null v ≡ true → Answer.Done 0 ≡ payload_answer t (cell_in i t v area)
+  pub size-null : is_null v ≡ true → Ok 0 ≡ payload_answer t (cell_in i t v area)
   size-null n = size_of_lem i t v area (cell_null i t v area n) (zero-null (is_varlen t))
 
   module _ (n : is_null v ≡ false) (m : matches t v ≡ true) (a : accepted t v area ≡ true) where
-    pub size-fixed : is_varlen t ≡ false → Answer.Done 0 ≡ payload_answer t (cell_in i t v area)
+    pub size-fixed : is_varlen t ≡ false → Ok 0 ≡ payload_answer t (cell_in i t v area)
     size-fixed f = size_of_lem i t v area (cell_stored i t v area n m a) (rw f)
 
-    pub size-varchar : is_varlen t ≡ true → Answer.Done (range_of v).length ≡ payload_answer t (cell_in i t v area)
+    pub size-varchar : is_varlen t ≡ true → Ok (range_of v).length ≡ payload_answer t (cell_in i t v area)
     size-varchar f = size_of_lem i t v area (cell_stored i t v area n m a) (rw f (sym (length-payload t v area m a f)))

@@ -1,11 +1,10 @@
 -- For the proofs: a column's record and a value's, by their bytes.
-use Rattle.std.specs.Prelude.{ℕ, ◌+◌, ◌-◌, ◌^◌, ◌/◌, ◌%◌, ◌≤◌, ◌<◌, Bool, true, false, cond, List, [], ◌∷◌, ◌++◌, ◌≡◌, eqb, leb, ltb, length, get_or, replicate}
+use Rattle.std.specs.Prelude.{ℕ, ◌+◌, ◌-◌, ◌^◌, ◌/◌, ◌%◌, ◌≤◌, ◌<◌, Bool, true, false, cond, List, [], ◌∷◌, ◌++◌, ◌≡◌, eqb, leb, ltb, length, get_or, replicate, Err, Ok}
 use Rattle.std.proofs.Math.Option.{some}
 use Rattle.std.specs.Int.{w16, w32, w64}
 use Rattle.std.proofs.Common.{to_z, of_z}
 use Rattle.error.specs.declared.Refusal.{Refusal}
-use Rattle.error.specs.declared.Answer.{Answer}
-use Rattle.error.specs.Result.{Result, ok, refused}
+use Rattle.error.specs.Result.{Result}
 use Rattle.laws.specs.Bytes.{to_le}
 use Rattle.row_format.specs.Table.{Cell, bytes}
 use Rattle.text.specs.Rfc3629.{is_text}
@@ -14,7 +13,6 @@ use Rattle.bit_utils.specs.Bits.{bytes_for, pack_bits, unpack_bits}
 use Rattle.numeric.specs.Packed.{encode_bcd}
 use Rattle.datatype.specs.declared.DataType.{DataType}
 use Rattle.datatype.specs.declared.DataType.TheVariants as T
-use Rattle.datatype.specs.declared.Record.TheVariants as Column
 use Rattle.datatype.specs.Types.{size_of, is_varlen, precision_of}
 use Rattle.datatype.specs.Schema.{column_kind, column_record_at}
 use Rattle.datatype.specs.InnerSteps.{plain_size, type_in}
@@ -25,8 +23,6 @@ use Rattle.value.specs.declared.DataValue.{DataValue}
 use Rattle.value.specs.declared.DataValue.TheVariants.{Null}
 use Rattle.value.specs.Kinds.{matches}
 use Rattle.value.specs.Ranges.{in_area, part, text_of}
-use Rattle.value_list.specs.declared.ValueRecord.{ValueRecord}
-use Rattle.value_list.specs.declared.ValueRecord.TheVariants as Value
 use Rattle.value_list.specs.InnerSizes.{body_in, size_at}
 use Rattle.value_list.specs.Records.{body_length, number_at, numeric_at, range_at, record_at as valueRecordAt}
 use Rattle.stored_form.specs.Number.{is_negative, magnitude}
@@ -39,14 +35,14 @@ use Rattle.record_slot.specs.Stored.{is_null, cell_in}
 -- a place at which there is a column's record
 pub record HasType (s : List ℕ) (at : ℕ) : Type 0 where
   pub column : at < length s
-  pub type_there : {e : Refusal} → column_record_at s at ≡ Column.Refused e → ⊥
+  pub type_there : {e : Refusal} → column_record_at s at ≡ Err e → ⊥
 
 -- two places at which there are records
 pub record Readable (s : List ℕ) (at : ℕ) (list : List ℕ) (from : ℕ) : Type 0 where
   pub column : at < length s
-  pub type_there : {e : Refusal} → column_record_at s at ≡ Column.Refused e → ⊥
+  pub type_there : {e : Refusal} → column_record_at s at ≡ Err e → ⊥
   pub value : from < length list
-  pub value_there : {e : Refusal} → valueRecordAt list from ≡ Value.Refused e → ⊥
+  pub value_there : {e : Refusal} → valueRecordAt list from ≡ Err e → ⊥
 
 -- a column's type and the value that is given for it, with the places after their records
 pub record Given : Type 0 where
@@ -56,15 +52,15 @@ pub record Given : Type 0 where
   pub next-value : ℕ
 
 pub record ReadAt (s : List ℕ) (at : ℕ) (list : List ℕ) (from : ℕ) (g : Given) : Type 0 where
-  pub type_is : column_record_at s at ≡ Column.Column g.ty g.next_type
-  pub value-is : valueRecordAt list from ≡ Value.Value g.value g.next-value
+  pub type_is : column_record_at s at ≡ Ok (g.ty, g.next_type)
+  pub value-is : valueRecordAt list from ≡ Ok (g.value, g.next-value)
 
 -- ---- the same by the bytes of the records
 
 -- the value that a record says
-abbrev pub value_in : ValueRecord → DataValue
-value_in (Value.Value v next) = v
-value_in (Value.Refused e) = Null
+abbrev pub value_in : Result (DataValue × ℕ) → DataValue
+value_in (Ok (v, next)) = v
+value_in (Err e) = Null
 
 -- the bytes of the value's record at a place, 0 where there is none
 abbrev pub length_at : List ℕ → ℕ → ℕ
@@ -126,19 +122,19 @@ payload_length w k list at = cond (eqb k 9) (range_at w list at).length 0
 abbrev pub payload_added : DataType → Cell → ℕ
 payload_added t c = cond (is_varlen t) (length (bytes c)) 0
 
-abbrev pub payload_answer : DataType → Result Cell → Answer
-payload_answer t (ok c) = Answer.Done (payload_added t c)
-payload_answer t (refused e) = Answer.Refused e
+abbrev pub payload_answer : DataType → Result Cell → Result ℕ
+payload_answer t (Ok c) = Ok (payload_added t c)
+payload_answer t (Err e) = Err e
 
-abbrev pub payload_in : ℕ → List ℕ → ℕ → List ℕ → ℕ → List ℕ → Answer
+abbrev pub payload_in : ℕ → List ℕ → ℕ → List ℕ → ℕ → List ℕ → Result ℕ
 payload_in i s at list from area =
     payload_answer (type_in (column_record_at s at))
     (cell_in i (type_in (column_record_at s at)) (value_in (valueRecordAt list from)) area)
 
 -- no more than a text area has, of either sort
-abbrev pub Short : Answer → Type 0
-Short (Answer.Done n) = n ≤ 1048576
-Short (Answer.Refused e) = Unit {0}
+abbrev pub Short : Result ℕ → Type 0
+Short (Ok n) = n ≤ 1048576
+Short (Err e) = Unit {0}
 
 -- ---- the stored form
 

@@ -18,7 +18,7 @@ ghost use Rattle.value_list.specs.InnerSizes.{body_in};
 ghost use Rattle.record_slot.specs.InnerSteps.{length_at, HasType, Readable, declared_at, after_column, text_suits, bits_suit, number_suits, suits_at, Testable, payload_length, payload_in, Short, value_in, form_in, blank_filled, number_stored, bits_stored, SlotReady, NumberReady, TextThere, Suited, points_stored};
 
 use datatype::schema_kinds;
-use error::{Answer, Refusal};
+use error::Refusal;
 use value::value_kinds;
 
 // The two bytes after the kind of a column, a length or precision and scale; 0 where the record is too short for them.
@@ -172,19 +172,19 @@ pub fn payload_at(
     values: &[u8],
     from: usize,
     text: &[u8],
-) -> Answer
+) -> error::Result<usize>
     requires { Readable schema.now at values.now from × (length text.now ≤ 1048576) }
     ensures { (result ≡ payload_in column schema.now at values.now from text.now)
         × Short result }
 {
     let given = values[from];
     if given == value_kinds::NULL {
-        return Answer::Done(0);
+        return Ok(0);
     }
     let column_kind = schema[at];
     let kind = value::held_kind(column_kind);
     if !is_of_kind(given, kind) {
-        return Answer::Refused(Refusal::WrongKind(column));
+        return Err(Refusal::WrongKind(column));
     }
     let is_long = value::is_long_kind(given);
     let by_points = column_kind == schema_kinds::VARCHAR_CHARS;
@@ -197,9 +197,9 @@ pub fn payload_at(
         from + 1,
         text,
     ) {
-        return Answer::Done(payload_length(kind, is_long, values, from + 1));
+        return Ok(payload_length(kind, is_long, values, from + 1));
     }
-    Answer::Refused(Refusal::Unsuitable(column))
+    Err(Refusal::Unsuitable(column))
 }
 
 // The bytes of a column's slot.

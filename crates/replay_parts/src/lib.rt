@@ -6,9 +6,6 @@ pub mod kinds;
 
 ghost use Rattle.std.specs.Prelude.{◌+◌, ◌≤◌, length};
 
-use datatype::SchemaCheck;
-use error::{Answer, Flag};
-
 // What a call answered: 0 and the bytes that it handed back, or the refusal's number.
 #[derive(Clone, Copy)]
 pub struct Outcome {
@@ -16,10 +13,10 @@ pub struct Outcome {
     pub length: usize,
 }
 
-pub fn answered(answer: Answer) -> Outcome {
+pub fn answered(answer: error::Result<usize>) -> Outcome {
     match answer {
-        Answer::Done(length) => Outcome { number: 0, length },
-        Answer::Refused(r) => Outcome {
+        Ok(length) => Outcome { number: 0, length },
+        Err(r) => Outcome {
             number: r.number(),
             length: 0,
         },
@@ -88,8 +85,8 @@ fn same_null_flag(row: &[u8], column: &[u8], answer: &[u8]) -> bool {
     let outcome = answer[0];
     let flag = answer[1];
     match null_bitmap::is_column_null_in_row(row, endian::read_u64(column, 0) as usize) {
-        Flag::Is(null) => outcome == 0 && flag == null as u8,
-        Flag::Refused(r) => outcome == variant(r.number()) && flag == 0,
+        Ok(null) => outcome == 0 && flag == null as u8,
+        Err(r) => outcome == variant(r.number()) && flag == 0,
     }
 }
 
@@ -98,13 +95,13 @@ fn same_layout(schema: &[u8], answer: &[u8]) -> bool {
         return false;
     }
     match datatype::check_schema(schema, false) {
-        SchemaCheck::Good(layout) => {
+        Ok(layout) => {
             endian::read_u32(answer, 0) as usize == layout.num_columns
                 && endian::read_u32(answer, 4) as usize == layout.num_varlen_cols
                 && endian::read_u32(answer, 8) as usize == layout.packed_size
                 && endian::read_u32(answer, 12) as usize == layout.padded_size
         }
-        SchemaCheck::Refused(_) => false,
+        Err(_) => false,
     }
 }
 

@@ -1,7 +1,6 @@
 // Whether the library answers the recorded calls that write rows as recorded: builds, fresh rows, edits.
 #![tactic(auto)]
 
-use error::Answer;
 use replay_parts::{Outcome, after, answered, field, kinds, same_handed, variant};
 
 fn same_built(schema: &[u8], values: &[u8], area: &[u8], answer: &[u8]) -> bool {
@@ -43,7 +42,7 @@ fn edit(
     n: usize,
     column: usize,
     fields: &[u8],
-) -> Answer {
+) -> error::Result<usize> {
     if kind == kinds::SET_NULL {
         return row_edit::set_null(schema, buffer, n, column);
     }

@@ -1,4 +1,5 @@
 -- One type, one value: what the code knows of them where it calls on.
+use Rattle.std.specs.Prelude.{Err, None, Ok, Some}
 use Prim.Native.Nat.{ℕ, ◌≤◌}
 use mathlib.Core.Path.{◌≡◌, ◌∙◌}
 use mathlib.Core.Bool.{true, false}
@@ -13,29 +14,25 @@ use Rattle.datatype.specs.Types.{size_of, is_varlen}
 use Rattle.value.specs.declared.DataValue.{DataValue}
 use Rattle.value.specs.Kinds.{matches}
 use Rattle.value.specs.Ranges.{range_of, text_of}
-use Rattle.value_list.specs.declared.ValueRecord.TheVariants.{Value}
-use Rattle.value_list.specs.declared.ListCheck.TheVariants as Check
 use Rattle.value_list.specs.Records.{record_at, NarrowRange}
 use Rattle.value_list.specs.Lists.{checked}
 use Rattle.value_list.proofs.Records.{range_narrow}
 use Rattle.value_list.proofs.Sole.{sole_value, refused-list}
 use Rattle.value_list.specs.InnerRecords.{Narrow}
 use Rattle.value_list.specs.InnerLists.{answer}
-use Rattle.stored_form.specs.declared.SlotRead.TheVariants as Slot
 use Rattle.stored_form.specs.Write.{accepted, stored_form}
 use Rattle.stored_form.specs.Read.{read_slot}
 use Rattle.stored_form.proofs.Lengths.{length-stored, accepted-inside, accepted-suits}
 use Rattle.stored_form.proofs.Within.{slot-range}
-use Rattle.rook_probe.specs.declared.OneValue.TheVariants as One
 use Rattle.rook_probe.specs.Values.{only_value, form_length, fits_slot}
 
 -- ---- a list's one value
 
 module _ (area : ℕ) (s : List ℕ) where
-  pub one_value_lem : Check.Good ≡ answer (checked false 1 area s) → (v : DataValue) (next : ℕ) → record_at s 0 ≡ Value v next → One.Only v ≡ only_value (checked false 1 area s)
+  pub one_value_lem : (Ok tt) ≡ answer (checked false 1 area s) → (v : DataValue) (next : ℕ) → record_at s 0 ≡ Ok (v, next) → Some v ≡ only_value (checked false 1 area s)
   one_value_lem g v next e = rw (sole_value false area s g v next e)
 
-  pub none-good : (r : Refusal) → answer (checked false 1 area s) ≡ Check.Refused r → One.Bad ≡ only_value (checked false 1 area s)
+  pub none-good : (r : Refusal) → answer (checked false 1 area s) ≡ Err r → None ≡ only_value (checked false 1 area s)
   none-good r e = rw (refused-list false area s (checked false 1 area s) r e)
 
 -- ---- a stored form's length
@@ -48,7 +45,7 @@ form-length t v area m e =
 
 -- ---- a value that was read
 
-pub read_narrow : (start : ℕ) (bs : List ℕ) → start ≤ 65535 → length bs ≤ 65535 → (t : DataType) {v : DataValue} → read_slot t start bs ≡ Slot.Value v → Narrow false v
+pub read_narrow : (start : ℕ) (bs : List ℕ) → start ≤ 65535 → length bs ≤ 65535 → (t : DataType) {v : DataValue} → read_slot t start bs ≡ Some v → Narrow false v
 read_narrow start bs h k t {v} e =
     range_narrow false v (rw e at (slot-range (NarrowRange 2) (record { start = omega arith; size = omega arith }) start bs (record { start = omega arith; size = omega arith }) t))
 

@@ -1,13 +1,11 @@
 -- One value and one column: what the inner functions make of them, as numbers and bytes. A refusal leaves the lent
 -- bytes.
-use Rattle.std.specs.Prelude.{ℕ, ◌≤◌, Bool, true, false, cond, List, [], ◌∷◌, eqb, ltb, length}
+use Rattle.error.specs.Result.{Result}
+use Rattle.std.specs.Prelude.{ℕ, ◌≤◌, Bool, true, false, cond, List, [], ◌∷◌, eqb, ltb, length, Err, None, Ok, Option, Some}
 use Rattle.std.proofs.lemmas.List.Edits.{sets}
 use Rattle.error.specs.Refusal.{number_of}
-use Rattle.error.specs.Result.{ok, refused}
 use Rattle.row_format.specs.Places.{row_limit}
 use Rattle.datatype.specs.declared.DataType.{DataType}
-use Rattle.datatype.specs.declared.Record.{Record}
-use Rattle.datatype.specs.declared.Record.TheVariants.{Column, Refused}
 use Rattle.datatype.specs.Types.{size_of, is_varlen, precision_of}
 use Rattle.datatype.specs.Schema.{column_record_at}
 use Rattle.value.specs.declared.DataValue.{DataValue}
@@ -15,22 +13,18 @@ use Rattle.value.specs.Kinds.{matches}
 use Rattle.value.specs.Ranges.{range_of, text_of}
 use Rattle.value_list.specs.Records.{record_of}
 use Rattle.value_list.specs.Lists.{Values, checked}
-use Rattle.stored_form.specs.declared.SlotRead.{SlotRead}
-use Rattle.stored_form.specs.declared.SlotRead.TheVariants.{Value, NoValue}
 use Rattle.stored_form.specs.Write.{accepted, stored_form}
 use Rattle.stored_form.specs.Read.{read_slot}
 use Rattle.rook_probe.specs.declared.ValueProbe.{ValueProbe}
 use Rattle.rook_probe.specs.declared.OneType.{OneType}
 use Rattle.rook_probe.specs.declared.OneType.TheVariants.{Only, Bad}
-use Rattle.rook_probe.specs.declared.OneValue.{OneValue}
-use Rattle.rook_probe.specs.declared.OneValue.TheVariants as One
 
 -- ---- schemas and lists of exactly one record
 
 -- 1 and 2 as 01 has them; 1 where there is no record, 2 where more follows
-abbrev pub only_record : ℕ → Record → OneType
-only_record n (Column t next) = cond (eqb next n) (Only t) (Bad 2)
-only_record n (Refused r) = Bad (number_of r)
+abbrev pub only_record : ℕ → Result (DataType × ℕ) → OneType
+only_record n (Ok (t, next)) = cond (eqb next n) (Only t) (Bad 2)
+only_record n (Err r) = Bad (number_of r)
 
 abbrev pub only_type : List ℕ → OneType
 only_type s = cond (eqb (length s) 0) (Bad 1) (only_record (length s) (column_record_at s 0))
@@ -39,10 +33,10 @@ abbrev pub Precise : OneType → Type 0
 Precise (Only t) = precision_of t ≤ 38
 Precise (Bad n) = Unit {0}
 
-abbrev pub only_value : Values → OneValue
-only_value (ok []) = One.Bad
-only_value (ok (v ∷ vs)) = One.Only v
-only_value (refused r) = One.Bad
+abbrev pub only_value : Values → Option DataValue
+only_value (Ok []) = None
+only_value (Ok (v ∷ vs)) = Some v
+only_value (Err r) = None
 
 -- ---- answers
 
@@ -66,9 +60,9 @@ stored_value t v area out =
     (refuse 11 out)
 
 -- 10: no list of one value
-abbrev pub stored_one : DataType → OneValue → List ℕ → List ℕ → ValueProbe × List ℕ
-stored_one t (One.Only v) area out = stored_value t v area out
-stored_one t One.Bad area out = refuse 10 out
+abbrev pub stored_one : DataType → Option DataValue → List ℕ → List ℕ → ValueProbe × List ℕ
+stored_one t (Some v) area out = stored_value t v area out
+stored_one t None area out = refuse 10 out
 
 abbrev pub stored_list : DataType → List ℕ → List ℕ → List ℕ → ValueProbe × List ℕ
 stored_list t list area out = stored_one t (only_value (checked false 1 (length area) list)) area out
@@ -80,16 +74,16 @@ stored_as (Bad n) list area out = refuse n out
 -- ---- bytes read
 
 -- 8: no value of the type
-abbrev pub hand_value : SlotRead → List ℕ → ValueProbe × List ℕ
-hand_value (Value v) out = hand (record_of false v) out
-hand_value NoValue out = refuse 8 out
+abbrev pub hand_value : Option DataValue → List ℕ → ValueProbe × List ℕ
+hand_value (Some v) out = hand (record_of false v) out
+hand_value None out = refuse 8 out
 
 -- whether n bytes fill the slot; a payload may have any number
 abbrev pub fits_slot : DataType → ℕ → Bool
 fits_slot t n = cond (is_varlen t) true (eqb n (size_of t))
 
 -- 14: any record has at most 18 bytes
-abbrev pub placed_read : SlotRead → List ℕ → ValueProbe × List ℕ
+abbrev pub placed_read : Option DataValue → List ℕ → ValueProbe × List ℕ
 placed_read r out = cond (ltb (length out) 18) (refuse 14 out) (hand_value r out)
 
 -- 4: more than a record's two bytes tell; 3: a slot of another length

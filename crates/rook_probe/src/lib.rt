@@ -14,10 +14,8 @@ ghost use Rattle.stored_form.specs.Read.{read_slot};
 ghost use Rattle.rook_probe.specs.Probes.{layout_probe};
 ghost use Rattle.rook_probe.specs.Values.{only_type, Precise, only_value, form_length, placed_form, stored_value, stored_list, stored_as, fits_slot, placed_read, read_value, read_as};
 
-use datatype::{DataType, Record, SchemaCheck};
-use stored_form::SlotRead;
+use datatype::DataType;
 use value::DataValue;
-use value_list::{ListCheck, ValueRecord};
 
 #[repr(C)]
 #[derive(Clone, Copy)]
@@ -35,7 +33,7 @@ pub fn rook_probe_layout(schema: &[u8]) -> LayoutProbe
     ensures { result ≡ layout_probe (checked_schema false (schema_of false schema.now)) }
 {
     match datatype::check_schema(schema, false) {
-        SchemaCheck::Good(layout) => LayoutProbe {
+        Ok(layout) => LayoutProbe {
             number: 0,
             place: 0,
             columns: layout.num_columns,
@@ -43,7 +41,7 @@ pub fn rook_probe_layout(schema: &[u8]) -> LayoutProbe
             packed: layout.packed_size,
             padded: layout.padded_size,
         },
-        SchemaCheck::Refused(r) => LayoutProbe {
+        Err(r) => LayoutProbe {
             number: r.number(),
             place: r.place(),
             columns: 0,
@@ -69,12 +67,6 @@ pub enum OneType {
     Bad(u32),
 }
 
-#[derive(Clone, Copy)]
-pub enum OneValue {
-    Only(DataValue),
-    Bad,
-}
-
 fn refused(number: u32) -> ValueProbe
     ensures { result ≡ record { number = number; length = 0 } }
 {
@@ -89,26 +81,26 @@ fn one_type(schema: &[u8]) -> OneType
         return OneType::Bad(1);
     }
     match datatype::record_at(schema, 0) {
-        Record::Column(t, next) => {
+        Ok((t, next)) => {
             if next == schema.len() {
                 return OneType::Only(t);
             }
             OneType::Bad(2)
         }
-        Record::Refused(r) => OneType::Bad(r.number()),
+        Err(r) => OneType::Bad(r.number()),
     }
 }
 
 // The value of a list that is exactly one record, beside a text area of `area` bytes.
-fn one_value(list: &[u8], area: usize) -> OneValue
+fn one_value(list: &[u8], area: usize) -> Option<DataValue>
     ensures { result ≡ only_value (checkedList false 1 area list.now) }
 {
     match value_list::check_values(list, false, 1, area) {
-        ListCheck::Good => match value_list::value_record_at(list, 0) {
-            ValueRecord::Value(v, _) => OneValue::Only(v),
-            ValueRecord::Refused(_) => OneValue::Bad,
+        Ok(()) => match value_list::value_record_at(list, 0) {
+            Ok((v, _)) => Some(v),
+            Err(_) => None,
         },
-        ListCheck::Refused(_) => OneValue::Bad,
+        Err(_) => None,
     }
 }
 
@@ -154,8 +146,8 @@ fn store_list(ty: DataType, list: &[u8], area: &[u8], out: &mut [u8]) -> ValuePr
     ensures { (result, out.new) ≡ stored_list ty list.now area.now out.old }
 {
     match one_value(list, area.len()) {
-        OneValue::Only(v) => store_value(ty, v, area, out),
-        OneValue::Bad => refused(10),
+        Some(v) => store_value(ty, v, area, out),
+        None => refused(10),
     }
 }
 
@@ -189,11 +181,11 @@ fn place_read(ty: DataType, bytes: &[u8], start: usize, out: &mut [u8]) -> Value
         return refused(14);
     }
     match value_decode::from_bytes(ty, bytes, start) {
-        SlotRead::Value(v) => {
+        Some(v) => {
             let length = record_encode::write_value_record(out, 0, false, v);
             ValueProbe { number: 0, length }
         }
-        SlotRead::NoValue => refused(8),
+        None => refused(8),
     }
 }
 

@@ -17,10 +17,7 @@ ghost use Rattle.text.specs.Check.{check_of};
 ghost use Rattle.rook_row.specs.Answers.{row_answer, row_outcome, counted_outcome, handle_outcome, flag_answer, text_answer, check_answer};
 ghost use Rattle.rook_row.specs.Version.{version};
 
-use error::{Answer, Flag};
 use row_handle::RowHandle;
-use row_text::ColumnText;
-use text::TextCheck;
 
 #[repr(C)]
 #[derive(Clone, Copy)]
@@ -55,16 +52,16 @@ pub struct CheckAnswer {
 }
 
 // A refusal hands out `otherwise`.
-fn row_answer(answer: Answer, otherwise: usize) -> RowAnswer
+fn row_answer(answer: error::Result<usize>, otherwise: usize) -> RowAnswer
     ensures { result ≡ row_answer otherwise answer }
 {
     match answer {
-        Answer::Done(n) => RowAnswer {
+        Ok(n) => RowAnswer {
             number: 0,
             place: 0,
             length: n,
         },
-        Answer::Refused(e) => RowAnswer {
+        Err(e) => RowAnswer {
             number: e.number(),
             place: e.place(),
             length: otherwise,
@@ -72,16 +69,16 @@ fn row_answer(answer: Answer, otherwise: usize) -> RowAnswer
     }
 }
 
-fn flag_answer(answer: Flag) -> FlagAnswer
+fn flag_answer(answer: error::Result<bool>) -> FlagAnswer
     ensures { result ≡ flag_answer answer }
 {
     match answer {
-        Flag::Is(b) => FlagAnswer {
+        Ok(b) => FlagAnswer {
             number: 0,
             place: 0,
             flag: b as usize,
         },
-        Flag::Refused(e) => FlagAnswer {
+        Err(e) => FlagAnswer {
             number: e.number(),
             place: e.place(),
             flag: 0,
@@ -260,13 +257,13 @@ pub fn rook_row_text(schema: &[u8], row: &[u8], column: usize) -> TextAnswer
     ensures { result ≡ text_answer (text_call schema.now row.now column) }
 {
     match row_text::column_text(schema, row, column) {
-        ColumnText::Part(part) => TextAnswer {
+        Ok(part) => TextAnswer {
             number: 0,
             place: 0,
             start: part.start,
             length: part.length,
         },
-        ColumnText::Refused(e) => TextAnswer {
+        Err(e) => TextAnswer {
             number: e.number(),
             place: e.place(),
             start: 0,
@@ -295,8 +292,8 @@ pub fn rook_text_check(s: &[u8]) -> CheckAnswer
     ensures { result ≡ check_answer (check_of (code_points s.now)) }
 {
     match text::check(s) {
-        TextCheck::Valid(points) => CheckAnswer { valid: 1, points },
-        TextCheck::Invalid => CheckAnswer {
+        Some(points) => CheckAnswer { valid: 1, points },
+        None => CheckAnswer {
             valid: 0,
             points: 0,
         },

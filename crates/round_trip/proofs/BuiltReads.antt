@@ -1,4 +1,6 @@
 -- A built row as a row that reads: each of its columns gives back what was given for it.
+use Rattle.error.specs.Result.{Result}
+use Rattle.std.specs.Prelude.{Err}
 use Prim.Native.Nat.{ℕ, zero, suc, ◌+◌, ◌<◌}
 use mathlib.Core.Path.{◌≡◌, refl, sym, ap, ◌∙◌}
 use mathlib.Core.Bool.{Bool, true}
@@ -6,14 +8,12 @@ use mathlib.Core.List.{List, [], ◌∷◌}
 use native.Mathlib.Nat.{add-zero}
 use native.Mathlib.Omega.{arith}
 use lib.ListN.{length, get_or}
-use Rattle.error.specs.Result.{refused}
 use Rattle.row_format.specs.Places.{offset_width}
 use Rattle.datatype.specs.declared.DataType.{DataType}
 use Rattle.value.specs.declared.DataValue.{DataValue}
 use Rattle.value.specs.declared.DataValue.TheVariants.{Null}
 use Rattle.value.specs.Ranges.{text_of}
 use Rattle.value_list.specs.InnerLists.{AllSized}
-use Rattle.row_column.specs.declared.Frame.{Frame}
 use Rattle.row_column.specs.Frame.{on_frame}
 use Rattle.row_decode.specs.Read.{read_from}
 use Rattle.row_same.proofs.Read.{ReadsAs}
@@ -65,7 +65,7 @@ module _ {sort : Bool} {schema list area out : List ℕ} {n : ℕ} {after : List
         marked = built-sort b;
         schema-good = b.schema-good;
         all_read =
-            ap (λ (f : Frame). on_frame f refused (λ p. read_from (offset_width sort) p b.columns wanted (row b) 0 (length b.columns)))
+            ap (λ (f : Result Bool). on_frame f Err (λ p. read_from (offset_width sort) p b.columns wanted (row b) 0 (length b.columns)))
             (frame_back b)
             ∙ columns-back b sized wanted;
       }

@@ -1,4 +1,6 @@
 -- The text of a built row's column is the stored form.
+use Rattle.error.specs.Result.{Result}
+use Rattle.std.specs.Prelude.{Err, Ok}
 use Prim.Native.Nat.{ℕ, ◌<◌}
 use mathlib.Core.Path.{◌≡◌, refl, ap, ◌∙◌}
 use mathlib.Core.Bool.{true, false≢true, Bool}
@@ -12,10 +14,8 @@ use Rattle.value.specs.declared.DataValue.TheVariants as D
 use Rattle.value.specs.Kinds.{holds_text}
 use Rattle.value.specs.Ranges.{text_of, range_of}
 use Rattle.stored_form.proofs.Points.{has-text}
-use Rattle.row_column.specs.declared.Frame.{Frame}
 use Rattle.row_column.specs.Frame.{on_frame}
 use Rattle.row_column.specs.Column.{column_value}
-use Rattle.row_text.specs.declared.ColumnText.TheVariants.{Part, Refused}
 use Rattle.row_text.specs.Text.{text_read, text_in_row, text_call, text_part}
 use Rattle.record_slot.specs.Stored.{is_null}
 use Rattle.row_build.specs.Built.{Built}
@@ -50,11 +50,11 @@ module _ {sort : Bool} {schema list area out : List ℕ} {n : ℕ} {after : List
   abbrev v : DataValue
   v = given_value b i
 
-  answer-is : text_call schema (row b) i ≡ Part (range_of (given_back b i))
+  answer-is : text_call schema (row b) i ≡ Ok (range_of (given_back b i))
   answer-is =
       text_in-row schema (row b) i b.columns (rw (built-sort b) b.schema-good) h t
       ∙ ap (λ (k : Bool). text_in_row k b.columns (row b) i) (built-sort b)
-      ∙ ap (λ (f : Frame). on_frame f Refused (λ p. text_read (column_value (offset_width sort) p b.columns i (row b)))) q.frame
+      ∙ ap (λ (f : Result Bool). on_frame f Err (λ p. text_read (column_value (offset_width sort) p b.columns i (row b)))) q.frame
       ∙ ap text_read (q.column i h)
 
   of_cell : (c : Cell) → CellIs (type_at b.columns i) v area c → text_of (row b) (given_back b i) ≡ given_form b i

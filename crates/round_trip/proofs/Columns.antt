@@ -1,4 +1,6 @@
 -- A column that was read: its value fits a record, and its range lies in the row.
+use Rattle.error.specs.Result.{Result}
+use Rattle.std.specs.Prelude.{Err, None, Ok, Option, Some}
 use Prim.Native.Nat.{ℕ, ◌+◌, ◌-◌, ◌≤◌, ◌<◌}
 use mathlib.Core.Path.{◌≡◌, refl, sym, ap, ◌∙◌}
 use mathlib.Core.Bool.{Bool, true, false, false≢true}
@@ -30,12 +32,8 @@ use Rattle.datatype.proofs.Again.{all_aligned}
 use Rattle.value.specs.declared.DataValue.{DataValue}
 use Rattle.value.specs.declared.DataValue.TheVariants.{Null}
 use Rattle.value_list.specs.Records.{Sized}
-use Rattle.stored_form.specs.declared.SlotRead.{SlotRead}
-use Rattle.stored_form.specs.declared.SlotRead.TheVariants as Slot
 use Rattle.stored_form.specs.Read.{read_slot}
 use Rattle.value_same.proofs.Read.{Placed, read-placed, read-sized}
-use Rattle.row_column.specs.declared.ColumnRead.{ColumnRead}
-use Rattle.row_column.specs.declared.ColumnRead.TheVariants.{Value, Refused}
 use Rattle.row_column.specs.Column.{slot_value, read_bytes, varlen_value, column_value}
 
 -- a part of bytes is bytes
@@ -50,22 +48,22 @@ pub record Read (t : DataType) (r : List ℕ) (v : DataValue) : Type 0 where
   pub sized : Sized v
   pub placed : Placed t r v
 
-abbrev IfRead : DataType → List ℕ → ColumnRead → Type 0
-IfRead t r (Value v) = Read t r v
-IfRead t r (Refused e) = Unit {0}
+abbrev IfRead : DataType → List ℕ → Result DataValue → Type 0
+IfRead t r (Ok v) = Read t r v
+IfRead t r (Err e) = Unit {0}
 
 module _ (t : DataType) (r : List ℕ) (octets : AllBytes r) (short : length r ≤ 1048576) (digits : precision_of t ≤ 38)
     (scale : scale_of t ≤ 38) where
-  null-read : IfRead t r (Value Null)
+  null-read : IfRead t r (Ok Null)
   null-read =
       record {
         sized = tt;
         placed = record { inside = omega arith; chars = λ k. absurd (omega arith); bits = λ k. absurd (omega arith) };
       }
 
-  slot_read : (i : ℕ) (s : SlotRead) → ((v : DataValue) → s ≡ Slot.Value v → Read t r v) → IfRead t r (slot_value i s)
-  slot_read i (Slot.Value v) h = h v refl
-  slot_read i Slot.NoValue h = tt
+  slot_read : (i : ℕ) (s : Option DataValue) → ((v : DataValue) → s ≡ Some v → Read t r v) → IfRead t r (slot_value i s)
+  slot_read i (Some v) h = h v refl
+  slot_read i None h = tt
 
   bytes_read : (i a e : ℕ) → a ≤ e → e ≤ length r → (is_varlen t ≡ false → e - a ≡ size_of t)
       → IfRead t r (read_bytes t i r a e)
@@ -112,12 +110,12 @@ module _ (w : ℕ) (p : Bool) (ts : List DataType) (r : List ℕ) (octets : AllB
       let table : ℕ = table_start (length ts) in
       let v : ℕ = varlens (map shape_of ts) in
       let k : ℕ = rank_of (map shape_of ts) i in
-      by_cond (IfRead t r) (eqb (bit_at i (drop bitmap_start r)) 1) (Value Null) _
+      by_cond (IfRead t r) (eqb (bit_at i (drop bitmap_start r)) 1) (Ok Null) _
       (λ z. null-read t r octets short digits scale)
       (λ z. by_cond (IfRead t r) (is_varlen t) _ _
       (λ f. range-read t r octets short digits scale f i (varlen_range w table v k r) (inside w table v k r))
       (λ f. bytes_read t r octets short digits scale i place (place + size_of t) (omega arith) (slot_in f)
       (λ g. omega arith)))
 
-  pub column-read : {v : DataValue} → column_value w p ts i r ≡ Value v → Read t r v
+  pub column-read : {v : DataValue} → column_value w p ts i r ≡ Ok v → Read t r v
   column-read e = rw e at any-read

@@ -1,11 +1,11 @@
 -- The premises of the statements can be met: an example, by computation.
+use Rattle.std.specs.Prelude.{Ok}
 use Prim.Native.Nat.{ℕ, zero, suc, ◌<◌}
 use mathlib.Core.Bool.{Bool, true, false}
 use mathlib.Core.List.{List, [], ◌∷◌}
 use mathlib.Core.Path.{◌≡◌, refl, subst}
 use lib.ListN.{length, replicate}
 use native.Mathlib.Omega.{arith}
-use Rattle.error.specs.Result.{ok}
 use Rattle.laws.proofs.Bytes.{Below, AllBytes}
 use Rattle.row_format.specs.Table.{lay, range_end}
 use Rattle.row_format.specs.Header.{is_long}
@@ -67,7 +67,7 @@ three-wanted (suc zero) h = refl
 three-wanted (suc (suc zero)) h = refl
 three-wanted (suc (suc (suc i))) h = absurd (omega arith)
 
-all_wanted : (sort : Bool) (ts : List DataType) → schema_of sort (S 11) ≡ ok ts
+all_wanted : (sort : Bool) (ts : List DataType) → schema_of sort (S 11) ≡ Ok ts
     → (i : ℕ) → i < length ts → is_wanted all i ≡ true
 unfolding schema_of
 all_wanted sort ts good i h =

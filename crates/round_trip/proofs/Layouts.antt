@@ -1,4 +1,5 @@
 -- Varchars of both kinds share one layout: what both hold is stored in the same row.
+use Rattle.std.specs.Prelude.{Ok}
 use Prim.Native.Nat.{ℕ, ◌+◌}
 use mathlib.Core.Path.{◌≡◌, refl, sym, ap, ◌∙◌, subst}
 use mathlib.Core.Bool.{Bool, false≢true}
@@ -6,7 +7,6 @@ use mathlib.Core.List.{List, [], ◌∷◌, map}
 use mathlib.Core.Option.{some}
 use lib.ListN.{get_or}
 use Rattle.row_format.specs.Places.{offset_width}
-use Rattle.error.specs.Result.{ok}
 use Rattle.row_format.specs.declared.Shape.{Shape}
 use Rattle.row_format.specs.declared.Shape.TheVariants.{Fixed, Varlen}
 use Rattle.row_format.specs.InnerAligned.{Aligned}
@@ -58,7 +58,7 @@ module _ (area : List ℕ) where
   cell_same {t} a v (stored e m s) (stored f k l) = ap some (form-same a v (text_of area v) (matched t v m))
 
   cells_same : (i : ℕ) {ts us : List DataType} → AllAlike ts us → (vs : List DataValue) {cs ds : List Cell}
-      → cells_from i ts vs area ≡ ok cs → cells_from i us vs area ≡ ok ds → cs ≡ ds
+      → cells_from i ts vs area ≡ Ok cs → cells_from i us vs area ≡ Ok ds → cs ≡ ds
   cells_same i no-columns vs e f = ap cells_given (sym e ∙ f)
   cells_same i (more a rest) [] e f = ap cells_given (sym e ∙ f)
   cells_same i (more {t} {u} {ts} {us} a rest) (v ∷ vs) e f =

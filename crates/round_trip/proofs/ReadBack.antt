@@ -1,4 +1,5 @@
 -- Where a build answers Done, a read of its row answers with the values it was given, for the columns that are wanted.
+use Rattle.std.specs.Prelude.{Ok}
 use Prim.Native.Nat.{ℕ, ◌^◌, ◌≤◌, ◌<◌}
 use mathlib.Core.Path.{◌≡◌, ap, ◌∙◌}
 use mathlib.Core.Bool.{Bool, true}
@@ -8,7 +9,7 @@ use lib.ListN.{length}
 use Rattle.row_format.proofs.Sorts.{fits_limit}
 use Rattle.row_format.specs.Places.{offset_width, row_limit}
 use Rattle.error.specs.Answer.{unchanged_both, placed_both}
-use Rattle.error.specs.Result.{ok, on_result}
+use Rattle.error.specs.Result.{on_result, Result}
 use Rattle.row_format.specs.Row.{built_row, packed_marks}
 use Rattle.datatype.specs.Types.{shape_of}
 use Rattle.datatype.specs.Schema.{Parsed, schema_of}
@@ -17,8 +18,6 @@ use Rattle.value_list.specs.Lists.{list_of}
 use Rattle.stored_form.specs.ReadBack.{has_text}
 use Rattle.value_list.proofs.Lists.{Taken, checked-taken, values-sized}
 use Rattle.value_list.specs.InnerLists.{AllSized}
-use Rattle.row_column.specs.declared.Frame.{Frame}
-use Rattle.row_column.specs.declared.Frame.TheVariants.{Good}
 use Rattle.row_column.specs.Frame.{frame_of, on_frame}
 use Rattle.row_decode.specs.Read.{is_wanted, read_from, hand_out, read_row, read_call}
 use Rattle.row_build.specs.Built.{Built}
@@ -45,7 +44,7 @@ module _ {sort : Bool} {schema list area out : List ℕ} {n : ℕ} {after : List
   short = rw (← b.size) b.short
 
   -- the row's header is good
-  pub frame_back : frame_of sort b.columns (row b) ≡ Good true
+  pub frame_back : frame_of sort b.columns (row b) ≡ Ok true
   frame_back = rw b.row (frame-built sort b.columns b.given area b.cells-good taken.count few short)
 
   -- its parts stand where the layout says
@@ -58,7 +57,7 @@ module _ {sort : Bool} {schema list area out : List ℕ} {n : ℕ} {after : List
 
     -- the columns that are wanted
     pub columns-back : (wanted : ℕ → Bool) → read_from (offset_width sort) true b.columns wanted (row b) 0 (length b.columns)
-        ≡ ok (values_back (offset_width sort) b.columns wanted area (row b) 0 b.given)
+        ≡ Ok (values_back (offset_width sort) b.columns wanted area (row b) 0 b.given)
     columns-back wanted = rw b.row
         (columns-built sort b.columns b.given area b.cells-good taken.count few fits sized wanted)
 
@@ -75,7 +74,7 @@ module _ {sort : Bool} {schema list area out : List ℕ} {n : ℕ} {after : List
     read_back_lem ws o counts =
         ap (λ (k : Bool). on_result (schema_of k schema) (unchanged_both o counts) (λ ts. read_row k ts (row b) ws o counts)) (built-sort b)
         ∙ ap (λ (p : Parsed). on_result p (unchanged_both o counts) (λ ts. read_row sort ts (row b) ws o counts)) b.schema-good
-        ∙ ap (λ (q : Frame). on_frame q (unchanged_both o counts)
+        ∙ ap (λ (q : Result Bool). on_frame q (unchanged_both o counts)
         (λ p. hand_out sort o counts (row b) (read_from (offset_width sort) p b.columns (is_wanted ws) (row b) 0 (length b.columns)))) frame_back
         ∙ ap (hand_out sort o counts (row b)) (columns-back (is_wanted ws))
         ∙ ap (placed_both o counts (list_of sort (values_back (offset_width sort) b.columns (is_wanted ws) area (row b) 0 b.given)))

@@ -1,4 +1,5 @@
 -- A row that was built is read back.
+use Rattle.std.specs.Prelude.{Ok}
 use Prim.Native.Nat.{ℕ, zero, suc, ◌+◌, ◌-◌, ◌^◌, ◌≤◌, ◌<◌}
 use mathlib.Core.Path.{◌≡◌, refl, sym, ap, ◌∙◌}
 use mathlib.Core.Bool.{Bool, true, false, cond, false≢true}
@@ -10,7 +11,7 @@ use lib.Dec.{eqb}
 use lib.ListN.{length, get_or, take, drop, length-append, length-drop, length-map, take-append-drop, drop_of_length-le}
 use lib.Seq.{length-take-le, drop_at, drop-cons, take-append-le, drop-append-le}
 use Rattle.row_format.proofs.Sorts.{marks_small, marks_count, marks_packed, fits_limit}
-use Rattle.error.specs.Result.{ok, before}
+use Rattle.error.specs.Result.{before, Result}
 use Rattle.laws.specs.Bytes.{entry_at, from_le}
 use Rattle.laws.specs.Bits.{bit_at}
 use Rattle.laws.specs.InnerForall.{Forall₂}
@@ -45,9 +46,6 @@ use Rattle.stored_form.specs.Read.{read_slot}
 use Rattle.stored_form.specs.ReadBack.{read_back, has_text}
 use Rattle.stored_form.proofs.Lengths.{accepted-suits}
 use Rattle.stored_form.proofs.ReadBack.{read-stored, text-stored}
-use Rattle.row_column.specs.declared.Frame.TheVariants.{Good}
-use Rattle.row_column.specs.declared.ColumnRead.{ColumnRead}
-use Rattle.row_column.specs.declared.ColumnRead.TheVariants.{Value}
 use Rattle.row_format.specs.Header.{column_count, varlen_field}
 use Rattle.row_column.specs.Frame.{frame_of}
 use Rattle.row_column.specs.Column.{slot_value, read_bytes, varlen_value, column_value}
@@ -102,7 +100,7 @@ second_field h x n = ap (take 2) (drop-append-le 2 h x (omega arith))
 -- ---- the row
 
 module _ (sort : Bool) (ts : List DataType) (vs : List DataValue) (area : List ℕ) {cs : List Cell}
-    (e : cells_from 0 ts vs area ≡ ok cs) (n : length vs ≡ length ts) (few : length ts ≤ 256) where
+    (e : cells_from 0 ts vs area ≡ Ok cs) (n : length vs ≡ length ts) (few : length ts ≤ 256) where
   abbrev ss : List Shape
   ss = map shape_of ts
 
@@ -146,7 +144,7 @@ module _ (sort : Bool) (ts : List DataType) (vs : List DataValue) (area : List �
       ap from_le (ap (λ (z : List ℕ). take 2 (drop 2 z)) head_row ∙ second_field hd (drop 4 r) four)
       ∙ header-varlens (packed_marks sort) ss (marks_small sort (omega (arith, v_small)))
 
-  pub frame-built : length r ≤ row_limit sort → frame_of sort ts r ≡ Good true
+  pub frame-built : length r ≤ row_limit sort → frame_of sort ts r ≡ Ok true
   frame-built short =
       let long : minimum (offset_width sort) true ss ≤ length r = omega (arith, row-length) in
       rw (
@@ -270,13 +268,13 @@ module _ (sort : Bool) (ts : List DataType) (vs : List DataValue) (area : List �
         suited : suits t x (text_of area x) ≡ true
         suited = accepted-suits t x area a
 
-        read-form : (at : ℕ) → slot_value i (read_slot t at form) ≡ Value (read_back t at x (text_of area x))
+        read-form : (at : ℕ) → slot_value i (read_slot t at form) ≡ Ok (read_back t at x (text_of area x))
         read-form at = ap (slot_value i)
             (read-stored t x (text_of area x) at m suited (all-sized_at vs sized i (rw n h)))
 
         -- the bytes of a form that stands at `at` and ends at `end`
         read_there : (at end : ℕ) → Stands r at form → end - at ≡ length form
-            → read_bytes t i r at end ≡ Value (read_back t at x (text_of area x))
+            → read_bytes t i r at end ≡ Ok (read_back t at x (text_of area x))
         read_there at end p o =
             ap (λ (m : ℕ). slot_value i (read_slot t at (take m (drop at r)))) o
             ∙ ap (λ (b : List ℕ). slot_value i (read_slot t at b)) p.part ∙ read-form at
@@ -290,11 +288,11 @@ module _ (sort : Bool) (ts : List DataType) (vs : List DataValue) (area : List �
       abbrev back : DataValue
       back = value_back (offset_width sort) ts i x (text_of area x) r
 
-      of_cell : (c : Cell) → get_or cs i none ≡ c → CellIs t x area c → column_value (offset_width sort) true ts i r ≡ Value back
+      of_cell : (c : Cell) → get_or cs i none ≡ c → CellIs t x area c → column_value (offset_width sort) true ts i r ≡ Ok back
       of_cell none f (null z) = rw (bit_is none f, z)
       of_cell (some y) f (stored z m a) = by_shape (is_varlen t) refl
         where
-          by_shape : (d : Bool) → is_varlen t ≡ d → column_value (offset_width sort) true ts i r ≡ Value back
+          by_shape : (d : Bool) → is_varlen t ≡ d → column_value (offset_width sort) true ts i r ≡ Ok back
           by_shape false g =
               let p = slot_stands f g (length-slot t x area m a g) in
               let o : place + size_of t - place ≡ length form = rw (length-slot t x area m a g) (omega arith) in
@@ -305,7 +303,7 @@ module _ (sort : Bool) (ts : List DataType) (vs : List DataValue) (area : List �
               (ap (varlen_value t i r) (range-is f g) ∙ read_there m a (entry f g) (end f g) (range_stands f g) o)
 
       -- null for a null, the value for a value
-      pub column-built : column_value (offset_width sort) true ts i r ≡ Value back
+      pub column-built : column_value (offset_width sort) true ts i r ≡ Ok back
       column-built = of_cell (get_or cs i none) refl (cell_at_lem area ts vs e n i h)
 
       text_of_cell : (c : Cell) → get_or cs i none ≡ c → CellIs t x area c → has_text x ≡ true → text_of r back ≡ form
@@ -324,25 +322,25 @@ module _ (sort : Bool) (ts : List DataType) (vs : List DataValue) (area : List �
 
   module _ (fits : length r < 256 ^ (offset_width sort)) (sized : AllSized vs) (wanted : ℕ → Bool) where
     wanted-built : (i : ℕ) → i < length ts
-        → wanted_value (wanted i) (column_value (offset_width sort) true ts i r) ≡ Value
+        → wanted_value (wanted i) (column_value (offset_width sort) true ts i r) ≡ Ok
         (cond (wanted i) (value_back (offset_width sort) ts i (value_at vs i) (text_of area (value_at vs i)) r) Null)
     wanted-built i h = by_test (wanted i)
       where
         by_test : (d : Bool)
-            → wanted_value d (column_value (offset_width sort) true ts i r) ≡ Value
+            → wanted_value d (column_value (offset_width sort) true ts i r) ≡ Ok
             (cond d (value_back (offset_width sort) ts i (value_at vs i) (text_of area (value_at vs i)) r) Null)
         by_test true = column-built i h fits sized
         by_test false = refl
 
     columns-from : (m i : ℕ) → i + m ≡ length ts
-        → read_from (offset_width sort) true ts wanted r i m ≡ ok (values_back (offset_width sort) ts wanted area r i (drop i vs))
+        → read_from (offset_width sort) true ts wanted r i m ≡ Ok (values_back (offset_width sort) ts wanted area r i (drop i vs))
     columns-from zero i q = let none : drop i vs ≡ [] = drop_of_length-le vs {i = i} (omega arith) in rw none
     columns-from (suc m) i q =
         let h : i < length ts = omega arith in
         rw (drop-cons vs i Null (rw n h))
-        (ap (λ (c : ColumnRead). on_column c (read_from (offset_width sort) true ts wanted r (suc i) m)) (wanted-built i h)
+        (ap (λ (c : Result DataValue). on_column c (read_from (offset_width sort) true ts wanted r (suc i) m)) (wanted-built i h)
         ∙ ap (before (cond (wanted i) (value_back (offset_width sort) ts i (value_at vs i) (text_of area (value_at vs i)) r) Null))
         (columns-from m (suc i) (omega arith)))
 
-    pub columns-built : read_from (offset_width sort) true ts wanted r 0 (length ts) ≡ ok (values_back (offset_width sort) ts wanted area r 0 vs)
+    pub columns-built : read_from (offset_width sort) true ts wanted r 0 (length ts) ≡ Ok (values_back (offset_width sort) ts wanted area r 0 vs)
     columns-built = columns-from (length ts) 0 (omega arith)

@@ -1,10 +1,10 @@
 -- Same content is reflexive and symmetric on rows that read.
+use Rattle.std.specs.Prelude.{Ok}
 use Prim.Native.Nat.{ℕ}
 use mathlib.Core.Path.{◌≡◌, refl, sym, ap, ap₂, ◌∙◌, subst}
 use mathlib.Core.Bool.{Bool, false, cond}
 use mathlib.Core.List.{List, [], ◌∷◌}
 use lib.ListN.{get_or}
-use Rattle.error.specs.declared.Flag.TheVariants.{Is}
 use Rattle.row_format.specs.Header.{is_long}
 use Rattle.datatype.specs.declared.DataType.{DataType}
 use Rattle.datatype.specs.Types.{length_of}
@@ -41,5 +41,5 @@ same_either_way {schema} {a} {b} p q =
     let y = all_of q in
     let ts = same-columns (is_long b) (is_long a) schema y.schema-good x.schema-good in
     let second = subst (λ (us : List DataType). ReadsAs schema b us y.read) ts (reads_as q) in
-    rows-read (reads_as p) second ∙ ap Is (values_sym a b x.columns x.read y.read)
+    rows-read (reads_as p) second ∙ ap Ok (values_sym a b x.columns x.read y.read)
     ∙ sym (rows-read second (reads_as p))

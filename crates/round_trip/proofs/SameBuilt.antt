@@ -1,12 +1,11 @@
 -- A row that reads has the same content as what is built of its own values, for whatever sort.
+use Rattle.std.specs.Prelude.{Ok}
 use Prim.Native.Nat.{ℕ, suc, ◌<◌}
 use mathlib.Core.Path.{◌≡◌, sym, ap, ◌∙◌}
 use mathlib.Core.Bool.{Bool, true}
 use mathlib.Core.List.{List, [], ◌∷◌, map}
 use native.Mathlib.Omega.{arith}
 use lib.ListN.{length, get_or}
-use Rattle.error.specs.declared.Flag.TheVariants.{Is}
-use Rattle.error.specs.Result.{ok}
 use Rattle.laws.proofs.Bytes.{AllBytes}
 use Rattle.row_format.specs.Places.{varlens, minimum, offset_width}
 use Rattle.row_format.specs.Table.{Cell}
@@ -79,7 +78,7 @@ module _ {sort : Bool} {schema list r out : List ℕ} {n : ℕ} {after : List �
           (accepted-suits (type_at b.columns i) (given_value b i) r a)
           (placed_chars (reads i h).placed) text)
 
-  same_row : ReadsAs schema r b.columns b.given → same_call schema r (row b) ≡ Is true
+  same_row : ReadsAs schema r b.columns b.given → same_call schema r (row b) ≡ Ok true
   same_row e =
       twins_same e (built-reads b sized) (taken b).count (all-many b) (λ i h. rw (all_at b i h) (column-same i h))
 
@@ -102,7 +101,7 @@ module _ {schema r : List ℕ} (q : FullRead schema r) (octets : AllBytes r) whe
       (column-digits (is_long r) schema x.schema-good k h) (column-scale (is_long r) schema x.schema-good k h)
       (x.each k h)
 
-  list-values : values_of (list_read q) ≡ ok x.read
+  list-values : values_of (list_read q) ≡ Ok x.read
   list-values =
       rw x.list-is
       (values-read (is_long r) x.read (all-sized x.read (λ k h. (value_read k (rw (← x.count) h)).sized))

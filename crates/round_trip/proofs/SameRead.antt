@@ -1,4 +1,5 @@
 -- Same content refuses as a read of all columns of the first row, then of the second, and else goes column by column.
+use Rattle.std.specs.Prelude.{Err, Ok}
 use Prim.Native.Nat.{ℕ, zero, suc, ◌<◌}
 use mathlib.Core.Path.{◌≡◌, refl, sym, ap, ◌∙◌, subst}
 use mathlib.Core.Bool.{Bool, true, false, cond}
@@ -10,11 +11,8 @@ use lib.ListN.{length}
 use Rattle.laws.proofs.Truths.{both, by_cond}
 use Rattle.error.specs.declared.Refusal.{Refusal}
 use Rattle.error.specs.declared.Refusal.TheVariants.{NoRoom}
-use Rattle.error.specs.declared.Flag.{Flag}
-use Rattle.error.specs.declared.Flag.TheVariants.{Is, Refused}
-use Rattle.error.specs.declared.Answer.TheVariants as Answer
 use Rattle.error.specs.Answer.{Counted, unchanged_both}
-use Rattle.error.specs.Result.{ok, refused, on_result}
+use Rattle.error.specs.Result.{on_result, Result}
 use Rattle.row_format.specs.Places.{offset_width}
 use Rattle.row_format.specs.Header.{is_long}
 use Rattle.datatype.specs.declared.DataType.{DataType}
@@ -26,7 +24,6 @@ use Rattle.value.specs.Ranges.{text_of}
 use Rattle.value_list.specs.Lists.{Values, list_of}
 use Rattle.value_same.specs.Same.{same_content}
 use Rattle.stored_form.specs.Points.{points_in}
-use Rattle.row_column.specs.declared.Frame.{Frame}
 use Rattle.row_column.specs.Frame.{frame_of, on_frame}
 use Rattle.row_decode.specs.Read.{is_wanted, read_from, hand_out, read_row, read_call}
 use Rattle.row_same.specs.Rows.{all_columns, values_read, same_values, on_values, same_call}
@@ -47,61 +44,61 @@ module _ (schema r : List ℕ) where
         → read_call schema r wanted out counts ≡ on_result q (unchanged_both out counts) (λ ts. read_row sort ts r wanted out counts)
     of_schema q e = ap (λ (p : Parsed). on_result p (unchanged_both out counts) (λ ts. read_row sort ts r wanted out counts)) e
 
-    of_frame : (ts : List DataType) → schema_of sort schema ≡ ok ts → (f : Frame) → frame_of sort ts r ≡ f
+    of_frame : (ts : List DataType) → schema_of sort schema ≡ Ok ts → (f : Result Bool) → frame_of sort ts r ≡ f
         → read_call schema r wanted out counts ≡ on_frame f (unchanged_both out counts)
         (λ p. hand_out sort out counts r (read_from (offset_width sort) p ts (is_wanted wanted) r 0 (length ts)))
     of_frame ts e f g =
-        of_schema (ok ts) e
-        ∙ ap (λ (x : Frame). on_frame x (unchanged_both out counts)
+        of_schema (Ok ts) e
+        ∙ ap (λ (x : Result Bool). on_frame x (unchanged_both out counts)
         (λ p. hand_out sort out counts r (read_from (offset_width sort) p ts (is_wanted wanted) r 0 (length ts)))) g
 
-    of_values : (ts : List DataType) → schema_of sort schema ≡ ok ts → (p : Bool) → frame_of sort ts r ≡ Frame.Good p
+    of_values : (ts : List DataType) → schema_of sort schema ≡ Ok ts → (p : Bool) → frame_of sort ts r ≡ Ok p
         → WantsAll schema r wanted → (u : Values) → read_from (offset_width sort) p ts (λ j. true) r 0 (length ts) ≡ u
         → read_call schema r wanted out counts ≡ hand_out sort out counts r u
     of_values ts e p f all u g =
-        of_frame ts e (Frame.Good p) f
+        of_frame ts e (Ok p) f
         ∙ ap (hand_out sort out counts r)
         (wanted-all (offset_width sort) p ts r (is_wanted wanted) (length ts) 0 (λ j h. all ts e j (omega arith)) ∙ g)
 
   -- what it does
   data Read : Type 0 where
-    refuses : (e : Refusal) → values_read schema r ≡ refused e → ReadRefuses schema r e → Read
-    gives : (ts : List DataType) (vs : List DataValue) → ReadsAs schema r ts vs → values_read schema r ≡ ok vs
+    refuses : (e : Refusal) → values_read schema r ≡ Err e → ReadRefuses schema r e → Read
+    gives : (ts : List DataType) (vs : List DataValue) → ReadsAs schema r ts vs → values_read schema r ≡ Ok vs
         → ReadGives schema r ts vs → Read
 
   values_of : (q : Parsed) → schema_of sort schema ≡ q
-      → values_read schema r ≡ on_result q refused (λ ts. all_columns sort ts r)
-  values_of q e = ap (λ (p : Parsed). on_result p refused (λ ts. all_columns sort ts r)) e
+      → values_read schema r ≡ on_result q Err (λ ts. all_columns sort ts r)
+  values_of q e = ap (λ (p : Parsed). on_result p Err (λ ts. all_columns sort ts r)) e
 
-  module _ (ts : List DataType) (e : schema_of sort schema ≡ ok ts) where
-    columns_of_lem : (f : Frame) → frame_of sort ts r ≡ f
-        → all_columns sort ts r ≡ on_frame f refused (λ p. read_from (offset_width sort) p ts (λ j. true) r 0 (length ts))
-    columns_of_lem f g = ap (λ (x : Frame). on_frame x refused (λ p. read_from (offset_width sort) p ts (λ j. true) r 0 (length ts))) g
+  module _ (ts : List DataType) (e : schema_of sort schema ≡ Ok ts) where
+    columns_of_lem : (f : Result Bool) → frame_of sort ts r ≡ f
+        → all_columns sort ts r ≡ on_frame f Err (λ p. read_from (offset_width sort) p ts (λ j. true) r 0 (length ts))
+    columns_of_lem f g = ap (λ (x : Result Bool). on_frame x Err (λ p. read_from (offset_width sort) p ts (λ j. true) r 0 (length ts))) g
 
-    by_values : (p : Bool) → frame_of sort ts r ≡ Frame.Good p → (u : Values)
+    by_values : (p : Bool) → frame_of sort ts r ≡ Ok p → (u : Values)
         → read_from (offset_width sort) p ts (λ j. true) r 0 (length ts) ≡ u → Read
-    by_values p f (refused x) g =
-        refuses x (values_of (ok ts) e ∙ columns_of_lem (Frame.Good p) f ∙ g)
-        (λ wanted out counts all. of_values wanted out counts ts e p f all (refused x) g)
-    by_values p f (ok vs) g =
-        let all : all_columns sort ts r ≡ ok vs = columns_of_lem (Frame.Good p) f ∙ g in
-        gives ts vs (record { sort = sort; marked = refl; schema-good = e; all_read = all }) (values_of (ok ts) e ∙ all)
+    by_values p f (Err x) g =
+        refuses x (values_of (Ok ts) e ∙ columns_of_lem (Ok p) f ∙ g)
+        (λ wanted out counts all. of_values wanted out counts ts e p f all (Err x) g)
+    by_values p f (Ok vs) g =
+        let all : all_columns sort ts r ≡ Ok vs = columns_of_lem (Ok p) f ∙ g in
+        gives ts vs (record { sort = sort; marked = refl; schema-good = e; all_read = all }) (values_of (Ok ts) e ∙ all)
         (record {
           columns = e;
           many = (columns-read (offset_width sort) p ts r (length ts) 0 g).count;
-          read = λ wanted out counts every. of_values wanted out counts ts e p f every (ok vs) g;
+          read = λ wanted out counts every. of_values wanted out counts ts e p f every (Ok vs) g;
         })
 
-    by_frame : (f : Frame) → frame_of sort ts r ≡ f → Read
-    by_frame (Frame.Refused x) f =
-        refuses x (values_of (ok ts) e ∙ columns_of_lem (Frame.Refused x) f)
-        (λ wanted out counts all. of_frame wanted out counts ts e (Frame.Refused x) f)
-    by_frame (Frame.Good p) f = by_values p f (read_from (offset_width sort) p ts (λ j. true) r 0 (length ts)) refl
+    by_frame : (f : Result Bool) → frame_of sort ts r ≡ f → Read
+    by_frame (Err x) f =
+        refuses x (values_of (Ok ts) e ∙ columns_of_lem (Err x) f)
+        (λ wanted out counts all. of_frame wanted out counts ts e (Err x) f)
+    by_frame (Ok p) f = by_values p f (read_from (offset_width sort) p ts (λ j. true) r 0 (length ts)) refl
 
   by_schema : (q : Parsed) → schema_of sort schema ≡ q → Read
-  by_schema (refused x) e =
-      refuses x (values_of (refused x) e) (λ wanted out counts all. of_schema wanted out counts (refused x) e)
-  by_schema (ok ts) e = by_frame ts e (frame_of sort ts r) refl
+  by_schema (Err x) e =
+      refuses x (values_of (Err x) e) (λ wanted out counts all. of_schema wanted out counts (Err x) e)
+  by_schema (Ok ts) e = by_frame ts e (frame_of sort ts r) refl
 
   is_read : Read
   is_read = by_schema (schema_of sort schema) refl
@@ -119,10 +116,10 @@ module _ (schema r : List ℕ) where
       (λ e. let ne = eqb-false n i e in below-wanted n i (omega arith))
 
   all_wanted : (q : Parsed) → schema_of sort schema ≡ q → WantsAll schema r (below (on_result q (λ e. 0) length))
-  all_wanted (ok us) e ts g i h = let same : us ≡ ts = cc in below-wanted (length us) i (rw same h)
-  all_wanted (refused x) e ts g i h = absurd (refused-ok (sym e ∙ g))
+  all_wanted (Ok us) e ts g i h = let same : us ≡ ts = cc in below-wanted (length us) i (rw same h)
+  all_wanted (Err x) e ts g i h = absurd (refused-ok (sym e ∙ g))
     where
-      refused-ok : refused x ≡ ok ts → ⊥
+      refused-ok : ◌≡◌ {A = Result (List DataType)} (Err x) (Ok ts) → ⊥
       refused-ok p = let z : ◌≡◌ {A = ℕ} 0 1 = cc in omega arith
 
   abbrev everything : List ℕ
@@ -132,12 +129,12 @@ module _ (schema r : List ℕ) where
   wants_all = all_wanted (schema_of sort schema) refl
 
   abbrev reason : Counted → Refusal
-  reason (Answer.Refused e, after) = e
-  reason (Answer.Done n, after) = NoRoom
+  reason (Err e, after) = e
+  reason (Ok n, after) = NoRoom
 
   abbrev IsRefused : Counted → Type 0
-  IsRefused (Answer.Refused e, after) = Unit {0}
-  IsRefused (Answer.Done n, after) = ⊥
+  IsRefused (Err e, after) = Unit {0}
+  IsRefused (Ok n, after) = ⊥
 
   one_reason : {e x : Refusal} → ReadRefuses schema r e → ReadRefuses schema r x → e ≡ x
   one_reason f g = ap reason (sym (f everything [] [] wants_all) ∙ g everything [] [] wants_all)
@@ -164,32 +161,32 @@ module _ (a b : List ℕ) where
 -- ---- the call
 
 module _ (schema a b : List ℕ) where
-  abbrev flag_of : Flag → Bool
-  flag_of (Is x) = x
-  flag_of (Refused e) = false
+  abbrev flag_of : Result Bool → Bool
+  flag_of (Ok x) = x
+  flag_of (Err e) = false
 
-  abbrev reason_of : Flag → Refusal
-  reason_of (Is x) = NoRoom
-  reason_of (Refused e) = e
+  abbrev reason_of : Result Bool → Refusal
+  reason_of (Ok x) = NoRoom
+  reason_of (Err e) = e
 
-  abbrev Told : Flag → Type 0
-  Told (Is x) = ⊥
-  Told (Refused e) = Unit {0}
+  abbrev Told : Result Bool → Type 0
+  Told (Ok x) = ⊥
+  Told (Err e) = Unit {0}
 
   of_first : (x : Values) → values_read schema a ≡ x
-      → same_call schema a b ≡ on_values x (λ vs. on_values (values_read schema b) (λ us. Is (same_values (types_in schema) a vs b us)))
-  of_first x e = ap (λ (y : Values). on_values y (λ vs. on_values (values_read schema b) (λ us. Is (same_values (types_in schema) a vs b us)))) e
+      → same_call schema a b ≡ on_values x (λ vs. on_values (values_read schema b) (λ us. Ok (same_values (types_in schema) a vs b us)))
+  of_first x e = ap (λ (y : Values). on_values y (λ vs. on_values (values_read schema b) (λ us. Ok (same_values (types_in schema) a vs b us)))) e
 
-  of_second : (vs : List DataValue) → values_read schema a ≡ ok vs → (y : Values) → values_read schema b ≡ y
-      → same_call schema a b ≡ on_values y (λ us. Is (same_values (types_in schema) a vs b us))
-  of_second vs e y g = of_first (ok vs) e ∙ ap (λ (z : Values). on_values z (λ us. Is (same_values (types_in schema) a vs b us))) g
+  of_second : (vs : List DataValue) → values_read schema a ≡ Ok vs → (y : Values) → values_read schema b ≡ y
+      → same_call schema a b ≡ on_values y (λ us. Ok (same_values (types_in schema) a vs b us))
+  of_second vs e y g = of_first (Ok vs) e ∙ ap (λ (z : Values). on_values z (λ us. Ok (same_values (types_in schema) a vs b us))) g
 
-  module _ {e : Refusal} (call : same_call schema a b ≡ Refused e) (there : RefusedAs schema a b e)
+  module _ {e : Refusal} (call : same_call schema a b ≡ Err e) (there : RefusedAs schema a b e)
       (only : (x : Refusal) → RefusedAs schema a b x → e ≡ x) where
     refused_call : SameAsRead schema a b
     refused_call =
         record {
-          refuses = λ x. (λ c. subst (RefusedAs schema a b) (ap reason_of (sym call ∙ c)) there, λ g. call ∙ ap Refused (only x g));
+          refuses = λ x. (λ c. subst (RefusedAs schema a b) (ap reason_of (sym call ∙ c)) there, λ g. call ∙ ap Err (only x g));
           tells = λ x c. absurd (subst Told (sym call ∙ c) tt);
         }
 
@@ -225,16 +222,16 @@ module _ (schema a b : List ℕ) where
             };
       }
 
-  by_second : {ts : List DataType} {vs : List DataValue} → ReadsAs schema a ts vs → values_read schema a ≡ ok vs → ReadGives schema a ts vs
+  by_second : {ts : List DataType} {vs : List DataValue} → ReadsAs schema a ts vs → values_read schema a ≡ Ok vs → ReadGives schema a ts vs
       → Read schema b → SameAsRead schema a b
-  by_second {vs = vs} p e g (refuses x k f) = refused_call (of_second vs e (refused x) k) (second g f) (second-only g f)
+  by_second {vs = vs} p e g (refuses x k f) = refused_call (of_second vs e (Err x) k) (second g f) (second-only g f)
   by_second {ts} p e g (gives us ws q k h) =
       let same = same-columns (is_long b) (is_long a) schema h.columns g.columns in
       both_read_lem p (subst (λ (xs : List DataType). ReadsAs schema b xs ws) same q) g
       (subst (λ (xs : List DataType). ReadGives schema b xs ws) same h)
 
   by_first : Read schema a → SameAsRead schema a b
-  by_first (refuses x k f) = refused_call (of_first (refused x) k) (first f) (first-only f)
+  by_first (refuses x k f) = refused_call (of_first (Err x) k) (first f) (first-only f)
   by_first (gives ts vs p e g) = by_second p e g (is_read schema b)
 
   pub same_as_read : SameAsRead schema a b

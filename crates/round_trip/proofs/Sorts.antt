@@ -1,4 +1,5 @@
 -- A schema for both sorts of rows, and the mark of a built row.
+use Rattle.std.specs.Prelude.{Err, Ok}
 use Prim.Native.Nat.{ℕ}
 use mathlib.Core.Path.{◌≡◌, refl, sym, ap, ◌∙◌}
 use mathlib.Core.Bool.{Bool, true, false, cond}
@@ -7,9 +8,9 @@ use native.Mathlib.Omega.{arith}
 use borrow.Author.Tests.{le-ltb, ltb-false}
 use lib.Dec.{ltb}
 use lib.ListN.{length, length-map}
+use Rattle.error.specs.Result.{Result}
 use Rattle.error.specs.declared.Refusal.{Refusal}
 use Rattle.error.specs.declared.Refusal.TheVariants.{BadSchema}
-use Rattle.error.specs.Result.{ok, refused}
 use Rattle.row_format.specs.declared.Shape.{Shape}
 use Rattle.row_format.specs.Places.{minimum, offset_width, row_limit}
 use Rattle.row_format.specs.Row.{slots_of}
@@ -25,12 +26,12 @@ use Rattle.row_build.proofs.Schemas.{schema-records, schema-few}
 use Rattle.round_trip.specs.Sorts.{ShortIsLong, OfItsSort}
 
 -- a schema says the same columns for whatever sorts it is good
-pub same-columns : (j k : Bool) (s : List ℕ) {ts us : List DataType} → schema_of j s ≡ ok ts → schema_of k s ≡ ok us
+pub same-columns : (j k : Bool) (s : List ℕ) {ts us : List DataType} → schema_of j s ≡ Ok ts → schema_of k s ≡ Ok us
     → ts ≡ us
 same-columns j k s e f = ap columns_of (sym (schema-records j s e) ∙ schema-records k s f)
 
 -- behind the test after the last record
-passed : (t : Bool) (e : Refusal) (ts : List DataType) → cond t (refused e) (ok ts) ≡ ok ts → t ≡ false
+passed : (t : Bool) (e : Refusal) (ts : List DataType) → ◌≡◌ {A = Result (List DataType)} (cond t (Err e) (Ok ts)) (Ok ts) → t ≡ false
 passed true e ts p = let z : ◌≡◌ {A = ℕ} 0 1 = cc in absurd (omega arith)
 passed false e ts p = refl
 

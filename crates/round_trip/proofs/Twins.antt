@@ -1,10 +1,10 @@
 -- Two builds of one value list and text area, whatever sorts they are of, make rows of the same content.
+use Rattle.std.specs.Prelude.{Ok}
 use Prim.Native.Nat.{ℕ, ◌<◌}
 use mathlib.Core.Path.{◌≡◌, refl, sym, ap, ap₂, ◌∙◌, subst}
 use mathlib.Core.Bool.{Bool, true, false, cond}
 use mathlib.Core.List.{List, []}
 use lib.ListN.{length, get_or}
-use Rattle.error.specs.declared.Flag.TheVariants.{Is}
 use Rattle.row_format.specs.Places.{offset_width}
 use Rattle.laws.proofs.Bytes.{AllBytes}
 use Rattle.laws.proofs.Same.{same_self as bytes-self}
@@ -82,7 +82,7 @@ module _ {sort sort' : Bool} {schema list area out : List ℕ} {n : ℕ} {after 
       (start_in (offset_width sort) b.columns i (row b)) (start_in (offset_width sort') b.columns i (row b'))
       (given_text b i) (text_of (row b) (given_back b i)) (text_of (row b') (twin i)) (given_value b i) (same_text i h))
 
-  pub same_rows : same_call schema (row b) (row b') ≡ Is true
+  pub same_rows : same_call schema (row b) (row b') ≡ Ok true
   same_rows =
       twins_same (built-reads b (values-sized list bytes (taken b).all))
       (subst (λ (ts : List DataType). ReadsAs schema (row b') ts (all_back b')) columns_are

@@ -1,12 +1,10 @@
 -- FORMAT 3.9, 7.1, 7.3, 7.4, 7.5, 8.3. 01's row 2, of 1, "AB", null, and its long twin: the premises of the statements
 -- about rows that were built and rows that are read are met by them.
-use Rattle.std.specs.Prelude.{ℕ, true, false, List, [], ◌∷◌, ◌≡◌, get_or, replicate}
+use Rattle.std.specs.Prelude.{ℕ, true, false, List, [], ◌∷◌, ◌≡◌, get_or, replicate, Ok}
 use Rattle.std.specs.Int.{w8}
 use Rattle.std.proofs.Common.{Fits}
-use Rattle.error.specs.declared.Answer.TheVariants.{Done}
 use Rattle.row_build.specs.Build.{build_call}
 use Rattle.row_build.specs.Built.{Built}
-use Rattle.row_text.specs.declared.ColumnText.TheVariants.{Part}
 use Rattle.row_text.specs.Text.{text_call}
 use Rattle.round_trip.specs.Same.{FullRead, list_read}
 use Rattle.round_trip.specs.Layouts.{AllAlike}
@@ -36,7 +34,7 @@ abbrev pub OfBytes : List ℕ → Type 0
 OfBytes bs = (k : ℕ) → Fits w8 (get_or bs k 0)
 
 pub record Examples : Type 0 where
-  -- `NullsBack`, `BuiltReadsBack`, `BuiltTextBack`: a build that answered Done, of a list of bytes
+  -- `NullsBack`, `BuiltReadsBack`, `BuiltTextBack`: a build that answered Ok, of a list of bytes
   pub short : Built false (S 11) values text (lent 15) 15 short2
   pub list-bytes : OfBytes values
   -- `Twins`: one of the long row, of the same list
@@ -44,12 +42,12 @@ pub record Examples : Type 0 where
   -- `OneLayout`: one under a schema whose columns are alike
   pub characters : Built false (S 16) values text (lent 15) 15 short2
   pub alike : AllAlike short.columns characters.columns
-  -- `SameAsItself`, `SameEitherWay`: reads of all columns that answered Done
+  -- `SameAsItself`, `SameEitherWay`: reads of all columns that answered Ok
   pub short-read : FullRead (S 11) short2
   pub long-read : FullRead (S 11) long2
   -- `SameAsBuilt`: what was read is built again, as a row of the other sort
   pub row-bytes : OfBytes short2
   pub rebuilt : build_call true (S 11) (list_read short-read) short2 (lent 17) (replicate 3 7)
-      ≡ (Done 17, (long2, 0 ∷ 2 ∷ 0 ∷ []))
+      ≡ (Ok 17, (long2, 0 ∷ 2 ∷ 0 ∷ []))
   -- `TextAsRead`: the text call answers neither 9 nor 11
-  pub part : text_call (S 11) short2 1 ≡ Part (record { start = 13; length = 2 })
+  pub part : text_call (S 11) short2 1 ≡ Ok (record { start = 13; length = 2 })

@@ -1,6 +1,6 @@
 -- What a read of a built row gives: the values it was built of, with their texts as parts of the row, and the counts
 -- that building put. FORMAT 7.1.
-use Rattle.std.specs.Prelude.{ℕ, suc, ◌<◌, Bool, true, cond, List, [], ◌∷◌, map, ◌≡◌, length, get_or, take}
+use Rattle.std.specs.Prelude.{ℕ, suc, ◌<◌, Bool, true, cond, List, [], ◌∷◌, map, ◌≡◌, length, get_or, take, Ok}
 use Rattle.std.specs.Int.{w8}
 use Rattle.std.proofs.Common.{Fits}
 use Rattle.error.specs.Answer.{placed_both}
@@ -15,8 +15,6 @@ use Rattle.value.specs.Ranges.{text_of}
 use Rattle.value_list.specs.Lists.{list_of}
 use Rattle.stored_form.specs.Write.{stored_form}
 use Rattle.stored_form.specs.ReadBack.{read_back, has_text}
-use Rattle.row_column.specs.declared.Frame.TheVariants.{Good}
-use Rattle.row_column.specs.declared.ColumnRead.TheVariants.{Value}
 use Rattle.row_column.specs.Frame.{frame_of}
 use Rattle.row_column.specs.Column.{column_value}
 use Rattle.row_decode.specs.Read.{is_wanted, read_call}
@@ -74,10 +72,10 @@ module _ {sort : Bool} {schema list area out : List ℕ} {n : ℕ} {after : List
 
   pub record ReadsBack : Type 0 where
     -- no refusal by the header, which says packed
-    pub frame : frame_of sort b.columns row ≡ Good true
+    pub frame : frame_of sort b.columns row ≡ Ok true
     -- each column gives back what was given for it
     pub column : (i : ℕ) → i < length b.columns
-        → column_value (offset_width sort) true b.columns i row ≡ Value (given_back i)
+        → column_value (offset_width sort) true b.columns i row ≡ Ok (given_back i)
     -- and its text, if it has one, is the stored form
     pub text : (i : ℕ) → i < length b.columns → has_text (given_value i) ≡ true
         → text_of row (given_back i) ≡ given_form i

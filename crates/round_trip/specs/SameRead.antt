@@ -1,10 +1,8 @@
 -- FORMAT 7.4. 01, "Same content": "compares two rows of one schema by what a read of all columns gives, null or a
 -- value"; "It refuses as a read of all columns of the first row, then of the second."
-use Rattle.std.specs.Prelude.{ℕ, ◌<◌, Bool, true, List, map, ◌↔◌, ◌≡◌, length, get_or}
+use Rattle.std.specs.Prelude.{ℕ, ◌<◌, Bool, true, List, map, ◌↔◌, ◌≡◌, length, get_or, Err, Ok}
 use Rattle.error.specs.declared.Refusal.{Refusal}
-use Rattle.error.specs.declared.Flag.TheVariants.{Is, Refused}
 use Rattle.error.specs.Answer.{unchanged_both, placed_both}
-use Rattle.error.specs.Result.{ok}
 use Rattle.row_format.specs.Header.{is_long}
 use Rattle.datatype.specs.declared.DataType.{DataType}
 use Rattle.datatype.specs.Types.{length_of}
@@ -22,7 +20,7 @@ use Rattle.row_same.specs.Rows.{same_call}
 -- the list of wanted columns has all that the schema has for rows of r's sort
 abbrev pub WantsAll : List ℕ → List ℕ → List ℕ → Type 0
 WantsAll schema r wanted =
-    (ts : List DataType) → schema_of (is_long r) schema ≡ ok ts → (i : ℕ) → i < length ts → is_wanted wanted i ≡ true
+    (ts : List DataType) → schema_of (is_long r) schema ≡ Ok ts → (i : ℕ) → i < length ts → is_wanted wanted i ≡ true
 
 -- "a read of all columns" refuses with e, whatever room it has: so not for want of room, 14
 abbrev pub ReadRefuses : List ℕ → List ℕ → Refusal → Type 0
@@ -32,7 +30,7 @@ ReadRefuses schema r e =
 
 -- it gives the values vs of columns ts
 pub record ReadGives (schema r : List ℕ) (ts : List DataType) (vs : List DataValue) : Type 0 where
-  pub columns : schema_of (is_long r) schema ≡ ok ts
+  pub columns : schema_of (is_long r) schema ≡ Ok ts
   pub many : length vs ≡ length ts
   pub read : (wanted out counts : List ℕ) → WantsAll schema r wanted
       → read_call schema r wanted out counts ≡ placed_both out counts (list_of (is_long r) vs) (map (points_in r) vs)
@@ -57,5 +55,5 @@ module _ (schema a b : List ℕ) where
         (get_or second-values i Null) (text_of b (get_or second-values i Null)) ≡ true)
 
   pub record SameAsRead : Type 0 where
-    pub refuses : (e : Refusal) → (same_call schema a b ≡ Refused e) ↔ RefusedAs e
-    pub tells : (x : Bool) → same_call schema a b ≡ Is x → ComparedBy x
+    pub refuses : (e : Refusal) → (same_call schema a b ≡ Err e) ↔ RefusedAs e
+    pub tells : (x : Bool) → same_call schema a b ≡ Ok x → ComparedBy x

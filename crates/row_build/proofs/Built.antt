@@ -1,4 +1,5 @@
 -- What a build that answers Done has done, and which lists build equal rows.
+use Rattle.std.specs.Prelude.{Err, Ok}
 use Prim.Native.Nat.{ℕ, ◌≤◌}
 use mathlib.Core.Path.{◌≡◌, refl, sym, ap, ◌∙◌, subst}
 use mathlib.Core.Bool.{Bool, true, false, cond, ◌||◌}
@@ -9,9 +10,8 @@ use lib.Dec.{ltb}
 use lib.ListN.{length, take}
 use lib.Seq.{sets}
 use Rattle.error.specs.declared.Refusal.TheVariants.{RowLimit, NoRoom}
-use Rattle.error.specs.declared.Answer.{Answer}
 use Rattle.error.specs.Answer.{Outcome, unchanged, placed, Counted, unchanged_both, placed_both}
-use Rattle.error.specs.Result.{Result, ok, refused, on_result}
+use Rattle.error.specs.Result.{Result, on_result}
 use Rattle.laws.specs.InnerForall.{Forall₂}
 use Rattle.laws.proofs.Bytes.{part-stored}
 use Rattle.row_format.specs.Places.{offset_width, row_limit}
@@ -34,13 +34,13 @@ use Rattle.row_build.proofs.Cells.{cells_fit}
 use Rattle.row_build.proofs.Counting.{many-points}
 
 -- the answer, beside what was written
-abbrev pub IsDone : {B : Type 0} → Answer × B → Type 0
-IsDone (Answer.Done n, b) = Unit {0}
-IsDone (Answer.Refused e, b) = ⊥
+abbrev pub IsDone : {B : Type 0} → Result ℕ × B → Type 0
+IsDone (Ok n, b) = Unit {0}
+IsDone (Err e, b) = ⊥
 
-abbrev done_in : {B : Type 0} → Answer × B → ℕ
-done_in (Answer.Done n, b) = n
-done_in (Answer.Refused e, b) = 0
+abbrev done_in : {B : Type 0} → Result ℕ × B → ℕ
+done_in (Ok n, b) = n
+done_in (Err e, b) = 0
 
 -- what a result x leaves of the output
 pub record Placed (out x : List ℕ) (n : ℕ) (after : List ℕ) : Type 0 where
@@ -60,20 +60,20 @@ is-placed out x k m s =
     let h : length x ≤ length out = ltb-false (length out) (length x) k in
     record { size = m; room = h; stored = s; part = rw (s, m) (part-stored out 0 x (omega arith)) }
 
-pub placed-done : (out x : List ℕ) {n : ℕ} {after : List ℕ} → placed out x ≡ (Answer.Done n, after) → Placed out x n after
+pub placed-done : (out x : List ℕ) {n : ℕ} {after : List ℕ} → placed out x ≡ (Ok n, after) → Placed out x n after
 placed-done out x {n} {after} e = by_room (ltb (length out) (length x)) refl e
   where
     by_room : (t : Bool) → ltb (length out) (length x) ≡ t
-        → ◌≡◌ {A = Outcome} (cond t (unchanged out NoRoom) (Answer.Done (length x), sets out 0 x)) (Answer.Done n, after)
+        → ◌≡◌ {A = Outcome} (cond t (unchanged out NoRoom) (Ok (length x), sets out 0 x)) (Ok n, after)
         → Placed out x n after
     by_room true k p = absurd (subst IsDone (sym p) tt)
     by_room false k p = is-placed out x k (sym (ap done_in p)) (sym (ap (λ (z : Outcome). z.1) p))
 
-pub placed_both_done : (out counts x ns : List ℕ) {n : ℕ} {after numbers : List ℕ} → placed_both out counts x ns ≡ (Answer.Done n, (after, numbers)) → PlacedBoth out counts x ns n after numbers
+pub placed_both_done : (out counts x ns : List ℕ) {n : ℕ} {after numbers : List ℕ} → placed_both out counts x ns ≡ (Ok n, (after, numbers)) → PlacedBoth out counts x ns n after numbers
 placed_both_done out counts x ns {n} {after} {numbers} e = by_room (ltb (length out) (length x)) (ltb (length counts) (length ns)) refl refl e
   where
     by_room : (t u : Bool) → ltb (length out) (length x) ≡ t → ltb (length counts) (length ns) ≡ u
-        → ◌≡◌ {A = Counted} (cond (t || u) (unchanged_both out counts NoRoom) (Answer.Done (length x), (sets out 0 x, sets counts 0 ns))) (Answer.Done n, (after, numbers))
+        → ◌≡◌ {A = Counted} (cond (t || u) (unchanged_both out counts NoRoom) (Ok (length x), (sets out 0 x, sets counts 0 ns))) (Ok n, (after, numbers))
         → PlacedBoth out counts x ns n after numbers
     by_room true u k l p = absurd (subst IsDone (sym p) tt)
     by_room false true k l p = absurd (subst IsDone (sym p) tt)
@@ -88,11 +88,11 @@ module _ (k : Bool) (schema list area out counts : List ℕ) (n : ℕ) (after nu
   abbrev Goal : Type 0
   Goal = DoneBuild k schema list area out counts n after numbers
 
-  of_cells : (ts : List DataType) → schema_of k schema ≡ ok ts → (vs : List DataValue) → checked k (length ts) (length area) list ≡ ok vs
+  of_cells : (ts : List DataType) → schema_of k schema ≡ Ok ts → (vs : List DataValue) → checked k (length ts) (length area) list ≡ Ok vs
       → (q : Result (List Cell)) → cells_from 0 ts vs area ≡ q
-      → on_result q (unchanged_both out counts) (λ cs. row_placed_both k out counts (built_row (offset_width k) (packed_marks k) (map shape_of ts) cs) (cells_points ts cs)) ≡ (Answer.Done n, (after, numbers)) → Goal
-  of_cells ts e vs f (refused u) g o = absurd (subst IsDone (sym o) tt)
-  of_cells ts e vs f (ok cs) g o = by_limit (ltb (row_limit k) (length r)) refl o
+      → on_result q (unchanged_both out counts) (λ cs. row_placed_both k out counts (built_row (offset_width k) (packed_marks k) (map shape_of ts) cs) (cells_points ts cs)) ≡ (Ok n, (after, numbers)) → Goal
+  of_cells ts e vs f (Err u) g o = absurd (subst IsDone (sym o) tt)
+  of_cells ts e vs f (Ok cs) g o = by_limit (ltb (row_limit k) (length r)) refl o
     where
       r : List ℕ
       r = built_row (offset_width k) (packed_marks k) (map shape_of ts) cs
@@ -101,7 +101,7 @@ module _ (k : Bool) (schema list area out counts : List ℕ) (n : ℕ) (after nu
       many = many-points ts vs area g (checked-taken k (length ts) (length area) list f).count
 
       by_limit : (t : Bool) → ltb (row_limit k) (length r) ≡ t
-          → cond t (unchanged_both out counts RowLimit) (placed_both out counts r (cells_points ts cs)) ≡ (Answer.Done n, (after, numbers)) → Goal
+          → cond t (unchanged_both out counts RowLimit) (placed_both out counts r (cells_points ts cs)) ≡ (Ok n, (after, numbers)) → Goal
       by_limit true l p = absurd (subst IsDone (sym p) tt)
       by_limit false l p =
           let q = placed_both_done out counts r (cells_points ts cs) p in
@@ -124,14 +124,14 @@ module _ (k : Bool) (schema list area out counts : List ℕ) (n : ℕ) (after nu
             counted = record { many = many; enough = rw many at q.enough; put = q.put };
           }
 
-  of_values : (ts : List DataType) → schema_of k schema ≡ ok ts → (q : Values) → checked k (length ts) (length area) list ≡ q
-      → on_result q (unchanged_both out counts) (λ vs. build_values k ts vs area out counts) ≡ (Answer.Done n, (after, numbers)) → Goal
-  of_values ts e (refused u) f o = absurd (subst IsDone (sym o) tt)
-  of_values ts e (ok vs) f o = of_cells ts e vs f (cells_from 0 ts vs area) refl o
+  of_values : (ts : List DataType) → schema_of k schema ≡ Ok ts → (q : Values) → checked k (length ts) (length area) list ≡ q
+      → on_result q (unchanged_both out counts) (λ vs. build_values k ts vs area out counts) ≡ (Ok n, (after, numbers)) → Goal
+  of_values ts e (Err u) f o = absurd (subst IsDone (sym o) tt)
+  of_values ts e (Ok vs) f o = of_cells ts e vs f (cells_from 0 ts vs area) refl o
 
-  of_schema : (q : Parsed) → schema_of k schema ≡ q → on_result q (unchanged_both out counts) (λ ts. build_row k ts list area out counts) ≡ (Answer.Done n, (after, numbers)) → Goal
-  of_schema (refused u) e o = absurd (subst IsDone (sym o) tt)
-  of_schema (ok ts) e o = of_values ts e (checked k (length ts) (length area) list) refl o
+  of_schema : (q : Parsed) → schema_of k schema ≡ q → on_result q (unchanged_both out counts) (λ ts. build_row k ts list area out counts) ≡ (Ok n, (after, numbers)) → Goal
+  of_schema (Err u) e o = absurd (subst IsDone (sym o) tt)
+  of_schema (Ok ts) e o = of_values ts e (checked k (length ts) (length area) list) refl o
 
 pub built : (k : Bool) (schema list area out counts : List ℕ) → DoneIsBuilt k schema list area out counts
 built k schema list area out counts n after numbers o = of_schema k schema list area out counts n after numbers (schema_of k schema) refl o

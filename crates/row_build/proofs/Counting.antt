@@ -1,4 +1,5 @@
 -- The counts of the columns' code points: one for each cell, and the second pass that stores them.
+use Rattle.std.specs.Prelude.{Ok}
 use Prim.Native.Nat.{ℕ, zero, suc, ◌+◌, ◌≤◌, ◌<◌}
 use mathlib.Core.Path.{◌≡◌, refl, sym, ap, ◌∙◌}
 use mathlib.Core.Bool.{cond}
@@ -20,7 +21,6 @@ use Rattle.value.specs.declared.DataValue.{DataValue}
 use Rattle.value.specs.Ranges.{text_of}
 use Rattle.stored_form.specs.Write.{stored_form}
 use Rattle.stored_form.specs.Points.{stored_points}
-use Rattle.error.specs.Result.{ok}
 use Rattle.record_slot.specs.Stored.{is_null}
 use Rattle.record_slot.specs.InnerSteps.{Given, ReadAt}
 use Rattle.record_slot.proofs.Tests.{CellIs, null, stored}
@@ -54,7 +54,7 @@ cell_points t v area (null n) = rw n
 cell_points t v area (stored n m a) = rw n
 
 -- the cells of a list of values
-module _ (ts : List DataType) (vs : List DataValue) (area : List ℕ) {cs : List Cell} (e : cells_from 0 ts vs area ≡ ok cs) (n : length vs ≡ length ts) where
+module _ (ts : List DataType) (vs : List DataValue) (area : List ℕ) {cs : List Cell} (e : cells_from 0 ts vs area ≡ Ok cs) (n : length vs ≡ length ts) where
   pub many-cells : length cs ≡ length ts
   many-cells = forall_length (cells_fit area 0 ts vs e n) ∙ length-map ts shape_of
 

@@ -1,4 +1,5 @@
 -- The first pass: what was counted, and what the columns that are left add to it.
+use Rattle.std.specs.Prelude.{Err, Ok}
 use Prim.Native.Nat.{ℕ, ◌+◌, ◌*◌, ◌-◌, ◌≤◌, ◌<◌}
 use mathlib.Core.Path.{◌≡◌, refl, sym, ap, ◌∙◌, subst}
 use mathlib.Core.Bool.{Bool, true, false, cond}
@@ -7,8 +8,7 @@ use native.Mathlib.Nat.{add-zero, add_assoc}
 use native.Mathlib.Omega.{arith}
 use lib.ListN.{length, get_or, drop, length-append, drop_of_length-le}
 use Rattle.error.specs.declared.Refusal.{Refusal}
-use Rattle.error.specs.declared.Answer.{Answer}
-use Rattle.error.specs.Result.{Result, ok, refused, before}
+use Rattle.error.specs.Result.{Result, before}
 use Rattle.row_format.specs.declared.Shape.{Shape}
 use Rattle.row_format.specs.declared.Shape.TheVariants.{Fixed, Varlen}
 use Rattle.row_format.specs.Places.{row_limit}
@@ -43,26 +43,26 @@ payload_first t true ss c cs = length-append (bytes c) (payloads (varlen_cells s
 payload_first t false ss c cs = omega arith
 
 measured-more : (m : ℕ) (t : DataType) (ts : List DataType) (c : Cell) (q : Result (List Cell)) → measured m (t ∷ ts) (before c q) ≡ measured (m + payload_added t c) ts q
-measured-more m t ts c (ok cs) = ap Answer.Done (ap (λ (n : ℕ). m + n) (payload_first t (is_varlen t) (map shape_of ts) c cs) ∙ sym (add_assoc m (payload_added t c) (length (payloads (varlen_cells (map shape_of ts) cs)))))
-measured-more m t ts c (refused e) = refl
+measured-more m t ts c (Ok cs) = ap Ok (ap (λ (n : ℕ). m + n) (payload_first t (is_varlen t) (map shape_of ts) c cs) ∙ sym (add_assoc m (payload_added t c) (length (payloads (varlen_cells (map shape_of ts) cs)))))
+measured-more m t ts c (Err e) = refl
 
 -- what an answer says
-abbrev pub counted : Answer → ℕ
-counted (Answer.Done n) = n
-counted (Answer.Refused e) = 0
+abbrev pub counted : Result ℕ → ℕ
+counted (Ok n) = n
+counted (Err e) = 0
 
-abbrev pub IsDone : Answer → Type 0
-IsDone (Answer.Done n) = Unit {0}
-IsDone (Answer.Refused e) = ⊥
+abbrev pub IsDone : Result ℕ → Type 0
+IsDone (Ok n) = Unit {0}
+IsDone (Err e) = ⊥
 
 module _ (m : ℕ) (t : DataType) (ts : List DataType) (rest : Result (List Cell)) where
-  counted-more : {n : ℕ} (q : Result Cell) → payload_answer t q ≡ Answer.Done n → measured m (t ∷ ts) (on_cell q rest) ≡ measured (m + n) ts rest
-  counted-more (ok c) e = measured-more m t ts c rest ∙ ap (λ (k : ℕ). measured (m + k) ts rest) (ap counted e)
-  counted-more (refused u) e = absurd (subst IsDone (sym e) tt)
+  counted-more : {n : ℕ} (q : Result Cell) → payload_answer t q ≡ Ok n → measured m (t ∷ ts) (on_cell q rest) ≡ measured (m + n) ts rest
+  counted-more (Ok c) e = measured-more m t ts c rest ∙ ap (λ (k : ℕ). measured (m + k) ts rest) (ap counted e)
+  counted-more (Err u) e = absurd (subst IsDone (sym e) tt)
 
-  counted_bad : {u : Refusal} (q : Result Cell) → payload_answer t q ≡ Answer.Refused u → measured m (t ∷ ts) (on_cell q rest) ≡ Answer.Refused u
-  counted_bad (ok c) e = absurd (subst IsDone e tt)
-  counted_bad (refused u) e = e
+  counted_bad : {u : Refusal} (q : Result Cell) → payload_answer t q ≡ Err u → measured m (t ∷ ts) (on_cell q rest) ≡ Err u
+  counted_bad (Ok c) e = absurd (subst IsDone e tt)
+  counted_bad (Err u) e = e
 
 -- ---- the walk
 
@@ -80,22 +80,22 @@ module _ {s : List ℕ} {l : RowLayout} {list area : List ℕ} (b : Buildable s 
   left h = omega (arith, columns-all b.accepted)
 
   module _ {size i at from : ℕ} (k : Measuring s l list area size i at from) where
-    pub measure_end : l.num_columns ≤ i → Answer.Done size ≡ measured (minimum_of l true) (types_in s) (cells_from 0 (types_in s) (values_in list) area)
+    pub measure_end : l.num_columns ≤ i → Ok size ≡ measured (minimum_of l true) (types_in s) (cells_from 0 (types_in s) (values_in list) area)
     measure_end h =
         let none : drop i (types_in s) ≡ [] = drop_of_length-le (types_in s) {i = i} (omega (arith, columns-all b.accepted)) in
         rw (none, add-zero) at k.rest
 
-    module _ (h : i < length (types_in s)) {g : Given} (r : ReadAt s at list from g) (res : Answer) (e : res ≡ payload_answer g.ty (cell_in i g.ty g.value area)) where
+    module _ (h : i < length (types_in s)) {g : Given} (r : ReadAt s at list from g) (res : Result ℕ) (e : res ≡ payload_answer g.ty (cell_in i g.ty g.value area)) where
       abbrev others : Result (List Cell)
       others = cells_from (i + 1) (drop (i + 1) (types_in s)) (drop (i + 1) (values_in list)) area
 
       next : measured size (g.ty ∷ drop (i + 1) (types_in s)) (on_cell (cell_in i g.ty g.value area) others) ≡ measured (minimum_of l true) (types_in s) (cells_from 0 (types_in s) (values_in list) area)
       next = rw (types_split b k.walk h r, values-split b k.walk h r) at k.rest
 
-      pub measure_bad : {u : Refusal} → res ≡ Answer.Refused u → Answer.Refused u ≡ measured (minimum_of l true) (types_in s) (cells_from 0 (types_in s) (values_in list) area)
+      pub measure_bad : {u : Refusal} → res ≡ Err u → Err u ≡ measured (minimum_of l true) (types_in s) (cells_from 0 (types_in s) (values_in list) area)
       measure_bad f = sym (counted_bad size g.ty (drop (i + 1) (types_in s)) others (cell_in i g.ty g.value area) (sym e ∙ f)) ∙ next
 
-      pub measure_more : {n : ℕ} → res ≡ Answer.Done n → Short res → Measuring s l list area (size + n) (i + 1) g.next_type g.next-value
+      pub measure_more : {n : ℕ} → res ≡ Ok n → Short res → Measuring s l list area (size + n) (i + 1) g.next_type g.next-value
       measure_more {n} f short =
           let few : n ≤ 1048576 = rw f at short in
           record {
@@ -106,7 +106,7 @@ module _ {s : List ℕ} {l : RowLayout} {list area : List ℕ} (b : Buildable s 
 
 -- ---- the walk while it is not known whether the list is good
 
-values_are : (list : List ℕ) {vs : List DataValue} → values_of list ≡ ok vs → values_in list ≡ vs
+values_are : (list : List ℕ) {vs : List DataValue} → values_of list ≡ Ok vs → values_in list ≡ vs
 unfolding values_in
 values_are list g = ap values_given g
 
@@ -148,11 +148,11 @@ module _ {s : List ℕ} {l : RowLayout} (a : Accepted s l) {list area : List ℕ
               value_there = λ f. subst IsValue (sym w.1.0.value ∙ f) tt;
             }
 
-        module _ (res : Answer) (f : res ≡ payload_in i s at list from area) where
-          pub walk_bad : {u : Refusal} → res ≡ Answer.Refused u → Buildable s l list area → Answer.Refused u ≡ measured (minimum_of l true) (types_in s) (cells_from 0 (types_in s) (values_in list) area)
+        module _ (res : Result ℕ) (f : res ≡ payload_in i s at list from area) where
+          pub walk_bad : {u : Refusal} → res ≡ Err u → Buildable s l list area → Err u ≡ measured (minimum_of l true) (types_in s) (cells_from 0 (types_in s) (values_in list) area)
           walk_bad g b = measure_bad b (k.told b) h (read_at walk_readable) res f g
 
-          module _ {m : ℕ} (g : res ≡ Answer.Done m) (short : Short res) where
+          module _ {m : ℕ} (g : res ≡ Ok m) (short : Short res) where
             few : m ≤ 1048576
             few = rw g at short
 
@@ -182,7 +182,7 @@ module _ {s : List ℕ} {l : RowLayout} (a : Accepted s l) {list area : List ℕ
           let m = prefix_more k.prefix (omega (arith, n, k.prefix.inside)) b.taken in
           omega (arith, m, c, b.count, columns-all a)
 
-      pub walk_end : from ≡ length list → Lengthed s l list area (Answer.Done size)
+      pub walk_end : from ≡ length list → Lengthed s l list area (Ok size)
       walk_end e =
           let t = prefix_end k.prefix e in
           let same : values_in list ≡ k.prefix.done = values_are list t in
@@ -190,14 +190,14 @@ module _ {s : List ℕ} {l : RowLayout} (a : Accepted s l) {list area : List ℕ
             good = λ b. measure_end b (k.told b) c;
             done = λ f. record {
               accepted = a;
-              taken = t ∙ ap ok (sym same);
+              taken = t ∙ ap Ok (sym same);
               count = rw same (k.prefix.count ∙ omega (arith, c, k.side.within, columns-all a));
               short = k.short;
             };
           }
 
-  pub no_length-told : {r : Refusal} → (Buildable s l list area → ⊥) → Lengthed s l list area (Answer.Refused r)
+  pub no_length-told : {r : Refusal} → (Buildable s l list area → ⊥) → Lengthed s l list area (Err r)
   no_length-told n = record { good = λ b. absurd (n b); done = λ f. absurd (subst IsDone (sym f) tt) }
 
-  pub bad_told : {r : Refusal} → (Buildable s l list area → Answer.Refused r ≡ measured (minimum_of l true) (types_in s) (cells_from 0 (types_in s) (values_in list) area)) → Lengthed s l list area (Answer.Refused r)
+  pub bad_told : {r : Refusal} → (Buildable s l list area → Err r ≡ measured (minimum_of l true) (types_in s) (cells_from 0 (types_in s) (values_in list) area)) → Lengthed s l list area (Err r)
   bad_told n = record { good = n; done = λ f. absurd (subst IsDone (sym f) tt) }

@@ -1,4 +1,5 @@
 -- From the row's length to the row in the output.
+use Rattle.std.specs.Prelude.{Err, Ok}
 use Prim.Native.Nat.{ℕ, ◌+◌, ◌≤◌, ◌<◌}
 use mathlib.Core.Path.{◌≡◌, refl, sym, ap, ◌∙◌, subst}
 use mathlib.Core.Bool.{true}
@@ -10,9 +11,8 @@ use lib.ListN.{length, take, drop, take-append-drop}
 use lib.Seq.{sets, length-sets, length-take-le}
 use Rattle.error.specs.declared.Refusal.{Refusal}
 use Rattle.error.specs.declared.Refusal.TheVariants.{RowLimit, NoRoom}
-use Rattle.error.specs.declared.Answer.{Answer}
 use Rattle.error.specs.Answer.{Counted, unchanged_both}
-use Rattle.error.specs.Result.{Result, ok, refused, on_result}
+use Rattle.error.specs.Result.{Result, on_result}
 use Rattle.laws.proofs.Bytes.{sets_over}
 use Rattle.laws.proofs.Stores.{sets-append}
 use Rattle.row_format.specs.Places.{offset_width, row_limit}
@@ -48,17 +48,17 @@ sets_again l xs h = sym (sets_over l 0 xs (rw zero-add h) xs refl)
 
 -- ---- cells that were measured
 
-all-good : (m : ℕ) (ts : List DataType) (q : Result (List Cell)) {n : ℕ} → Answer.Done n ≡ measured m ts q → q ≡ ok (cells_given q)
-all-good m ts (ok cs) e = refl
-all-good m ts (refused u) e = absurd (subst IsDone e tt)
+all-good : (m : ℕ) (ts : List DataType) (q : Result (List Cell)) {n : ℕ} → Ok n ≡ measured m ts q → q ≡ Ok (cells_given q)
+all-good m ts (Ok cs) e = refl
+all-good m ts (Err u) e = absurd (subst IsDone e tt)
 
 -- the first refusal is the call's
-pub build-refused : (ts : List DataType) (q : Result (List Cell)) (out counts : List ℕ) (m : ℕ) {e : Refusal} (k : List Cell → Counted) → Answer.Refused e ≡ measured m ts q → unchanged_both out counts e ≡ on_result q (unchanged_both out counts) k
-build-refused ts (ok cs) out counts m k f = absurd (subst IsDone (sym f) tt)
-build-refused ts (refused u) out counts m k f = ap (λ (a : Answer). (a, (out, counts))) f
+pub build-refused : (ts : List DataType) (q : Result (List Cell)) (out counts : List ℕ) (m : ℕ) {e : Refusal} (k : List Cell → Counted) → Err e ≡ measured m ts q → unchanged_both out counts e ≡ on_result q (unchanged_both out counts) k
+build-refused ts (Ok cs) out counts m k f = absurd (subst IsDone (sym f) tt)
+build-refused ts (Err u) out counts m k f = ap (λ (a : Result ℕ). (a, (out, counts))) f
 
-module _ {s : List ℕ} {l : RowLayout} {list area : List ℕ} (b : Buildable s l list area) {n : ℕ} (d : Answer.Done n ≡ measured (minimum_of l true) (types_in s) (cells_from 0 (types_in s) (values_in list) area)) where
-  cells-good : cells_from 0 (types_in s) (values_in list) area ≡ ok (cells_in s list area)
+module _ {s : List ℕ} {l : RowLayout} {list area : List ℕ} (b : Buildable s l list area) {n : ℕ} (d : Ok n ≡ measured (minimum_of l true) (types_in s) (cells_from 0 (types_in s) (values_in list) area)) where
+  cells-good : cells_from 0 (types_in s) (values_in list) area ≡ Ok (cells_in s list area)
   cells-good = all-good (minimum_of l true) (types_in s) (cells_from 0 (types_in s) (values_in list) area) d
 
   length-is : length (row_given l.is_long s list area) ≡ n
@@ -108,8 +108,8 @@ module _ {s : List ℕ} {l : RowLayout} {list area : List ℕ} (b : Buildable s 
               }
 
           pub row-placed : l.num_columns ≤ length counts → {last numbers : List ℕ} → last ≡ sets first 0 (row_given l.is_long s list area) → numbers ≡ sets counts 0 (counts_given s list area)
-              → (Answer.Done n, (last, numbers)) ≡ call
+              → (Ok n, (last, numbers)) ≡ call
           row-placed m {last} f g =
               let same = f ∙ ap (λ (z : List ℕ). sets z 0 (row_given l.is_long s list area)) e ∙ sets_longer out (null_row l) (row_given l.is_long s list area) least_row (rw (length-null-row, length-is) least) in
-              ap (λ (z : List ℕ). (Answer.Done n, (last, z))) g ∙ ap (λ (z : List ℕ). (Answer.Done n, (z, sets counts 0 (counts_given s list area)))) same
+              ap (λ (z : List ℕ). (Ok n, (last, z))) g ∙ ap (λ (z : List ℕ). (Ok n, (z, sets counts 0 (counts_given s list area)))) same
               ∙ rw (length-is, many, le-ltb (row_limit l.is_long) n h, le-ltb (length out) n k, le-ltb (length counts) l.num_columns m) at whole

@@ -1,30 +1,29 @@
 -- A value list walked record by record, while it is not known yet whether it is good.
+use Rattle.std.specs.Prelude.{Err, Ok}
 use Prim.Native.Nat.{ℕ, zero, suc, ◌+◌, ◌≤◌, ◌<◌}
 use mathlib.Core.Path.{◌≡◌, refl, sym, ap, ◌∙◌, subst}
 use mathlib.Core.List.{List, [], ◌∷◌, ◌++◌, append-nil, append_assoc}
 use native.Mathlib.Omega.{arith}
 use borrow.Author.Tests.{lt-ltb, le-ltb}
 use lib.ListN.{length, length-append}
-use Rattle.error.specs.Result.{ok, refused, before}
+use Rattle.error.specs.Result.{before, Result}
 use Rattle.value.specs.declared.DataValue.{DataValue}
-use Rattle.value_list.specs.declared.ValueRecord.{ValueRecord}
-use Rattle.value_list.specs.declared.ValueRecord.TheVariants as Value
 use Rattle.value_list.specs.Records.{record_at}
 use Rattle.value_list.specs.Lists.{Values, on_record, records, values_of}
 use Rattle.record_slot.proofs.Tests.{IsGood}
 
 -- values, and those that follow or why there are none
 abbrev after : List DataValue → Values → Values
-after done (ok vs) = ok (done ++ vs)
-after done (refused e) = refused e
+after done (Ok vs) = Ok (done ++ vs)
+after done (Err e) = Err e
 
 after_none : (q : Values) → q ≡ after [] q
-after_none (ok vs) = refl
-after_none (refused e) = refl
+after_none (Ok vs) = refl
+after_none (Err e) = refl
 
 after_one : (done : List DataValue) (v : DataValue) (q : Values) → after done (before v q) ≡ after (done ++ (v ∷ [])) q
-after_one done v (ok vs) = ap ok (sym (append_assoc done (v ∷ []) vs))
-after_one done v (refused e) = refl
+after_one done v (Ok vs) = ap Ok (sym (append_assoc done (v ∷ []) vs))
+after_one done v (Err e) = refl
 
 -- i records, up to a place
 pub record Prefix (list : List ℕ) (i from : ℕ) : Type 0 where
@@ -40,12 +39,12 @@ unfolding values_of
 prefix_start list = record { done = []; count = refl; inside = omega arith; fuel = length list; enough = omega arith; all = after_none (records (length list) list 0) }
 
 abbrev values_in : Values → List DataValue
-values_in (ok vs) = vs
-values_in (refused e) = []
+values_in (Ok vs) = vs
+values_in (Err e) = []
 
 module _ {list : List ℕ} {i from : ℕ} (p : Prefix list i from) where
   module _ (h : from < length list) where
-    pub prefix_next : {v : DataValue} {next : ℕ} → record_at list from ≡ Value.Value v next → from < next → next ≤ length list → Prefix list (i + 1) next
+    pub prefix_next : {v : DataValue} {next : ℕ} → record_at list from ≡ Ok (v, next) → from < next → next ≤ length list → Prefix list (i + 1) next
     prefix_next {v} {next} e l m = by_fuel p.fuel refl
       where
         by_fuel : (f : ℕ) → p.fuel ≡ f → Prefix list (i + 1) next
@@ -61,26 +60,26 @@ module _ {list : List ℕ} {i from : ℕ} (p : Prefix list i from) where
             }
 
     -- so a good list has a value more
-    pub prefix_more : {vs : List DataValue} → values_of list ≡ ok vs → i < length vs
+    pub prefix_more : {vs : List DataValue} → values_of list ≡ Ok vs → i < length vs
     prefix_more {vs} e = by_fuel p.fuel refl
       where
-        of_rest : (v : DataValue) (q : Values) → after p.done (before v q) ≡ ok vs → i < length vs
-        of_rest v (ok us) g =
+        of_rest : (v : DataValue) (q : Values) → after p.done (before v q) ≡ Ok vs → i < length vs
+        of_rest v (Ok us) g =
             let n : length vs ≡ length p.done + suc (length us) = sym (ap (λ (w : Values). length (values_in w)) g) ∙ length-append p.done (v ∷ us) in
             omega (arith, n, p.count)
-        of_rest v (refused u) g = absurd (subst IsGood (sym g) tt)
+        of_rest v (Err u) g = absurd (subst IsGood (sym g) tt)
 
-        of_record : (f : ℕ) (q : ValueRecord) → after p.done (on_record q (records f list)) ≡ ok vs → i < length vs
-        of_record f (Value.Value v next) g = of_rest v (records f list next) g
-        of_record f (Value.Refused u) g = absurd (subst IsGood (sym g) tt)
+        of_record : (f : ℕ) (q : Result (DataValue × ℕ)) → after p.done (on_record q (records f list)) ≡ Ok vs → i < length vs
+        of_record f (Ok (v, next)) g = of_rest v (records f list next) g
+        of_record f (Err u) g = absurd (subst IsGood (sym g) tt)
 
         by_fuel : (f : ℕ) → p.fuel ≡ f → i < length vs
         by_fuel zero g = absurd (omega (arith, p.enough, g))
         by_fuel (suc f) g = of_record f (record_at list from) (rw (g, lt-ltb from (length list) h) at (sym p.all ∙ e))
 
-  pub prefix_end : from ≡ length list → values_of list ≡ ok p.done
-  prefix_end e = p.all ∙ ap (after p.done) (none p.fuel) ∙ ap ok (append-nil p.done)
+  pub prefix_end : from ≡ length list → values_of list ≡ Ok p.done
+  prefix_end e = p.all ∙ ap (after p.done) (none p.fuel) ∙ ap Ok (append-nil p.done)
     where
-      none : (f : ℕ) → records f list from ≡ ok []
+      none : (f : ℕ) → records f list from ≡ Ok []
       none zero = refl
       none (suc f) = rw (le-ltb from (length list) (omega arith))

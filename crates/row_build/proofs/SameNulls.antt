@@ -1,4 +1,5 @@
 -- A fresh row is the row that is built of nulls.
+use Rattle.std.specs.Prelude.{Ok}
 use Prim.Native.Nat.{ℕ, zero, suc, ◌+◌, ◌≤◌}
 use mathlib.Core.Path.{◌≡◌, refl, ap, ◌∙◌}
 use mathlib.Core.Bool.{Bool, true, false}
@@ -8,7 +9,7 @@ use native.Mathlib.Omega.{arith}
 use borrow.Author.Tests.{le-ltb}
 use lib.ListN.{length, replicate, length-map, length-replicate}
 use Rattle.error.specs.Answer.{unchanged, placed, unchanged_both, placed_both}
-use Rattle.error.specs.Result.{Result, ok, on_result, before}
+use Rattle.error.specs.Result.{Result, on_result, before}
 use Rattle.row_format.specs.Places.{minimum, offset_width, row_limit}
 use Rattle.row_format.specs.Table.{Cell}
 use Rattle.row_format.specs.Row.{packed_marks, built_row}
@@ -40,10 +41,10 @@ nulls_narrow : (n : ℕ) → AllNarrow false (replicate n Null)
 nulls_narrow zero = tt
 nulls_narrow (suc n) = (tt, nulls_narrow n)
 
-nulls-checked : (k : Bool) (n : ℕ) → checked k n 0 (replicate n 0) ≡ ok (replicate n Null)
+nulls-checked : (k : Bool) (n : ℕ) → checked k n 0 (replicate n 0) ≡ Ok (replicate n Null)
 nulls-checked k n = rw (← nulls-listed n) (list-checked k false n 0 (replicate n Null) (nulls-sized n) (nulls_narrow n) (length-replicate n Null) (omega arith))
 
-null_cells : (i : ℕ) (ts : List DataType) (area : List ℕ) → cells_from i ts (replicate (length ts) Null) area ≡ ok (replicate (length ts) none)
+null_cells : (i : ℕ) (ts : List DataType) (area : List ℕ) → cells_from i ts (replicate (length ts) Null) area ≡ Ok (replicate (length ts) none)
 null_cells i [] area = refl
 null_cells i (t ∷ ts) area = ap (before none) (null_cells (i + 1) ts area)
 

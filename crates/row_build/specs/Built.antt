@@ -1,10 +1,8 @@
--- What a build that answers Done has done, which lists build equal rows, and what a fresh row is built of.
+-- What a build that answers Ok has done, which lists build equal rows, and what a fresh row is built of.
 -- FORMAT 8.2, 8.3.
-use Rattle.std.specs.Prelude.{ℕ, ◌≤◌, Bool, List, [], map, ◌↔◌, ◌≡◌, length, take, replicate}
+use Rattle.std.specs.Prelude.{ℕ, ◌≤◌, Bool, List, [], map, ◌↔◌, ◌≡◌, length, take, replicate, Ok}
 use Rattle.std.proofs.lemmas.List.Edits.{sets}
-use Rattle.error.specs.declared.Answer.TheVariants.{Done}
 use Rattle.error.specs.Answer.{placed, placed_both}
-use Rattle.error.specs.Result.{ok}
 use Rattle.row_format.specs.Places.{offset_width, row_limit}
 use Rattle.row_format.specs.Table.{Cell}
 use Rattle.row_format.specs.Row.{packed_marks, built_row}
@@ -16,18 +14,18 @@ use Rattle.value_list.specs.Lists.{checked}
 use Rattle.row_build.specs.Cells.{cells_from}
 use Rattle.row_build.specs.Build.{cells_points, build_call, fresh_row, fresh_call}
 
--- a build of a row of a sort, from schema, list and text area into `out`, that answered Done n and left `after` in the
+-- a build of a row of a sort, from schema, list and text area into `out`, that answered Ok n and left `after` in the
 -- output
 pub record Built (k : Bool) (schema list area out : List ℕ) (n : ℕ) (after : List ℕ) : Type 0 where
   -- the schema's columns: neither 1 nor 2
   pub columns : List DataType
-  pub schema-good : schema_of k schema ≡ ok columns
+  pub schema-good : schema_of k schema ≡ Ok columns
   -- the list's values, one for each column: not 10
   pub given : List DataValue
-  pub list-good : checked k (length columns) (length area) list ≡ ok given
+  pub list-good : checked k (length columns) (length area) list ≡ Ok given
   -- null or a stored form for each column: neither 11 nor 12
   pub cells : List Cell
-  pub cells-good : cells_from 0 columns given area ≡ ok cells
+  pub cells-good : cells_from 0 columns given area ≡ Ok cells
   -- n is the length of their row, which passes neither the limit nor the output: neither 13 nor 14
   pub size : n ≡ length (built_row (offset_width k) (packed_marks k) (map shape_of columns) cells)
   pub short : n ≤ row_limit k
@@ -43,7 +41,7 @@ pub record CountsPut {k : Bool} {schema list area out : List ℕ} {n : ℕ} {aft
   pub enough : length b.columns ≤ length counts
   pub put : numbers ≡ sets counts 0 (cells_points b.columns b.cells)
 
--- every build that answers Done
+-- every build that answers Ok
 pub record DoneBuild (k : Bool) (schema list area out counts : List ℕ) (n : ℕ) (after numbers : List ℕ)
     : Type 0 where
   pub built : Built k schema list area out n after
@@ -51,7 +49,7 @@ pub record DoneBuild (k : Bool) (schema list area out counts : List ℕ) (n : �
 
 abbrev pub DoneIsBuilt : (k : Bool) (schema list area out counts : List ℕ) → Type 0
 DoneIsBuilt k schema list area out counts =
-    (n : ℕ) (after numbers : List ℕ) → build_call k schema list area out counts ≡ (Done n, (after, numbers))
+    (n : ℕ) (after numbers : List ℕ) → build_call k schema list area out counts ≡ (Ok n, (after, numbers))
     → DoneBuild k schema list area out counts n after numbers
 
 -- Two builds of rows of one sort under one schema: their rows are equal exactly if every column has the same stored
@@ -71,4 +69,4 @@ pub record OfNulls (k : Bool) (schema out : List ℕ) (columns : List DataType) 
 
 abbrev pub FreshIsBuilt : (k : Bool) (schema out : List ℕ) → Type 0
 FreshIsBuilt k schema out =
-    (columns : List DataType) → schema_of k schema ≡ ok columns → OfNulls k schema out columns
+    (columns : List DataType) → schema_of k schema ≡ Ok columns → OfNulls k schema out columns

@@ -1,9 +1,8 @@
 -- For the proofs: what the inner functions hand on.
-use Rattle.std.specs.Prelude.{ℕ, ◌+◌, ◌*◌, ◌/◌, ◌≤◌, ◌<◌, Bool, true, false, cond, List, [], ◌++◌, map, ◌≡◌, length, replicate}
+use Rattle.std.specs.Prelude.{ℕ, ◌+◌, ◌*◌, ◌/◌, ◌≤◌, ◌<◌, Bool, true, false, cond, List, [], ◌++◌, map, ◌≡◌, length, replicate, Err, Ok}
 use Rattle.std.proofs.Math.Option.{none, some}
 use Rattle.std.proofs.lemmas.List.Edits.{sets}
-use Rattle.error.specs.declared.Answer.{Answer}
-use Rattle.error.specs.Result.{Result, ok, refused}
+use Rattle.error.specs.Result.{Result}
 use Rattle.laws.specs.Bytes.{to_le}
 use Rattle.row_format.specs.Places.{offset_width, row_limit, bitmap_start, bitmap_size}
 use Rattle.row_format.specs.Table.{Cell, payloads}
@@ -38,10 +37,10 @@ null_row l =
 
 -- ---- schema and value list, walked together
 
--- the values that a list says, none where it is refused
+-- the values that a list says, none where it is Err
 abbrev pub values_given : Values → List DataValue
-values_given (ok vs) = vs
-values_given (refused e) = []
+values_given (Ok vs) = vs
+values_given (Err e) = []
 
 unfoldable pub values_in : List ℕ → List DataValue
 values_in list = values_given (values_of list)
@@ -49,23 +48,23 @@ values_in list = values_given (values_of list)
 -- a schema that was accepted, and a list with a value for each column
 pub record Buildable (s : List ℕ) (l : RowLayout) (list area : List ℕ) : Type 0 where
   pub accepted : Accepted s l
-  pub taken : values_of list ≡ ok (values_in list)
+  pub taken : values_of list ≡ Ok (values_in list)
   pub count : length (values_in list) ≡ length (types_in s)
   pub short : length area ≤ row_limit l.is_long
 
 -- ---- the first pass: the row's length
 
 -- m bytes, and the payloads of the cells
-abbrev pub measured : ℕ → List DataType → Result (List Cell) → Answer
-measured m ts (ok cs) = Answer.Done (m + length (payloads (varlen_cells (map shape_of ts) cs)))
-measured m ts (refused e) = Answer.Refused e
+abbrev pub measured : ℕ → List DataType → Result (List Cell) → Result ℕ
+measured m ts (Ok cs) = Ok (m + length (payloads (varlen_cells (map shape_of ts) cs)))
+measured m ts (Err e) = Err e
 
 -- what the first pass says: the row's length or the first refusal where the list is good, and it is good where the
 -- answer is Done
-pub record Lengthed (s : List ℕ) (l : RowLayout) (list area : List ℕ) (r : Answer) : Type 0 where
+pub record Lengthed (s : List ℕ) (l : RowLayout) (list area : List ℕ) (r : Result ℕ) : Type 0 where
   pub good : Buildable s l list area → r
       ≡ measured (minimum_of l true) (types_in s) (cells_from 0 (types_in s) (values_in list) area)
-  pub done : {n : ℕ} → r ≡ Answer.Done n → Buildable s l list area
+  pub done : {n : ℕ} → r ≡ Ok n → Buildable s l list area
 
 -- ---- the second pass: one column after another
 
@@ -104,10 +103,10 @@ pub record Storable (k : Bool) (columns i slot entry : ℕ) (t : DataType) (v : 
   pub payload : is_varlen t ≡ true → end + length (stored_form t v (text_of area v)) ≤ n
   pub end_fits : end + payload_added t (some (stored_form t v (text_of area v))) ≤ row_limit k
 
--- the cells, none where they are refused
+-- the cells, none where they are Err
 abbrev pub cells_given : Result (List Cell) → List Cell
-cells_given (ok cs) = cs
-cells_given (refused e) = []
+cells_given (Ok cs) = cs
+cells_given (Err e) = []
 
 abbrev pub cells_in : List ℕ → List ℕ → List ℕ → List Cell
 cells_in s list area = cells_given (cells_from 0 (types_in s) (values_in list) area)
@@ -121,7 +120,7 @@ counts_given s list area = cells_points (types_in s) (cells_in s list area)
 -- the row of nulls stands in the output, which has room for the row of the cells
 pub record Fillable (s : List ℕ) (l : RowLayout) (list area out : List ℕ) : Type 0 where
   pub given : Buildable s l list area
-  pub all : cells_from 0 (types_in s) (values_in list) area ≡ ok (cells_in s list area)
+  pub all : cells_from 0 (types_in s) (values_in list) area ≡ Ok (cells_in s list area)
   pub nulls : out ≡ sets out 0 (fresh_row l.is_long (types_in s))
   pub room : length (row_given l.is_long s list area) ≤ length out
   pub short : length (row_given l.is_long s list area) ≤ row_limit l.is_long

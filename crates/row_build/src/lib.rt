@@ -2,12 +2,11 @@
 // nulls, in the lent output.
 #![tactic(auto)]
 
-ghost use Rattle.std.specs.Prelude.{◌≡◌, ◌+◌, ◌/◌, ◌≤◌, ◌<◌, true, false, [], length};
+ghost use Rattle.std.specs.Prelude.{◌≡◌, ◌+◌, ◌/◌, ◌≤◌, ◌<◌, true, false, [], length, Ok};
 ghost use Rattle.std.proofs.Math.Option.{some};
 ghost use Rattle.std.proofs.lemmas.List.Edits.{sets};
 ghost use Rattle.row_layout.specs.InnerLayout.{Bounded, minimum_of};
 ghost use Rattle.error.specs.Answer.{placed};
-ghost use Rattle.error.specs.declared.Answer.TheVariants.{Done};
 ghost use Rattle.row_format.specs.Places.{bitmap_start, bitmap_size};
 ghost use Rattle.row_format.specs.Edit.{bit_edit};
 ghost use Rattle.datatype.specs.Schema.{column_record_at};
@@ -22,11 +21,9 @@ ghost use Rattle.row_build.specs.Build.{build_values, build_row, build_call, fre
 ghost use Rattle.record_slot.specs.InnerSteps.{Readable, value_in, form_in, SlotReady};
 ghost use Rattle.row_build.specs.InnerSteps.{null_bits, null_row, values_in, Buildable, measured, Lengthed, fixed_stored, varlen_stored, column_stored, PayloadReady, BitReady, Storable, row_given, counts_given, Fillable};
 
-use datatype::SchemaCheck;
-use error::{Answer, Refusal};
+use error::Refusal;
 use row_layout::RowLayout;
 use value::{TextRange, value_kinds};
-use value_list::ListCheck;
 
 // n bits that are set, and clear ones up to the end of the last byte.
 fn write_null_bits(out: &mut [u8], at: usize, n: usize)
@@ -60,36 +57,34 @@ fn write_nulls(layout: RowLayout, out: &mut [u8])
 }
 
 // Behind the schema's check, for a caller that keeps its layout.
-fn fresh_row(layout: RowLayout, out: &mut [u8]) -> Answer
+fn fresh_row(layout: RowLayout, out: &mut [u8]) -> error::Result<usize>
     requires { Bounded layout }
     ensures { (result, out.new) ≡ placed out.old (null_row layout) }
 {
     let least = layout.min_row_size(true);
     if out.len() < least {
-        return Answer::Refused(Refusal::NoRoom);
+        return Err(Refusal::NoRoom);
     }
     write_nulls(layout, out);
-    Answer::Done(least)
+    Ok(least)
 }
 
 // A row of which every column is null.
-pub fn fresh(schema: &[u8], is_long: bool, out: &mut [u8]) -> Answer
+pub fn fresh(schema: &[u8], is_long: bool, out: &mut [u8]) -> error::Result<usize>
     ensures { (result, out.new) ≡ fresh_call is_long schema.now out.old }
 {
-    match datatype::check_schema(schema, is_long) {
-        SchemaCheck::Refused(e) => Answer::Refused(e),
-        SchemaCheck::Good(layout) => fresh_row(layout, out),
-    }
+    let layout = datatype::check_schema(schema, is_long)?;
+    fresh_row(layout, out)
 }
 
 // The row's length. A refusal is the first of 11 and 12, but where the list is refused it says nothing: `build_row`
 // asks for 10 then.
-fn row_length(schema: &[u8], layout: RowLayout, values: &[u8], text: &[u8]) -> Answer
+fn row_length(schema: &[u8], layout: RowLayout, values: &[u8], text: &[u8]) -> error::Result<usize>
     requires { Accepted schema.now layout }
     ensures { Lengthed schema.now layout values.now text.now result }
 {
     if row_layout::row_limit(layout.is_long) < text.len() {
-        return Answer::Refused(Refusal::BadValueList(0));
+        return Err(Refusal::BadValueList(0));
     }
     let mut size = layout.min_row_size(true);
     let mut column = 0;
@@ -98,24 +93,18 @@ fn row_length(schema: &[u8], layout: RowLayout, values: &[u8], text: &[u8]) -> A
     while column < layout.num_columns {
         let length = record_slot::record_length(values, from);
         if length == 0 {
-            return Answer::Refused(Refusal::BadValueList(from));
+            return Err(Refusal::BadValueList(from));
         }
-        match record_slot::payload_at(schema, at, column, values, from, text) {
-            Answer::Refused(e) => {
-                return Answer::Refused(e);
-            }
-            Answer::Done(n) => {
-                size += n;
-                column += 1;
-                at = record_slot::after_column(schema, at);
-                from += length;
-            }
-        }
+        let n = record_slot::payload_at(schema, at, column, values, from, text)?;
+        size += n;
+        column += 1;
+        at = record_slot::after_column(schema, at);
+        from += length;
     }
     if from != values.len() {
-        return Answer::Refused(Refusal::BadValueList(from));
+        return Err(Refusal::BadValueList(from));
     }
-    Answer::Done(size)
+    Ok(size)
 }
 
 // The bit of column i of n cleared: it is not null.
@@ -124,7 +113,7 @@ fn clear_bit(out: &mut [u8], n: usize, i: usize)
     ensures { out.new ≡ bit_edit i (some []) out.old }
 {
     let bitmap = RowLayout::bitmap_offset();
-    null_bitmap::clear_null(&mut out[bitmap..], n, i);
+    null_bitmap::clear_null(&mut out[bitmap..], n, i).unwrap();
 }
 
 // A stored form in its slot, and the column's bit.
@@ -271,9 +260,9 @@ fn place_row(
     out: &mut [u8],
     counts: &mut [u32],
     n: usize,
-) -> Answer
+) -> error::Result<usize>
     requires { Buildable schema.now layout values.now text.now
-        × (Done n
+        × (Ok n
         ≡ measured (minimum_of layout true) (types_in schema.now)
         (cells_from 0 (types_in schema.now) (values_in values.now) text.now)) }
     ensures { (result, (out.new, counts.new))
@@ -281,17 +270,17 @@ fn place_row(
         text.now out.old counts.old }
 {
     if row_layout::row_limit(layout.is_long) < n {
-        return Answer::Refused(Refusal::RowLimit);
+        return Err(Refusal::RowLimit);
     }
     if out.len() < n {
-        return Answer::Refused(Refusal::NoRoom);
+        return Err(Refusal::NoRoom);
     }
     if counts.len() < layout.num_columns {
-        return Answer::Refused(Refusal::NoRoom);
+        return Err(Refusal::NoRoom);
     }
     write_nulls(layout, out);
     write_columns(schema, layout, values, text, out, counts);
-    Answer::Done(n)
+    Ok(n)
 }
 
 // One pass tests the list and its values. A refusal is asked again of the list, since 10 comes before 11 and 12 of
@@ -303,19 +292,17 @@ fn build_row(
     text: &[u8],
     out: &mut [u8],
     counts: &mut [u32],
-) -> Answer
+) -> error::Result<usize>
     requires { Accepted schema.now layout }
     ensures { (result, (out.new, counts.new))
         ≡ build_row layout.is_long (types_in schema.now) values.now text.now
         out.old counts.old }
 {
     match row_length(schema, layout, values, text) {
-        Answer::Done(n) => place_row(schema, layout, values, text, out, counts, n),
-        Answer::Refused(e) => {
-            match value_list::check_values(values, layout.is_long, layout.num_columns, text.len()) {
-                ListCheck::Refused(first) => Answer::Refused(first),
-                ListCheck::Good => Answer::Refused(e),
-            }
+        Ok(n) => place_row(schema, layout, values, text, out, counts, n),
+        Err(e) => {
+            value_list::check_values(values, layout.is_long, layout.num_columns, text.len())?;
+            Err(e)
         }
     }
 }
@@ -329,13 +316,11 @@ pub fn serialize_nullable_typed_row(
     text: &[u8],
     out: &mut [u8],
     counts: &mut [u32],
-) -> Answer
+) -> error::Result<usize>
     ensures { (result, (out.new, counts.new))
         ≡ build_call is_long schema.now values.now text.now
         out.old counts.old }
 {
-    match datatype::check_schema(schema, is_long) {
-        SchemaCheck::Refused(e) => Answer::Refused(e),
-        SchemaCheck::Good(layout) => build_row(schema, layout, values, text, out, counts),
-    }
+    let layout = datatype::check_schema(schema, is_long)?;
+    build_row(schema, layout, values, text, out, counts)
 }

@@ -1,4 +1,7 @@
 -- A column's reading depends on the header, its bit, its slot or its offsets and range, and on nothing else.
+use Rattle.error.specs.Result.{Result}
+use Rattle.std.specs.Prelude.{Err, None, Ok, Option, Some}
+use Rattle.value.specs.declared.DataValue.{DataValue}
 use Prim.Native.Nat.{ℕ, zero, suc, ◌+◌, ◌*◌, ◌-◌, ◌/◌, ◌%◌, ◌≤◌, ◌<◌}
 use mathlib.Core.Path.{◌≡◌, refl, sym, ap, ◌∙◌}
 use mathlib.Core.Bool.{Bool, false, cond, false≢true}
@@ -25,12 +28,8 @@ use Rattle.datatype.specs.Types.{size_of, is_varlen, shape_of}
 use Rattle.datatype.specs.Check.{type_at}
 use Rattle.value.specs.declared.DataValue.TheVariants.{Null}
 use Rattle.value.specs.Ranges.{part, text_of}
-use Rattle.stored_form.specs.declared.SlotRead.{SlotRead}
-use Rattle.stored_form.specs.declared.SlotRead.TheVariants as Slot
 use Rattle.stored_form.specs.Read.{read_slot}
 use Rattle.stored_form.proofs.Within.{OfRange, slot-range}
-use Rattle.row_column.specs.declared.ColumnRead.{ColumnRead}
-use Rattle.row_column.specs.declared.ColumnRead.TheVariants as Read
 use Rattle.row_format.specs.Header.{column_count, varlen_field, is_packed}
 use Rattle.row_column.specs.Frame.{frame_of}
 use Rattle.row_column.specs.Column.{slot_value, varlen_value, column_value}
@@ -124,13 +123,13 @@ column_depends w p ts i r r' s =
 
 module _ (r r' : List ℕ) where
   -- what was read has the same text in both rows
-  abbrev pub SameText : ColumnRead → Type 0
-  SameText (Read.Value v) = text_of r v ≡ text_of r' v
-  SameText (Read.Refused e) = Unit {0}
+  abbrev pub SameText : Result DataValue → Type 0
+  SameText (Ok v) = text_of r v ≡ text_of r' v
+  SameText (Err e) = Unit {0}
 
-  of_slot : (i : ℕ) (x : SlotRead) → OfRange (λ q. part r q ≡ part r' q) x → SameText (slot_value i x)
-  of_slot i (Slot.Value v) h = h
-  of_slot i Slot.NoValue h = tt
+  of_slot : (i : ℕ) (x : Option DataValue) → OfRange (λ q. part r q ≡ part r' q) x → SameText (slot_value i x)
+  of_slot i (Some v) h = h
+  of_slot i None h = tt
 
   -- the first m of n bytes that are the same
   same_front : (a m n : ℕ) → m ≤ n → take n (drop a r) ≡ take n (drop a r') → take m (drop a r) ≡ take m (drop a r')
@@ -157,7 +156,7 @@ module _ (r r' : List ℕ) where
       let at : ℕ = slot_place w p (map shape_of ts) i in
       let q : VarlenRange = varlen_range w (table_start (length ts)) (varlens (map shape_of ts)) (rank_of (map shape_of ts) i) r in
       let size : at + size_of t - at ≡ size_of t = omega arith in
-      by_cond SameText (eqb (bit_of_column i r) 1) (Read.Value Null) (cond (is_varlen t) (varlen_value t i r q) (slot_value i (read_slot t at (take (at + size_of t - at) (drop at r)))))
+      by_cond SameText (eqb (bit_of_column i r) 1) (Ok Null) (cond (is_varlen t) (varlen_value t i r q) (slot_value i (read_slot t at (take (at + size_of t - at) (drop at r)))))
       (λ e. refl)
       (λ e.
       let clear = eqb_no (bit_of_column i r) 1 e in

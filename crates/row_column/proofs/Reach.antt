@@ -1,4 +1,5 @@
 -- A row with a good header has all that the reading of a column looks at.
+use Rattle.std.specs.Prelude.{Ok}
 use Prim.Native.Nat.{ℕ, ◌+◌, ◌≤◌, ◌<◌}
 use mathlib.Core.Path.{◌≡◌, refl, sym, ap, ◌∙◌, subst}
 use mathlib.Core.Bool.{Bool, true, false}
@@ -12,7 +13,6 @@ use Rattle.row_layout.specs.declared.RowLayout.{RowLayout}
 use Rattle.row_layout.specs.Layout.{size_in}
 use Rattle.row_layout.specs.InnerLayout.{Bounded, with_column}
 use Rattle.datatype.specs.declared.DataType.{DataType}
-use Rattle.datatype.specs.declared.Record.TheVariants as Record
 use Rattle.datatype.specs.Types.{shape_of, precision_of}
 use Rattle.datatype.specs.Schema.{column_record_at}
 use Rattle.datatype.specs.InnerSteps.{type_in}
@@ -49,7 +49,7 @@ module _ {s : List ℕ} {l : RowLayout} {p : Bool} {r : List ℕ} (f : Framed s 
       }
 
   -- the column whose record the walk has come to
-  pub reach-next : {b : RowLayout} {at : ℕ} (w : Ahead s b at) (h : at < length s) {t : DataType} {next : ℕ} (e : column_record_at s at ≡ Record.Column t next) → Reachable l p b t r
+  pub reach-next : {b : RowLayout} {at : ℕ} (w : Ahead s b at) (h : at < length s) {t : DataType} {next : ℕ} (e : column_record_at s at ≡ Ok (t, next)) → Reachable l p b t r
   reach-next {b} {at} w h {t} e = reach b t b.num_columns (ahead-inside w h e) w.so_far (ahead_type w h e) w.bounded (few-digits s at e)
 
   pub reach-typed : {b : RowLayout} {at : ℕ} (w : Ahead s b at) (h : at < length s) → Reachable l p b (type_at (types_in s) b.num_columns) r

@@ -1,6 +1,8 @@
 -- For the proofs: the walk, as the code goes it. It carries the layout of all columns and that of the columns before
 -- the one it has come to.
-use Rattle.std.specs.Prelude.{ℕ, ◌+◌, ◌≤◌, ◌<◌, Bool, true, false, List, ◌≡◌, length}
+use Rattle.error.specs.Result.{Result}
+use Rattle.value.specs.declared.DataValue.{DataValue}
+use Rattle.std.specs.Prelude.{ℕ, ◌+◌, ◌≤◌, ◌<◌, Bool, true, false, List, ◌≡◌, length, Err, Ok}
 use Rattle.row_format.specs.Places.{table_start, fixed_start, start_at, offset_width, row_limit}
 use Rattle.row_layout.specs.declared.RowLayout.{RowLayout}
 use Rattle.row_layout.specs.Layout.{size_in}
@@ -12,15 +14,12 @@ use Rattle.datatype.specs.Check.{type_at, types_in}
 use Rattle.datatype.specs.InnerCheck.{Accepted, layout_before}
 use Rattle.value.specs.Ranges.{range_of as textRange}
 use Rattle.row_column.specs.declared.Column.{Column}
-use Rattle.row_column.specs.declared.ColumnRead.{ColumnRead}
-use Rattle.row_column.specs.declared.ColumnRead.TheVariants.{Value, Refused}
-use Rattle.row_column.specs.declared.Frame.{Frame}
 use Rattle.row_column.specs.Column.{column_with}
 use Rattle.row_column.specs.Frame.{frame_with}
 
 -- ---- a row r with layout l, packed or padded: its header, and the column of type t after those of layout b
 
-abbrev pub walked_frame : RowLayout → List ℕ → Frame
+abbrev pub walked_frame : RowLayout → List ℕ → Result Bool
 walked_frame l r = frame_with l.is_long l.num_columns l.num_varlen_cols (minimum_of l) r
 
 -- where its slot starts
@@ -29,7 +28,7 @@ walked_place l p b t =
     fixed_start (offset_width l.is_long) l.num_columns l.num_varlen_cols
     + start_at p (alignment_of t) (size_in b p)
 
-abbrev pub walked_column : RowLayout → Bool → RowLayout → DataType → List ℕ → ColumnRead
+abbrev pub walked_column : RowLayout → Bool → RowLayout → DataType → List ℕ → Result DataValue
 walked_column l p b t r =
     column_with t b.num_columns r
     (varlen_range (offset_width l.is_long) (table_start l.num_columns) l.num_varlen_cols
@@ -60,6 +59,6 @@ pub record Reachable (l : RowLayout) (p : Bool) (b : RowLayout) (t : DataType) (
   pub rank : is_varlen t ≡ true → b.num_varlen_cols < l.num_varlen_cols
   pub slot : is_varlen t ≡ false → walked_place l p b t + size_of t ≤ length r
 
-abbrev pub InRow : ℕ → ColumnRead → Type 0
-InRow n (Value v) = (textRange v).start + (textRange v).length ≤ n
-InRow n (Refused e) = Unit {0}
+abbrev pub InRow : ℕ → Result DataValue → Type 0
+InRow n (Ok v) = (textRange v).start + (textRange v).length ≤ n
+InRow n (Err e) = Unit {0}

@@ -1,8 +1,7 @@
 // row.rs, `decode_into`, for one column: the tests of a row's header, where a column stands, and what it reads as.
 #![tactic(auto)]
 
-ghost use Rattle.std.specs.Prelude.{◌≡◌, true, false, ◌+◌, ◌*◌, ◌-◌, ◌≤◌, ◌<◌, length};
-ghost use Rattle.error.specs.Result.{ok};
+ghost use Rattle.std.specs.Prelude.{◌≡◌, true, false, ◌+◌, ◌*◌, ◌-◌, ◌≤◌, ◌<◌, length, Ok};
 ghost use Rattle.row_format.specs.Places.{offset_width};
 ghost use Rattle.row_layout.specs.Range.{varlen_range};
 ghost use Rattle.row_layout.specs.InnerLayout.{Bounded};
@@ -13,42 +12,34 @@ ghost use Rattle.datatype.specs.Schema.{column_records, column_record_at};
 ghost use Rattle.datatype.specs.InnerSteps.{type_in};
 ghost use Rattle.datatype.specs.Check.{types_in};
 
-use datatype::{DataType, Record};
+use datatype::DataType;
 use error::Refusal;
 use row_layout::{RowLayout, VarlenRange};
-use stored_form::SlotRead;
 use value::DataValue;
 
-// A row whose header suits the schema: whether it is packed.
-#[derive(Clone, Copy)]
-pub enum Frame {
-    Good(bool),
-    Refused(Refusal),
-}
-
-pub fn check_frame(layout: RowLayout, row: &[u8]) -> Frame
+pub fn check_frame(layout: RowLayout, row: &[u8]) -> error::Result<bool>
     requires { Bounded layout }
     ensures { result ≡ walked_frame layout row.now }
 {
     if row_layout::row_limit(layout.is_long) < row.len() {
-        return Frame::Refused(Refusal::RowTooLong);
+        return Err(Refusal::RowTooLong);
     }
     if row.len() < 4 {
-        return Frame::Refused(Refusal::RowTooShort);
+        return Err(Refusal::RowTooShort);
     }
     let columns = endian::read_u16(row, 0) as usize;
     let field = endian::read_u16(row, 2);
     if columns != layout.num_columns {
-        return Frame::Refused(Refusal::WrongColumnCount);
+        return Err(Refusal::WrongColumnCount);
     }
     if row_layout::varlen_count(field, layout.is_long) != layout.num_varlen_cols {
-        return Frame::Refused(Refusal::WrongVarlenCount);
+        return Err(Refusal::WrongVarlenCount);
     }
     let packed = RowLayout::PACKED_LAYOUT_FLAG <= field;
     if row.len() < layout.min_row_size(packed) {
-        return Frame::Refused(Refusal::RowTooShort);
+        return Err(Refusal::RowTooShort);
     }
-    Frame::Good(packed)
+    Ok(packed)
 }
 
 // A column of a schema: its type, and the layout of those before it.
@@ -64,20 +55,20 @@ fn column_here(schema: &[u8], at: usize, before: RowLayout) -> Column
     ensures { (result.before ≡ before) × (result.ty ≡ type_in (column_record_at schema.now at)) }
 {
     match datatype::record_at(schema, at) {
-        Record::Refused(_) => Column {
+        Err(_) => Column {
             before,
             ty: DataType::Varchar {
                 by_points: false,
                 n: 0,
             },
         },
-        Record::Column(ty, _) => Column { before, ty },
+        Ok((ty, _)) => Column { before, ty },
     }
 }
 
 // The schema was checked and has this column.
 pub fn column_at(schema: &[u8], column: usize) -> Column
-    requires { (column_records 256 schema.now 0 ≡ ok (types_in schema.now))
+    requires { (column_records 256 schema.now 0 ≡ Ok (types_in schema.now))
         × (column < length (types_in schema.now)) }
     ensures { Found schema.now column result }
 {
@@ -91,22 +82,21 @@ pub fn column_at(schema: &[u8], column: usize) -> Column
     column_here(schema, at, before)
 }
 
-// What a column reads as; null is a value here.
-#[derive(Clone, Copy)]
-pub enum ColumnRead {
-    Value(DataValue),
-    Refused(Refusal),
-}
-
 // The bytes from `start` up to `end`, of column i.
-fn read_bytes(ty: DataType, i: usize, row: &[u8], start: usize, end: usize) -> ColumnRead
+fn read_bytes(
+    ty: DataType,
+    i: usize,
+    row: &[u8],
+    start: usize,
+    end: usize,
+) -> error::Result<DataValue>
     requires { (precision_of ty ≤ 38)
         × ((start ≤ end) × ((end ≤ length row.now) × (is_varlen ty ≡ false → end - start ≡ size_of ty))) }
     ensures { (result ≡ read_bytes ty i row.now start end) × InRow (length row.now) result }
 {
     match value_decode::from_bytes(ty, &row[start..end], start) {
-        SlotRead::Value(v) => ColumnRead::Value(v),
-        SlotRead::NoValue => ColumnRead::Refused(Refusal::NoValue(i)),
+        Some(v) => Ok(v),
+        None => Err(Refusal::NoValue(i)),
     }
 }
 
@@ -118,7 +108,7 @@ fn read_varlen(
     table: usize,
     varlens: usize,
     rank: usize,
-) -> ColumnRead
+) -> error::Result<DataValue>
     requires { (precision_of ty ≤ 38)
         × ((is_varlen ty ≡ true) × ((rank < varlens) × (table + varlens * offset_width is_long ≤ length row.now))) }
     ensures { (result
@@ -127,9 +117,9 @@ fn read_varlen(
         × InRow (length row.now) result }
 {
     match row_layout::varlen_range(row, is_long, table, varlens, rank) {
-        VarlenRange::Null => ColumnRead::Value(DataValue::Null),
+        VarlenRange::Null => Ok(DataValue::Null),
         VarlenRange::Bytes(start, end) => read_bytes(ty, i, row, start, end),
-        VarlenRange::Outside => ColumnRead::Refused(Refusal::BadRange(i)),
+        VarlenRange::Outside => Err(Refusal::BadRange(i)),
     }
 }
 
@@ -140,14 +130,14 @@ pub fn read_column(
     before: RowLayout,
     ty: DataType,
     row: &[u8],
-) -> ColumnRead
+) -> error::Result<DataValue>
     requires { Reachable layout packed before ty row.now }
     ensures { (result ≡ walked_column layout packed before ty row.now)
         × InRow (length row.now) result }
 {
     let i = before.num_columns;
     if null_bitmap::column_bit_is_set(row, i) {
-        return ColumnRead::Value(DataValue::Null);
+        return Ok(DataValue::Null);
     }
     if ty.is_variable_length() {
         let table = layout.varlen_table_offset();

@@ -1,5 +1,6 @@
 -- A read depends on the header and on what its wanted columns depend on, and on no other byte of the row; its counts as
 -- its values.
+use Rattle.std.specs.Prelude.{Err, Ok}
 use Prim.Native.Nat.{ℕ, zero, suc, ◌+◌, ◌≤◌}
 use mathlib.Core.Path.{◌≡◌, refl, sym, ap, ap₂, ◌∙◌}
 use mathlib.Core.Bool.{Bool, true, false, cond}
@@ -7,7 +8,7 @@ use mathlib.Core.List.{List, [], ◌∷◌, map}
 use native.Mathlib.Omega.{arith}
 use lib.ListN.{length, take}
 use Rattle.error.specs.Answer.{unchanged_both, placed_both}
-use Rattle.error.specs.Result.{ok, refused, on_result}
+use Rattle.error.specs.Result.{on_result, Result}
 use Rattle.row_format.specs.Places.{minimum, offset_width, row_limit}
 use Rattle.datatype.specs.declared.DataType.{DataType}
 use Rattle.datatype.specs.Types.{shape_of}
@@ -18,9 +19,6 @@ use Rattle.value.specs.Kinds.{is_text_value}
 use Rattle.value.specs.Ranges.{text_of}
 use Rattle.value_list.specs.Lists.{Values, list_of}
 use Rattle.stored_form.specs.Points.{points_in}
-use Rattle.row_column.specs.declared.Frame.{Frame}
-use Rattle.row_column.specs.declared.ColumnRead.{ColumnRead}
-use Rattle.row_column.specs.declared.ColumnRead.TheVariants as Read
 use Rattle.row_column.specs.Column.{column_value}
 use Rattle.row_format.specs.Header.{is_packed, is_long}
 use Rattle.row_format.proofs.Header.{sort_of_lem}
@@ -30,7 +28,7 @@ use Rattle.row_column.proofs.Depends.{column_depends, SameText, text_depends, fr
 use Rattle.row_decode.specs.Read.{is_wanted, wanted_value, on_column, read_from, hand_out, read_row, read_call}
 use Rattle.row_decode.specs.Depends.{SameWanted}
 
-same-wanted : (wanted : Bool) {c c' : ColumnRead} → (wanted ≡ true → c ≡ c') → wanted_value wanted c ≡ wanted_value wanted c'
+same-wanted : (wanted : Bool) {c c' : Result DataValue} → (wanted ≡ true → c ≡ c') → wanted_value wanted c ≡ wanted_value wanted c'
 same-wanted true h = h refl
 same-wanted false h = refl
 
@@ -46,18 +44,18 @@ columns_depend w p ts wanted r r' s (suc n) i e =
 
 module _ (r r' : List ℕ) where
   abbrev SameCounts : Values → Type 0
-  SameCounts (ok vs) = map (points_in r) vs ≡ map (points_in r') vs
-  SameCounts (refused e) = Unit {0}
+  SameCounts (Ok vs) = map (points_in r) vs ≡ map (points_in r') vs
+  SameCounts (Err e) = Unit {0}
 
   text-counted : (v : DataValue) → text_of r v ≡ text_of r' v → points_in r v ≡ points_in r' v
   text-counted v e = ap (λ (x : List ℕ). cond (is_text_value v) (points x) 0) e
 
-  on_counted : (c : ColumnRead) (rest : Values) → SameText r r' c → SameCounts rest → SameCounts (on_column c rest)
-  on_counted (Read.Value v) (ok vs) h k = ap₂ (λ (n : ℕ) (ns : List ℕ). n ∷ ns) (text-counted v h) k
-  on_counted (Read.Value v) (refused e) h k = tt
-  on_counted (Read.Refused e) rest h k = tt
+  on_counted : (c : Result DataValue) (rest : Values) → SameText r r' c → SameCounts rest → SameCounts (on_column c rest)
+  on_counted (Ok v) (Ok vs) h k = ap₂ (λ (n : ℕ) (ns : List ℕ). n ∷ ns) (text-counted v h) k
+  on_counted (Ok v) (Err e) h k = tt
+  on_counted (Err e) rest h k = tt
 
-  wanted-text : (wanted : Bool) (c : ColumnRead) → (wanted ≡ true → SameText r r' c) → SameText r r' (wanted_value wanted c)
+  wanted-text : (wanted : Bool) (c : Result DataValue) → (wanted ≡ true → SameText r r' c) → SameText r r' (wanted_value wanted c)
   wanted-text true c h = h refl
   wanted-text false c h = refl
 
@@ -70,14 +68,14 @@ module _ (r r' : List ℕ) where
       (counts_depend w p ts wanted s n (suc i) (omega arith))
 
   handed-same : (k : Bool) (out counts : List ℕ) (vs : Values) → SameCounts vs → hand_out k out counts r vs ≡ hand_out k out counts r' vs
-  handed-same k out counts (ok vs) e = ap (placed_both out counts (list_of k vs)) e
-  handed-same k out counts (refused e) h = refl
+  handed-same k out counts (Ok vs) e = ap (placed_both out counts (list_of k vs)) e
+  handed-same k out counts (Err e) h = refl
 
 -- the answer, the values and the counts, of rows that are taken as of sort k
 pub row_depends : (k : Bool) (ts : List DataType) (r r' ws out counts : List ℕ) → take 4 r ≡ take 4 r'
     → length r ≤ row_limit k → length r' ≤ row_limit k
     → minimum (offset_width k) (is_packed r) (map shape_of ts) ≤ length r → minimum (offset_width k) (is_packed r) (map shape_of ts) ≤ length r'
-    → ((p : Bool) → frame_of k ts r ≡ Frame.Good p → SameWanted (offset_width k) p ts (is_wanted ws) r r')
+    → ((p : Bool) → frame_of k ts r ≡ Ok p → SameWanted (offset_width k) p ts (is_wanted ws) r r')
     → read_row k ts r ws out counts ≡ read_row k ts r' ws out counts
 row_depends k ts r r' ws out counts e a a' m m' s =
     same_good (frame_of k ts r) (unchanged_both out counts)
@@ -85,7 +83,7 @@ row_depends k ts r r' ws out counts e a a' m m' s =
     handed-same r r' k out counts (read_from (offset_width k) p ts (is_wanted ws) r 0 (length ts))
     (counts_depend r r' (offset_width k) p ts (is_wanted ws) (s p g) (length ts) 0 (omega arith))
     ∙ ap (hand_out k out counts r') (columns_depend (offset_width k) p ts (is_wanted ws) r r' (s p g) (length ts) 0 (omega arith)))
-    ∙ ap (λ (f : Frame). on_frame f (unchanged_both out counts) (λ p. hand_out k out counts r' (read_from (offset_width k) p ts (is_wanted ws) r' 0 (length ts))))
+    ∙ ap (λ (f : Result Bool). on_frame f (unchanged_both out counts) (λ p. hand_out k out counts r' (read_from (offset_width k) p ts (is_wanted ws) r' 0 (length ts))))
     (frame_depends k ts r r' e a a' m m')
 
 -- ---- the mark stands in the header
@@ -101,17 +99,17 @@ same_mark : (r r' : List ℕ) → take 4 r ≡ take 4 r' → 4 ≤ length r → 
 same_mark r r' e h h' = mark_front r h ∙ ap is_long e ∙ sym (mark_front r' h')
 
 -- the whole call, with a schema that is good for rows of the first row's sort
-pub read_depends : (schema : List ℕ) {ts : List DataType} (r r' ws out counts : List ℕ) → schema_of (is_long r) schema ≡ ok ts
+pub read_depends : (schema : List ℕ) {ts : List DataType} (r r' ws out counts : List ℕ) → schema_of (is_long r) schema ≡ Ok ts
     → take 4 r ≡ take 4 r'
     → length r ≤ row_limit (is_long r) → length r' ≤ row_limit (is_long r)
     → minimum (offset_width (is_long r)) (is_packed r) (map shape_of ts) ≤ length r → minimum (offset_width (is_long r)) (is_packed r) (map shape_of ts) ≤ length r'
-    → ((p : Bool) → frame_of (is_long r) ts r ≡ Frame.Good p → SameWanted (offset_width (is_long r)) p ts (is_wanted ws) r r')
+    → ((p : Bool) → frame_of (is_long r) ts r ≡ Ok p → SameWanted (offset_width (is_long r)) p ts (is_wanted ws) r r')
     → read_call schema r ws out counts ≡ read_call schema r' ws out counts
 read_depends schema {ts} r r' ws out counts good e a a' m m' s =
     let k : Bool = is_long r in
     on k good r ∙ row_depends k ts r r' ws out counts e a a' m m' s ∙ sym (on k good r')
     ∙ ap (λ (q : Bool). on_result (schema_of q schema) (unchanged_both out counts) (λ us. read_row q us r' ws out counts)) (same_mark r r' e (omega arith) (omega arith))
   where
-    on : (k : Bool) → schema_of k schema ≡ ok ts → (q : List ℕ)
+    on : (k : Bool) → schema_of k schema ≡ Ok ts → (q : List ℕ)
         → on_result (schema_of k schema) (unchanged_both out counts) (λ us. read_row k us q ws out counts) ≡ read_row k ts q ws out counts
     on k h q = ap (λ (p : Parsed). on_result p (unchanged_both out counts) (λ us. read_row k us q ws out counts)) h

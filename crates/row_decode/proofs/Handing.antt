@@ -1,4 +1,6 @@
 -- From the buffer to the output, and from the marks to the wanted columns.
+use Rattle.error.specs.Result.{Result}
+use Rattle.std.specs.Prelude.{Err, Ok}
 use Prim.Native.Nat.{ℕ, ◌+◌, ◌≤◌, ◌<◌}
 use mathlib.Core.Path.{◌≡◌, refl, ap, ◌∙◌}
 use mathlib.Core.Bool.{Bool}
@@ -6,8 +8,6 @@ use mathlib.Core.List.{List, [], ◌∷◌, map}
 use native.Mathlib.Omega.{arith}
 use lib.ListN.{length, take, replicate, length-map}
 use lib.Seq.{sets, length-sets}
-use Rattle.error.specs.declared.Answer.{Answer}
-use Rattle.error.specs.Result.{ok, refused}
 use Rattle.laws.proofs.Bytes.{part-stored}
 use Rattle.row_layout.specs.declared.RowLayout.{RowLayout}
 use Rattle.row_layout.specs.InnerLayout.{no_columns, with_column}
@@ -24,20 +24,20 @@ use Rattle.row_decode.specs.InnerWalk.{walked_read}
 use Rattle.row_decode.specs.InnerMarks.{marked, is_marked, Filled, Held, copied_out}
 use Rattle.row_decode.proofs.Marking.{marks_tell}
 
-module _ (k : Bool) (r : List ℕ) (columns : ℕ) (buf points buf' points' : List ℕ) (res : Answer) where
+module _ (k : Bool) (r : List ℕ) (columns : ℕ) (buf points buf' points' : List ℕ) (res : Result ℕ) where
   pub filled_held : (vs : Values) → Filled k r columns vs buf points res buf' points' → Held res columns buf' points'
-  filled_held (ok vs) f = rw (f.done, f.written, f.counted, length-sets buf, length-sets points) (f.room, f.numbers)
-  filled_held (refused e) f = rw f tt
+  filled_held (Ok vs) f = rw (f.done, f.written, f.counted, length-sets buf, length-sets points) (f.room, f.numbers)
+  filled_held (Err e) f = rw f tt
 
   pub filled_out : (vs : Values) → Filled k r columns vs buf points res buf' points' → (out counts : List ℕ)
       → copied_out res columns buf' points' out counts ≡ hand_out k out counts r vs
-  filled_out (ok vs) f out counts =
+  filled_out (Ok vs) f out counts =
       let n : length (map (points_in r) vs) ≡ columns = length-map vs (points_in r) ∙ f.many in
       let e : take (length (list_of k vs)) (sets buf 0 (list_of k vs)) ≡ list_of k vs = part-stored buf 0 (list_of k vs) (omega (arith, f.room)) in
       let g : take (length (map (points_in r) vs)) (sets points 0 (map (points_in r) vs)) ≡ map (points_in r) vs =
       part-stored points 0 (map (points_in r) vs) (omega (arith, n, f.numbers)) in
       rw (f.done, f.written, f.counted, e, ← n, g)
-  filled_out (refused e) f out counts = rw f
+  filled_out (Err e) f out counts = rw f
 
 -- only the flags of the columns matter
 same_flags : (l : RowLayout) (p : Bool) (r : List ℕ) (f g : ℕ → Bool) (m : ℕ) → ((i : ℕ) → i < m → f i ≡ g i)

@@ -1,4 +1,6 @@
 -- The walk over all columns gives what the definition gives by their numbers.
+use Rattle.error.specs.Result.{Result}
+use Rattle.value.specs.declared.DataValue.{DataValue}
 use Prim.Native.Nat.{ℕ, zero, suc, ◌+◌, ◌<◌}
 use mathlib.Core.Path.{◌≡◌, sym, ap, ap₂, ◌∙◌}
 use mathlib.Core.Bool.{Bool, false}
@@ -15,7 +17,6 @@ use Rattle.datatype.specs.declared.DataType.TheVariants.{Varchar}
 use Rattle.datatype.specs.Check.{type_at, layout_for}
 use Rattle.datatype.proofs.Again.{before-next}
 use Rattle.datatype.specs.InnerCheck.{layout_before}
-use Rattle.row_column.specs.declared.ColumnRead.{ColumnRead}
 use Rattle.row_column.specs.InnerWalk.{walked_column}
 use Rattle.row_column.proofs.Walk.{column_walked}
 use Rattle.row_column.proofs.Reach.{columns-before}
@@ -32,7 +33,7 @@ module _ (k p : Bool) (ts : List DataType) (wanted : ℕ → Bool) (r : List ℕ
   walked_next i h =
       let b : RowLayout = layout_before ts i in
       let t : DataType = type_at ts i in
-      let here : Bool → ColumnRead = λ x. wanted_value x (walked_column l p b t r) in
+      let here : Bool → (Result DataValue) = λ x. wanted_value x (walked_column l p b t r) in
       ap (walked_read l p wanted r b) (drop-cons ts i (Varchar false 0) h)
       ∙ ap₂ (λ (n : ℕ) (c : RowLayout). on_column (here (wanted n)) (walked_read l p wanted r c (drop (suc i) ts)))
       (columns-before ts i (omega arith)) (sym (rw (add-one i) at (before-next ts i h)))

@@ -1,10 +1,9 @@
 -- For the proofs: the wanted columns marked in a list of flags, and what the inner functions hand on.
-use Rattle.std.specs.Prelude.{ℕ, ◌*◌, ◌≤◌, Bool, cond, ◌||◌, List, [], ◌∷◌, map, ◌≡◌, eqb, ltb, length, get_or, set, take}
+use Rattle.error.specs.Result.{Result}
+use Rattle.std.specs.Prelude.{ℕ, ◌*◌, ◌≤◌, Bool, cond, ◌||◌, List, [], ◌∷◌, map, ◌≡◌, eqb, ltb, length, get_or, set, take, Err, Ok}
 use Rattle.std.proofs.lemmas.List.Edits.{sets}
 use Rattle.error.specs.declared.Refusal.TheVariants.{NoRoom}
-use Rattle.error.specs.declared.Answer.{Answer}
 use Rattle.error.specs.Answer.{Counted, unchanged_both}
-use Rattle.error.specs.Result.{ok, refused}
 use Rattle.row_layout.specs.declared.RowLayout.{RowLayout}
 use Rattle.value.specs.declared.DataValue.{DataValue}
 use Rattle.value_list.specs.Lists.{Values, list_of}
@@ -20,29 +19,29 @@ is_marked m i = eqb (get_or m i 0) 1
 
 -- the records of all columns of a row r of a sort written at the front of a buffer, and their counts at the front of a
 -- list; after a refusal both may hold anything
-pub record FilledWith (k : Bool) (r : List ℕ) (columns : ℕ) (vs : List DataValue) (buf points : List ℕ) (a : Answer)
+pub record FilledWith (k : Bool) (r : List ℕ) (columns : ℕ) (vs : List DataValue) (buf points : List ℕ) (a : Result ℕ)
     (buf' points' : List ℕ) : Type 0 where
-  pub done : a ≡ Answer.Done (length (list_of k vs))
+  pub done : a ≡ Ok (length (list_of k vs))
   pub written : buf' ≡ sets buf 0 (list_of k vs)
   pub room : length (list_of k vs) ≤ length buf
   pub counted : points' ≡ sets points 0 (map (points_in r) vs)
   pub many : length vs ≡ columns
   pub numbers : columns ≤ length points
 
-abbrev pub Filled : Bool → List ℕ → ℕ → Values → List ℕ → List ℕ → Answer → List ℕ → List ℕ → Type 0
-Filled k r columns (ok vs) buf points a buf' points' = FilledWith k r columns vs buf points a buf' points'
-Filled k r columns (refused e) buf points a buf' points' = a ≡ Answer.Refused e
+abbrev pub Filled : Bool → List ℕ → ℕ → Values → List ℕ → List ℕ → Result ℕ → List ℕ → List ℕ → Type 0
+Filled k r columns (Ok vs) buf points a buf' points' = FilledWith k r columns vs buf points a buf' points'
+Filled k r columns (Err e) buf points a buf' points' = a ≡ Err e
 
 -- and copied from there
-abbrev pub Held : Answer → ℕ → List ℕ → List ℕ → Type 0
-Held (Answer.Done n) columns buf points = (n ≤ length buf) × (columns ≤ length points)
-Held (Answer.Refused e) columns buf points = Unit {0}
+abbrev pub Held : Result ℕ → ℕ → List ℕ → List ℕ → Type 0
+Held (Ok n) columns buf points = (n ≤ length buf) × (columns ≤ length points)
+Held (Err e) columns buf points = Unit {0}
 
-abbrev pub copied_out : Answer → ℕ → List ℕ → List ℕ → List ℕ → List ℕ → Counted
-copied_out (Answer.Done n) columns buf points out counts =
+abbrev pub copied_out : Result ℕ → ℕ → List ℕ → List ℕ → List ℕ → List ℕ → Counted
+copied_out (Ok n) columns buf points out counts =
     cond (ltb (length out) n || ltb (length counts) columns) (unchanged_both out counts NoRoom)
-    (Answer.Done n, (sets out 0 (take n buf), sets counts 0 (take columns points)))
-copied_out (Answer.Refused e) columns buf points out counts = unchanged_both out counts e
+    (Ok n, (sets out 0 (take n buf), sets counts 0 (take columns points)))
+copied_out (Err e) columns buf points out counts = unchanged_both out counts e
 
 -- what the walk over the columns may rely on: a schema that was accepted, a row with a good header, marks for all
 -- columns, and room for 18 bytes and a number a column

@@ -1,6 +1,5 @@
 -- For the proofs: the walk, as the code goes it.
-use Rattle.std.specs.Prelude.{ℕ, Bool, List, [], ◌∷◌}
-use Rattle.error.specs.Result.{ok}
+use Rattle.std.specs.Prelude.{ℕ, Bool, List, [], ◌∷◌, Ok}
 use Rattle.row_layout.specs.declared.RowLayout.{RowLayout}
 use Rattle.row_layout.specs.InnerLayout.{with_column}
 use Rattle.datatype.specs.declared.DataType.{DataType}
@@ -11,7 +10,7 @@ use Rattle.row_decode.specs.Read.{wanted_value, on_column}
 
 -- the columns of types ts that come after those of layout b, in a row r with layout l; `wanted` tells which are
 abbrev pub walked_read : RowLayout → Bool → (ℕ → Bool) → List ℕ → RowLayout → List DataType → Values
-walked_read l p wanted r b [] = ok []
+walked_read l p wanted r b [] = Ok []
 walked_read l p wanted r b (t ∷ ts) =
     on_column (wanted_value (wanted b.num_columns) (walked_column l p b t r))
     (walked_read l p wanted r (with_column b (shape_of t)) ts)

@@ -15,11 +15,8 @@ ghost use Rattle.row_decode.specs.InnerMarks.{marked, is_marked, Decodable, Fill
 ghost use Rattle.datatype.specs.Check.{type_at, types_in};
 ghost use Rattle.datatype.specs.InnerCheck.{Accepted};
 
-use datatype::SchemaCheck;
-use error::{Answer, Refusal};
-use row_column::Frame;
+use error::Refusal;
 use row_layout::RowLayout;
-use slot_record::Recorded;
 
 fn mark(marks: &mut [u8], column: usize)
     ensures { marks.new ≡ set marks.old column 1 }
@@ -54,31 +51,27 @@ fn copy_numbers(counts: &mut [u32], points: &[u32])
 
 // The n bytes of a result, copied from the buffer, and a count for each column.
 fn hand_out(
-    answer: Answer,
+    answer: error::Result<usize>,
     columns: usize,
     buf: &[u8],
     points: &[u32],
     out: &mut [u8],
     counts: &mut [u32],
-) -> Answer
+) -> error::Result<usize>
     requires { Held answer columns buf.now points.now }
     ensures { (result, (out.new, counts.new))
         ≡ copied_out answer columns buf.now points.now out.old counts.old }
 {
-    match answer {
-        Answer::Refused(e) => Answer::Refused(e),
-        Answer::Done(n) => {
-            if out.len() < n {
-                return Answer::Refused(Refusal::NoRoom);
-            }
-            if counts.len() < columns {
-                return Answer::Refused(Refusal::NoRoom);
-            }
-            endian::copy(out, 0, &buf[..n]);
-            copy_numbers(counts, &points[..columns]);
-            Answer::Done(n)
-        }
+    let n = answer?;
+    if out.len() < n {
+        return Err(Refusal::NoRoom);
     }
+    if counts.len() < columns {
+        return Err(Refusal::NoRoom);
+    }
+    endian::copy(out, 0, &buf[..n]);
+    copy_numbers(counts, &points[..columns]);
+    Ok(n)
 }
 
 // The column whose record stands at a place of the schema. An unwanted one is null, whatever its bytes are.
@@ -92,7 +85,7 @@ fn decode_column(
     marks: &[u8],
     buf: &mut [u8],
     end: usize,
-) -> Recorded
+) -> error::Result<(usize, u32)>
     requires { DecodeAt schema.now at layout packed before row.now buf.old end × (length marks.now ≡ 256) }
     ensures { (result, buf.new)
         ≡ stepped layout.is_long buf.old end (points_in row.now)
@@ -102,10 +95,10 @@ fn decode_column(
 {
     let i = before.num_columns;
     if marks[i] != 1 {
-        return Recorded::Done(record_encode::write_null(buf, end), 0);
+        return Ok((record_encode::write_null(buf, end), 0));
     }
     if null_bitmap::column_bit_is_set(row, i) {
-        return Recorded::Done(record_encode::write_null(buf, end), 0);
+        return Ok((record_encode::write_null(buf, end), 0));
     }
     column_decode::decode_present(schema, at, layout, packed, before, row, buf, end)
 }
@@ -120,7 +113,7 @@ fn decode_columns(
     marks: &[u8],
     buf: &mut [u8],
     points: &mut [u32],
-) -> Answer
+) -> error::Result<usize>
     requires { Decodable schema.now layout packed row.now marks.now buf.old points.old }
     ensures { Filled layout.is_long row.now layout.num_columns
         (walked_read layout packed (is_marked marks.now) row.now no_columns
@@ -131,21 +124,15 @@ fn decode_columns(
     let mut at = 0;
     let mut end = 0;
     while at < schema.len() {
-        match decode_column(schema, at, layout, packed, before, row, marks, buf, end) {
-            Recorded::Refused(e) => {
-                return Answer::Refused(e);
-            }
-            Recorded::Done(n, count) => {
-                let i = before.num_columns;
-                points[i] = count;
-                let step = datatype::next_column(schema, at, before);
-                before = step.before;
-                at = step.at;
-                end = n;
-            }
-        }
+        let (n, count) = decode_column(schema, at, layout, packed, before, row, marks, buf, end)?;
+        let i = before.num_columns;
+        points[i] = count;
+        let step = datatype::next_column(schema, at, before);
+        before = step.before;
+        at = step.at;
+        end = n;
     }
-    Answer::Done(end)
+    Ok(end)
 }
 
 // For the arrays of 14 columns the compiler calls no function: it clears up to 256 bytes in place.
@@ -157,7 +144,7 @@ fn decode_small(
     marks: &[u8],
     out: &mut [u8],
     counts: &mut [u32],
-) -> Answer
+) -> error::Result<usize>
     requires { Framed schema.now layout packed row.now
         × ((length marks.now ≡ 256) × (layout.num_columns ≤ 14)) }
     ensures { (result, (out.new, counts.new))
@@ -180,7 +167,7 @@ fn decode_short(
     marks: &[u8],
     out: &mut [u8],
     counts: &mut [u32],
-) -> Answer
+) -> error::Result<usize>
     requires { Framed schema.now layout packed row.now
         × ((length marks.now ≡ 256) × (layout.num_columns ≤ 32)) }
     ensures { (result, (out.new, counts.new))
@@ -203,7 +190,7 @@ fn decode_long(
     marks: &[u8],
     out: &mut [u8],
     counts: &mut [u32],
-) -> Answer
+) -> error::Result<usize>
     requires { Framed schema.now layout packed row.now
         × ((length marks.now ≡ 256) × (layout.num_columns ≤ 256)) }
     ensures { (result, (out.new, counts.new))
@@ -227,7 +214,7 @@ fn decode_values(
     wanted: &[u16],
     out: &mut [u8],
     counts: &mut [u32],
-) -> Answer
+) -> error::Result<usize>
     requires { Framed schema.now layout packed row.now }
     ensures { (result, (out.new, counts.new))
         ≡ hand_out layout.is_long out.old counts.old row.now
@@ -252,16 +239,14 @@ fn decode_row(
     wanted: &[u16],
     out: &mut [u8],
     counts: &mut [u32],
-) -> Answer
+) -> error::Result<usize>
     requires { Accepted schema.now layout }
     ensures { (result, (out.new, counts.new))
         ≡ read_row layout.is_long (types_in schema.now) row.now wanted.now
         out.old counts.old }
 {
-    match row_column::check_frame(layout, row) {
-        Frame::Refused(e) => Answer::Refused(e),
-        Frame::Good(packed) => decode_values(schema, layout, packed, row, wanted, out, counts),
-    }
+    let packed = row_column::check_frame(layout, row)?;
+    decode_values(schema, layout, packed, row, wanted, out, counts)
 }
 
 // The wanted columns of a row, by their numbers in any order; unknown numbers are ignored, and the other columns read
@@ -272,16 +257,12 @@ pub fn decode(
     wanted: &[u16],
     out: &mut [u8],
     counts: &mut [u32],
-) -> Answer
+) -> error::Result<usize>
     ensures { (result, (out.new, counts.new))
         ≡ read_call schema.now row.now wanted.now
         out.old counts.old }
 {
     let is_long = row_layout::is_long(row);
-    match datatype::check_schema(schema, is_long) {
-        SchemaCheck::Refused(e) => Answer::Refused(e),
-        SchemaCheck::Good(layout) => {
-            decode_row(schema, layout.of_sort(is_long), row, wanted, out, counts)
-        }
-    }
+    let layout = datatype::check_schema(schema, is_long)?;
+    decode_row(schema, layout.of_sort(is_long), row, wanted, out, counts)
 }

@@ -1,4 +1,6 @@
 -- An edit keeps both marks: it keeps the header of its row.
+use Rattle.error.specs.Result.{Result}
+use Rattle.std.specs.Prelude.{Err, Ok}
 use Prim.Native.Nat.{ℕ, ◌≤◌, ◌<◌}
 use mathlib.Core.Bool.{Bool}
 use mathlib.Core.List.{List}
@@ -8,8 +10,6 @@ use native.Mathlib.Omega.{arith}
 use lib.ListN.{length, take, drop}
 use lib.Seq.{sets, length-sets, length-take-le, take-append_seam}
 use Rattle.laws.proofs.Stores.{sets-start}
-use Rattle.error.specs.declared.Answer.{Answer}
-use Rattle.error.specs.declared.Answer.TheVariants.{Done, Refused}
 use Rattle.error.specs.Answer.{Outcome}
 use Rattle.row_format.specs.Places.{offset_width}
 use Rattle.row_format.specs.Table.{Cell}
@@ -41,9 +41,9 @@ module _ {k : Bool} {ts : List DataType} {p : Bool} (buf : List ℕ) (n : ℕ) (
 
 -- ---- the calls
 
-abbrev KeptIf : List ℕ → ℕ → List ℕ → Answer → Type 0
-KeptIf buf n after (Done m) = SameMarks buf n after m
-KeptIf buf n after (Refused e) = Unit {0}
+abbrev KeptIf : List ℕ → ℕ → List ℕ → Result ℕ → Type 0
+KeptIf buf n after (Ok m) = SameMarks buf n after m
+KeptIf buf n after (Err e) = Unit {0}
 
 abbrev Kept : List ℕ → ℕ → Outcome → Type 0
 Kept buf n o = KeptIf buf n o.1 o.0

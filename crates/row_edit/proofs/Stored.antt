@@ -1,4 +1,5 @@
 -- A column of a sound row: what each store needs, and what it leaves.
+use Rattle.std.specs.Prelude.{Err, Ok}
 use Prim.Native.Nat.{ℕ, ◌+◌, ◌-◌, ◌≤◌, ◌<◌}
 use mathlib.Core.Path.{◌≡◌, sym, ◌∙◌, subst}
 use mathlib.Core.Bool.{Bool, true, false, false≢true}
@@ -7,7 +8,6 @@ use mathlib.Core.Option.{none, some}
 use native.Mathlib.Omega.{arith}
 use lib.ListN.{length, take}
 use Rattle.error.specs.declared.Refusal.TheVariants.{RowLimit, NoRoom}
-use Rattle.error.specs.declared.Answer.TheVariants.{Done, Refused}
 use Rattle.row_format.specs.Places.{offset_width, row_limit}
 use Rattle.row_format.specs.Table.{Cell}
 use Rattle.row_format.specs.Edit.{span}
@@ -48,15 +48,15 @@ module _ {s : List ℕ} {l : RowLayout} {p : Bool} {buf : List ℕ} {n i : ℕ} 
     fixed_ready z = ready o f 0 0 no_range z (λ v. absurd (false≢true (sym fixed ∙ v)))
 
     pub fixed-done : {v : DataValue} {area q : List ℕ} {m : ℕ} → Suited c.ty v area → Holds buf (after 0 0 (some (form_of c.ty v area))) q m
-        → (Done m, q) ≡ row_placed l.is_long buf (changed (some (form_of c.ty v area)))
+        → (Ok m, q) ≡ row_placed l.is_long buf (changed (some (form_of c.ty v area)))
     fixed-done {v} {area} {q} {m} t h =
         let x = some (form_of c.ty v area) in
         let k : length (after 0 0 x) ≡ n = length-fixed o f 0 0 no_range fixed (form_of c.ty v area) (length-slot t fixed) in
-        subst (λ (r : List ℕ). (Done m, q) ≡ row_placed l.is_long buf r) (edited-is o f 0 0 no_range x) (placing buf (after 0 0 x) l.is_long q m h (rw k row_limit_lem) (rw k o.inside))
+        subst (λ (r : List ℕ). (Ok m, q) ≡ row_placed l.is_long buf r) (edited-is o f 0 0 no_range x) (placing buf (after 0 0 x) l.is_long q m h (rw k row_limit_lem) (rw k o.inside))
 
-    pub fixed-null : {q : List ℕ} {m : ℕ} → Holds buf (after 0 0 none) q m → (Done m, q) ≡ row_stored buf (changed none)
+    pub fixed-null : {q : List ℕ} {m : ℕ} → Holds buf (after 0 0 none) q m → (Ok m, q) ≡ row_stored buf (changed none)
     fixed-null {q} {m} h =
-        subst (λ (r : List ℕ). (Done m, q) ≡ row_stored buf r) (edited-is o f 0 0 no_range none) (holding buf (after 0 0 none) q m h (rw (length-null o f 0 0 no_range fixed) o.inside))
+        subst (λ (r : List ℕ). (Ok m, q) ≡ row_stored buf r) (edited-is o f 0 0 no_range none) (holding buf (after 0 0 none) q m h (rw (length-null o f 0 0 no_range fixed) o.inside))
 
   -- a Varchar's range goes from a to e
   module _ (varlen : is_varlen c.ty ≡ true) {a e : ℕ} (g : RangeAt l c.before (take n buf) a e) where
@@ -79,9 +79,9 @@ module _ {s : List ℕ} {l : RowLayout} {p : Bool} {buf : List ℕ} {n i : ℕ} 
     pub null_ready : Editable l p c.before c.ty (change n a e 0) buf
     null_ready = varlen_ready 0 (omega arith) (omega (arith, range-rises, range-within, o.inside))
 
-    pub varlen_null : {q : List ℕ} {m : ℕ} → Holds buf (after a e none) q m → (Done m, q) ≡ row_stored buf (changed none)
+    pub varlen_null : {q : List ℕ} {m : ℕ} → Holds buf (after a e none) q m → (Ok m, q) ≡ row_stored buf (changed none)
     varlen_null {q} {m} h =
-        subst (λ (r : List ℕ). (Done m, q) ≡ row_stored buf r) (edited-is o f a e range none)
+        subst (λ (r : List ℕ). (Ok m, q) ≡ row_stored buf r) (edited-is o f a e range none)
         (holding buf (after a e none) q m h (rw (length_varlen o f a e range varlen none) (omega (arith, range-rises, range-within, o.inside))))
 
     module _ {v : DataValue} {area : List ℕ} (t : Suited c.ty v area) where
@@ -92,16 +92,16 @@ module _ {s : List ℕ} {l : RowLayout} {p : Bool} {buf : List ℕ} {n i : ℕ} 
       size = length_varlen o f a e range varlen form ∙ rw (length-text t varlen) (omega arith)
 
       pub varlen_done : {q : List ℕ} {m : ℕ} → Holds buf (after a e form) q m → (range_of v).length ≤ row_limit l.is_long - (a + (n - e)) → a + (n - e) + (range_of v).length ≤ length buf
-          → (Done m, q) ≡ row_placed l.is_long buf (changed form)
+          → (Ok m, q) ≡ row_placed l.is_long buf (changed form)
       varlen_done {q} {m} h short room =
-          subst (λ (r : List ℕ). (Done m, q) ≡ row_placed l.is_long buf r) (edited-is o f a e range form)
+          subst (λ (r : List ℕ). (Ok m, q) ≡ row_placed l.is_long buf r) (edited-is o f a e range form)
           (placing buf (after a e form) l.is_long q m h (rw size (omega (arith, kept_limit, short))) (rw size room))
 
-      pub varlen_long : row_limit l.is_long - (a + (n - e)) < (range_of v).length → (Refused RowLimit, buf) ≡ row_placed l.is_long buf (changed form)
+      pub varlen_long : row_limit l.is_long - (a + (n - e)) < (range_of v).length → (Err RowLimit, buf) ≡ row_placed l.is_long buf (changed form)
       varlen_long h =
-          subst (λ (r : List ℕ). (Refused RowLimit, buf) ≡ row_placed l.is_long buf r) (edited-is o f a e range form) (too_long buf (after a e form) l.is_long (rw size (omega (arith, kept_limit, h))))
+          subst (λ (r : List ℕ). (Err RowLimit, buf) ≡ row_placed l.is_long buf r) (edited-is o f a e range form) (too_long buf (after a e form) l.is_long (rw size (omega (arith, kept_limit, h))))
 
-      pub varlen_room : (range_of v).length ≤ row_limit l.is_long - (a + (n - e)) → length buf < a + (n - e) + (range_of v).length → (Refused NoRoom, buf) ≡ row_placed l.is_long buf (changed form)
+      pub varlen_room : (range_of v).length ≤ row_limit l.is_long - (a + (n - e)) → length buf < a + (n - e) + (range_of v).length → (Err NoRoom, buf) ≡ row_placed l.is_long buf (changed form)
       varlen_room short h =
-          subst (λ (r : List ℕ). (Refused NoRoom, buf) ≡ row_placed l.is_long buf r) (edited-is o f a e range form)
+          subst (λ (r : List ℕ). (Err NoRoom, buf) ≡ row_placed l.is_long buf r) (edited-is o f a e range form)
           (no_room buf (after a e form) l.is_long (rw size (omega (arith, kept_limit, short))) (rw size h))

@@ -2,7 +2,7 @@
 // sort. All tests come before the first store.
 #![tactic(auto)]
 
-ghost use Rattle.std.specs.Prelude.{◌≡◌, true, false, ◌≤◌, ◌<◌, length};
+ghost use Rattle.std.specs.Prelude.{◌≡◌, true, false, ◌≤◌, ◌<◌, length, Ok};
 ghost use Rattle.std.proofs.Math.Option.{none, some};
 ghost use Rattle.row_layout.specs.InnerLayout.{Bounded};
 ghost use Rattle.row_format.specs.Places.{offset_width, fixed_start};
@@ -10,7 +10,6 @@ ghost use Rattle.datatype.specs.Types.{is_varlen};
 ghost use Rattle.datatype.specs.Check.{type_at, types_in};
 ghost use Rattle.datatype.specs.InnerCheck.{Accepted};
 ghost use Rattle.value_list.specs.Lists.{checked};
-ghost use Rattle.value_list.specs.declared.ListCheck.TheVariants.{Good};
 ghost use Rattle.value_list.specs.InnerLists.{answer};
 ghost use Rattle.record_slot.specs.Stored.{stored_in};
 ghost use Rattle.row_build.specs.Build.{row_placed};
@@ -21,13 +20,10 @@ ghost use Rattle.row_patch.specs.InnerStores.{form_of, Suited};
 ghost use Rattle.row_edit.specs.Edit.{opening, written, edited, row_stored, given, set_call, set_null_call};
 ghost use Rattle.row_edit.specs.InnerOpened.{Opened, RangeAt};
 
-use datatype::SchemaCheck;
-use error::{Answer, Refusal};
-use row_column::{Column, Frame};
+use error::Refusal;
+use row_column::Column;
 use row_layout::RowLayout;
-use row_sound::Soundness;
 use value::DataValue;
-use value_list::{ListCheck, ValueRecord};
 
 // The range of a Varchar. That of a null is empty and stands where its text would.
 #[derive(Clone, Copy)]
@@ -64,7 +60,7 @@ fn set_fixed(
     found: Column,
     value: DataValue,
     area: &[u8],
-) -> Answer
+) -> error::Result<usize>
     requires { Opened schema.now layout packed buf.old n column
         × (Found schema.now column found
         × ((is_varlen found.ty ≡ false) × Suited found.ty value area.now)) }
@@ -75,7 +71,7 @@ fn set_fixed(
 {
     let ty = found.ty;
     let before = found.before;
-    Answer::Done(row_patch::write_value(buf, n, layout, packed, before, ty, 0, 0, value, area))
+    Ok(row_patch::write_value(buf, n, layout, packed, before, ty, 0, 0, value, area))
 }
 
 // A text moves what comes behind it: the row's new length is tested first.
@@ -89,7 +85,7 @@ fn set_varlen(
     found: Column,
     value: DataValue,
     area: &[u8],
-) -> Answer
+) -> error::Result<usize>
     requires { Opened schema.now layout packed buf.old n column
         × (Found schema.now column found
         × ((is_varlen found.ty ≡ true) × Suited found.ty value area.now)) }
@@ -106,14 +102,12 @@ fn set_varlen(
     let kept = start + (n - end);
     let text = value.range();
     if row_layout::row_limit(layout.is_long) - kept < text.length {
-        return Answer::Refused(Refusal::RowLimit);
+        return Err(Refusal::RowLimit);
     }
     if buf.len() < kept + text.length {
-        return Answer::Refused(Refusal::NoRoom);
+        return Err(Refusal::NoRoom);
     }
-    Answer::Done(row_patch::write_value(
-        buf, n, layout, packed, before, ty, start, end, value, area,
-    ))
+    Ok(row_patch::write_value(buf, n, layout, packed, before, ty, start, end, value, area))
 }
 
 // A value that the column may hold.
@@ -127,7 +121,7 @@ fn set_suited(
     found: Column,
     value: DataValue,
     area: &[u8],
-) -> Answer
+) -> error::Result<usize>
     requires { Opened schema.now layout packed buf.old n column
         × (Found schema.now column found × Suited found.ty value area.now) }
     ensures { (result, buf.new)
@@ -152,7 +146,7 @@ fn set_column(
     column: usize,
     value: DataValue,
     area: &[u8],
-) -> Answer
+) -> error::Result<usize>
     requires { Opened schema.now layout packed buf.old n column }
     ensures { (result, buf.new)
         ≡ written layout.is_long (types_in schema.now) packed buf.old n column
@@ -164,9 +158,9 @@ fn set_column(
         if value_encode::suits(ty, value, area) {
             return set_suited(schema, layout, packed, buf, n, column, found, value, area);
         }
-        return Answer::Refused(Refusal::Unsuitable(column));
+        return Err(Refusal::Unsuitable(column));
     }
-    Answer::Refused(Refusal::WrongKind(column))
+    Err(Refusal::WrongKind(column))
 }
 
 // The list was checked and has one record.
@@ -179,18 +173,16 @@ fn set_record(
     column: usize,
     values: &[u8],
     area: &[u8],
-) -> Answer
+) -> error::Result<usize>
     requires { Opened schema.now layout packed buf.old n column
-        × (answer (checked layout.is_long 1 (length area.now) values.now) ≡ Good) }
+        × (answer (checked layout.is_long 1 (length area.now) values.now) ≡ Ok tt) }
     ensures { (result, buf.new)
         ≡ written layout.is_long (types_in schema.now) packed buf.old n column
         (given layout.is_long (type_at (types_in schema.now) column) column values.now
         area.now) }
 {
-    match value_list::value_record_at(values, 0) {
-        ValueRecord::Refused(e) => Answer::Refused(e),
-        ValueRecord::Value(v, _) => set_column(schema, layout, packed, buf, n, column, v, area),
-    }
+    let (v, _) = value_list::value_record_at(values, 0)?;
+    set_column(schema, layout, packed, buf, n, column, v, area)
 }
 
 fn set_list(
@@ -202,17 +194,15 @@ fn set_list(
     column: usize,
     values: &[u8],
     area: &[u8],
-) -> Answer
+) -> error::Result<usize>
     requires { Opened schema.now layout packed buf.old n column }
     ensures { (result, buf.new)
         ≡ written layout.is_long (types_in schema.now) packed buf.old n column
         (given layout.is_long (type_at (types_in schema.now) column) column values.now
         area.now) }
 {
-    match value_list::check_values(values, layout.is_long, 1, area.len()) {
-        ListCheck::Refused(e) => Answer::Refused(e),
-        ListCheck::Good => set_record(schema, layout, packed, buf, n, column, values, area),
-    }
+    value_list::check_values(values, layout.is_long, 1, area.len())?;
+    set_record(schema, layout, packed, buf, n, column, values, area)
 }
 
 fn null_column(
@@ -222,7 +212,7 @@ fn null_column(
     buf: &mut [u8],
     n: usize,
     column: usize,
-) -> Answer
+) -> error::Result<usize>
     requires { Opened schema.now layout packed buf.old n column }
     ensures { (result, buf.new)
         ≡ row_stored buf.old
@@ -234,7 +224,7 @@ fn null_column(
     let before = found.before;
     if ty.is_variable_length() {
         let range = range_at(layout, before, &buf[..n]);
-        return Answer::Done(row_patch::write_null(
+        return Ok(row_patch::write_null(
             buf,
             n,
             layout,
@@ -245,24 +235,30 @@ fn null_column(
             range.end,
         ));
     }
-    Answer::Done(row_patch::write_null(buf, n, layout, packed, before, ty, 0, 0))
+    Ok(row_patch::write_null(buf, n, layout, packed, before, ty, 0, 0))
 }
 
 // What both calls ask of the row, behind the schema's check.
-fn open_row(schema: &[u8], layout: RowLayout, buf: &[u8], n: usize, column: usize) -> Frame
+fn open_row(
+    schema: &[u8],
+    layout: RowLayout,
+    buf: &[u8],
+    n: usize,
+    column: usize,
+) -> error::Result<bool>
     requires { Accepted schema.now layout }
     ensures { result ≡ opening layout.is_long (types_in schema.now) buf.now n column }
 {
     if buf.len() < n {
-        return Frame::Refused(Refusal::NoRoom);
+        return Err(Refusal::NoRoom);
     }
     match row_sound::check_sound(schema, layout, &buf[..n]) {
-        Soundness::NotSound => Frame::Refused(Refusal::NotSound),
-        Soundness::Sound(packed) => {
+        None => Err(Refusal::NotSound),
+        Some(packed) => {
             if layout.num_columns <= column {
-                return Frame::Refused(Refusal::NoSuchColumn);
+                return Err(Refusal::NoSuchColumn);
             }
-            Frame::Good(packed)
+            Ok(packed)
         }
     }
 }
@@ -276,7 +272,7 @@ pub fn set_checked(
     column: usize,
     values: &[u8],
     area: &[u8],
-) -> Answer
+) -> error::Result<usize>
     requires { Accepted schema.now layout }
     ensures { (result, buf.new)
         ≡ on_frame (opening layout.is_long (types_in schema.now) buf.old n column)
@@ -285,10 +281,8 @@ pub fn set_checked(
         (given layout.is_long (type_at (types_in schema.now) column) column values.now
         area.now)) }
 {
-    match open_row(schema, layout.of_sort(layout.is_long), buf, n, column) {
-        Frame::Refused(e) => Answer::Refused(e),
-        Frame::Good(packed) => set_list(schema, layout, packed, buf, n, column, values, area),
-    }
+    let packed = open_row(schema, layout.of_sort(layout.is_long), buf, n, column)?;
+    set_list(schema, layout, packed, buf, n, column, values, area)
 }
 
 pub fn null_checked(
@@ -297,7 +291,7 @@ pub fn null_checked(
     buf: &mut [u8],
     n: usize,
     column: usize,
-) -> Answer
+) -> error::Result<usize>
     requires { Accepted schema.now layout }
     ensures { (result, buf.new)
         ≡ on_frame (opening layout.is_long (types_in schema.now) buf.old n column)
@@ -306,10 +300,8 @@ pub fn null_checked(
         (edited (offset_width layout.is_long) (types_in schema.now) p buf.old n column
         none)) }
 {
-    match open_row(schema, layout.of_sort(layout.is_long), buf, n, column) {
-        Frame::Refused(e) => Answer::Refused(e),
-        Frame::Good(packed) => null_column(schema, layout, packed, buf, n, column),
-    }
+    let packed = open_row(schema, layout.of_sort(layout.is_long), buf, n, column)?;
+    null_column(schema, layout, packed, buf, n, column)
 }
 
 // Column `column` of the row in the first `row_length` bytes set to the one value of the list. The answer has the
@@ -321,28 +313,27 @@ pub fn set_value(
     column: usize,
     values: &[u8],
     text: &[u8],
-) -> Answer
+) -> error::Result<usize>
     ensures { (result, buf.new)
         ≡ set_call schema.now buf.old row_length column
         values.now text.now }
 {
     let is_long = row_layout::sort_in(buf, row_length);
-    match datatype::check_schema(schema, is_long) {
-        SchemaCheck::Refused(e) => Answer::Refused(e),
-        SchemaCheck::Good(layout) => {
-            set_checked(schema, layout, buf, row_length, column, values, text)
-        }
-    }
+    let layout = datatype::check_schema(schema, is_long)?;
+    set_checked(schema, layout, buf, row_length, column, values, text)
 }
 
 // The column set to null. The slot of a fixed column stays as it is.
-pub fn set_null(schema: &[u8], buf: &mut [u8], row_length: usize, column: usize) -> Answer
+pub fn set_null(
+    schema: &[u8],
+    buf: &mut [u8],
+    row_length: usize,
+    column: usize,
+) -> error::Result<usize>
     ensures { (result, buf.new)
         ≡ set_null_call schema.now buf.old row_length column }
 {
     let is_long = row_layout::sort_in(buf, row_length);
-    match datatype::check_schema(schema, is_long) {
-        SchemaCheck::Refused(e) => Answer::Refused(e),
-        SchemaCheck::Good(layout) => null_checked(schema, layout, buf, row_length, column),
-    }
+    let layout = datatype::check_schema(schema, is_long)?;
+    null_checked(schema, layout, buf, row_length, column)
 }

@@ -1,4 +1,5 @@
 -- For the functions behind the two set calls: the flag of a row, and the handle after a call.
+use Rattle.error.specs.Result.{Result}
 use Prim.Native.Nat.{ℕ, ◌<◌}
 use mathlib.Core.Bool.{Bool, false}
 use mathlib.Core.List.{List, [], ◌∷◌}
@@ -9,7 +10,6 @@ use lib.ListN.{length}
 use Rattle.datatype.specs.Check.{layout_for, types_in}
 use Rattle.datatype.specs.InnerCheck.{Accepted}
 use Rattle.laws.proofs.Bytes.{AllBytes}
-use Rattle.error.specs.declared.Answer.{Answer}
 use Rattle.error.specs.Answer.{Outcome}
 use Rattle.row_format.specs.Row.{packed_flag}
 use Rattle.row_layout.specs.declared.RowLayout.{RowLayout}
@@ -26,7 +26,7 @@ short-flag (x ∷ y ∷ z ∷ []) a h = let b = (a 2).fits in sym (lt-leb packed
 short-flag (x ∷ y ∷ z ∷ u ∷ r) a h = absurd (omega arith)
 
 -- a call of sort k that went on behind the schema's check: o is what the plain call answers and leaves
-pub handled-good : (k : Bool) (s : List ℕ) {l : RowLayout} {a : Answer} {buf : List ℕ} (h : RowHandle) {h' : RowHandle} {o : Outcome}
+pub handled-good : (k : Bool) (s : List ℕ) {l : RowLayout} {a : Result ℕ} {buf : List ℕ} (h : RowHandle) {h' : RowHandle} {o : Outcome}
     → l.is_long ≡ k → Accepted s l → (a, buf) ≡ o → h' ≡ handle_after (geometry l (is_packed buf)) h a → (a, (buf, h')) ≡ handled k s h o
 handled-good k s {l} {a} {buf} h {h'} {o} sort acc e f =
     let same : l ≡ layout_for k (types_in s) = sym acc.layout ∙ ap (λ (q : Bool). layout_for q (types_in s)) sort in

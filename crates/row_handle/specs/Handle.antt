@@ -1,10 +1,9 @@
 -- FORMAT 8.7. 01, "What must change shape": "a small row handle of length and layout is lent and changed by the set
 -- calls". What such a call answers, what it leaves in the buffer, and what in the handle. 02, request 5: "On a read or
 -- edit the row's own mark tells the sort".
-use Rattle.std.specs.Prelude.{ℕ, Bool, List}
+use Rattle.error.specs.Result.{Result}
+use Rattle.std.specs.Prelude.{ℕ, Bool, List, Err, Ok}
 use Rattle.laws.specs.Bits.{bit_value}
-use Rattle.error.specs.declared.Answer.{Answer}
-use Rattle.error.specs.declared.Answer.TheVariants.{Done, Refused}
 use Rattle.error.specs.Answer.{Outcome}
 use Rattle.row_layout.specs.declared.RowLayout.{RowLayout}
 use Rattle.row_layout.specs.Layout.{size_in}
@@ -30,13 +29,13 @@ abbrev pub stored_layout : Bool → List ℕ → List ℕ → HandleLayout
 stored_layout k schema buf = geometry (layout_for k (types_in schema)) (is_packed buf)
 
 -- after an accepted call the new length and that layout, whatever came in; after a refusal the handle as it was
-abbrev pub handle_after : HandleLayout → RowHandle → Answer → RowHandle
-handle_after l h (Done n) = record { length = n; layout = l }
-handle_after l h (Refused e) = h
+abbrev pub handle_after : HandleLayout → RowHandle → Result ℕ → RowHandle
+handle_after l h (Ok n) = record { length = n; layout = l }
+handle_after l h (Err e) = h
 
 -- a call through a handle: the answer, the buffer and the handle after it
 abbrev pub Handled : Type 0
-Handled = Answer × (List ℕ × RowHandle)
+Handled = Result ℕ × (List ℕ × RowHandle)
 
 abbrev pub handled : Bool → List ℕ → RowHandle → Outcome → Handled
 handled k schema h o = (o.0, (o.1, handle_after (stored_layout k schema o.1) h o.0))

@@ -8,8 +8,6 @@ ghost use Rattle.row_layout.specs.Layout.{size_in};
 ghost use Rattle.row_format.specs.Header.{is_packed};
 ghost use Rattle.row_handle.specs.Handle.{geometry, handle_after, handle_set, handle_set_null};
 
-use datatype::SchemaCheck;
-use error::Answer;
 use row_layout::RowLayout;
 
 // The geometry of a row of a schema: how many columns, how many Varchars, the bytes of the fixed columns, packed or
@@ -35,7 +33,7 @@ pub struct RowHandle {
 // A call's answer and the handle after it.
 #[derive(Clone, Copy)]
 pub struct Edited {
-    pub answer: Answer,
+    pub answer: error::Result<usize>,
     pub handle: RowHandle,
 }
 
@@ -72,15 +70,20 @@ fn geometry_of(layout: RowLayout, packed: bool) -> HandleLayout
 }
 
 // The handle after a call on a schema of this layout.
-fn handle_after(answer: Answer, layout: RowLayout, buf: &[u8], handle: RowHandle) -> RowHandle
+fn handle_after(
+    answer: error::Result<usize>,
+    layout: RowLayout,
+    buf: &[u8],
+    handle: RowHandle,
+) -> RowHandle
     ensures { result ≡ handle_after (geometry layout (is_packed buf.now)) handle answer }
 {
     match answer {
-        Answer::Done(length) => RowHandle {
+        Ok(length) => RowHandle {
             length,
             layout: geometry_of(layout, is_packed(buf)),
         },
-        Answer::Refused(_) => handle,
+        Err(_) => handle,
     }
 }
 
@@ -99,11 +102,11 @@ pub fn with_value(
 {
     let is_long = row_layout::sort_in(buf, handle.length);
     match datatype::check_schema(schema, is_long) {
-        SchemaCheck::Refused(e) => Edited {
-            answer: Answer::Refused(e),
+        Err(e) => Edited {
+            answer: Err(e),
             handle,
         },
-        SchemaCheck::Good(layout) => {
+        Ok(layout) => {
             let length = handle.length;
             let answer = row_edit::set_checked(schema, layout, buf, length, column, values, text);
             let handle = handle_after(answer, layout, buf, handle);
@@ -119,11 +122,11 @@ pub fn with_null(schema: &[u8], buf: &mut [u8], handle: RowHandle, column: usize
 {
     let is_long = row_layout::sort_in(buf, handle.length);
     match datatype::check_schema(schema, is_long) {
-        SchemaCheck::Refused(e) => Edited {
-            answer: Answer::Refused(e),
+        Err(e) => Edited {
+            answer: Err(e),
             handle,
         },
-        SchemaCheck::Good(layout) => {
+        Ok(layout) => {
             let length = handle.length;
             let answer = row_edit::null_checked(schema, layout, buf, length, column);
             let handle = handle_after(answer, layout, buf, handle);

@@ -1,4 +1,5 @@
 -- The walk that checks a list: the rows that were passed, and what is left.
+use Rattle.std.specs.Prelude.{Err, Ok}
 use Prim.Native.Nat.{ℕ, suc, ◌+◌, ◌-◌, ◌≤◌, ◌<◌}
 use mathlib.Core.Path.{◌≡◌, refl, sym, ap, ◌∙◌}
 use mathlib.Core.List.{List}
@@ -8,24 +9,22 @@ use borrow.Author.Tests.{le-ltb}
 use lib.ListN.{length, drop, length-drop, drop_of_length-le}
 use lib.Seq.{drop-drop}
 use Rattle.error.specs.declared.Refusal.TheVariants.{BadList}
-use Rattle.error.specs.Result.{Result, ok, refused, before}
-use Rattle.row_list.specs.declared.ListCheck.{ListCheck}
-use Rattle.row_list.specs.declared.ListCheck.TheVariants.{Rows, Refused}
+use Rattle.error.specs.Result.{Result, before}
 use Rattle.row_list.specs.Rows.{first_size, first_row, later_rows, rows_from, rows_of}
 use Rattle.row_list.specs.InnerRows.{list_checked}
 use Rattle.row_list.proofs.Rows.{rows_none, rows_full, rows_cut, rows_more}
 
-abbrev onward : ℕ → Result (List (List ℕ)) → ListCheck
-onward k (ok rs) = Rows (k + length rs)
-onward k (refused e) = Refused e
+abbrev onward : ℕ → Result (List (List ℕ)) → Result ℕ
+onward k (Ok rs) = Ok (k + length rs)
+onward k (Err e) = Err e
 
 onward_zero : (x : Result (List (List ℕ))) → onward 0 x ≡ list_checked x
-onward_zero (ok rs) = ap Rows (zero-add (length rs))
-onward_zero (refused e) = refl
+onward_zero (Ok rs) = ap Ok (zero-add (length rs))
+onward_zero (Err e) = refl
 
 onward_more : (k : ℕ) (r : List ℕ) (x : Result (List (List ℕ))) → onward (k + 1) x ≡ onward k (before r x)
-onward_more k r (ok rs) = let e : k + 1 + length rs ≡ k + suc (length rs) = omega arith in ap Rows e
-onward_more k r (refused e) = refl
+onward_more k r (Ok rs) = let e : k + 1 + length rs ≡ k + suc (length rs) = omega arith in ap Ok e
+onward_more k r (Err e) = refl
 
 pub record Checking (most : ℕ) (s : List ℕ) (at rows : ℕ) : Type 0 where
   pub inside : at ≤ length s
@@ -43,17 +42,17 @@ check_start most s h =
     }
 
 module _ {most : ℕ} {s : List ℕ} {at rows : ℕ} (k : Checking most s at rows) where
-  pub check_end : length s ≤ at → Rows rows ≡ list_checked (rows_of most s)
+  pub check_end : length s ≤ at → Ok rows ≡ list_checked (rows_of most s)
   check_end h = rw (drop_of_length-le s {i = at} h, rows_none (most - rows), add-zero) at k.rest
 
   module _ (h : at < length s) where
     left : 0 < length (drop at s)
     left = rw length-drop (omega arith)
 
-    pub check_full : rows ≡ most → Refused BadList ≡ list_checked (rows_of most s)
+    pub check_full : rows ≡ most → Err BadList ≡ list_checked (rows_of most s)
     check_full e = let z : most - rows ≡ 0 = omega arith in rw (z, rows_full (drop at s) left) at k.rest
 
-    pub check_cut : length s < at + (2 + first_size (drop at s)) → Refused BadList ≡ list_checked (rows_of most s)
+    pub check_cut : length s < at + (2 + first_size (drop at s)) → Err BadList ≡ list_checked (rows_of most s)
     check_cut l = rw (rows_cut (most - rows) (drop at s) left (rw length-drop (omega arith))) at k.rest
 
     pub check_more : (rows ≡ most → ⊥) → at + (2 + first_size (drop at s)) ≤ length s → Checking most s (at + (2 + first_size (drop at s))) (rows + 1)

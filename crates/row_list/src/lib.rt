@@ -7,41 +7,34 @@ ghost use Rattle.row_list.specs.InnerRows.{list_checked};
 
 use error::Refusal;
 
-// A list that is whole: how many rows it has.
-#[derive(Clone, Copy)]
-pub enum ListCheck {
-    Rows(usize),
-    Refused(Refusal),
-}
-
 // The most bytes of a list.
 pub const LIST_LIMIT: usize = 32768;
 
 // The list is looked at whole before any of its rows.
-pub fn check(list: &[u8], most: usize) -> ListCheck
+pub fn check(list: &[u8], most: usize) -> error::Result<usize>
     ensures { result ≡ list_checked (rows_of most list.now) }
 {
     let n = list.len();
     if LIST_LIMIT < n {
-        return ListCheck::Refused(Refusal::BadList);
+        return Err(Refusal::BadList);
     }
     let mut at = 0;
     let mut rows = 0;
     while at < n {
         if rows == most {
-            return ListCheck::Refused(Refusal::BadList);
+            return Err(Refusal::BadList);
         }
         if n - at < 2 {
-            return ListCheck::Refused(Refusal::BadList);
+            return Err(Refusal::BadList);
         }
         let end = row_end(list, at);
         if n < end {
-            return ListCheck::Refused(Refusal::BadList);
+            return Err(Refusal::BadList);
         }
         at = end;
         rows += 1;
     }
-    ListCheck::Rows(rows)
+    Ok(rows)
 }
 
 // Where the row ends whose length stands at a place.

@@ -1,4 +1,6 @@
 -- A fixed column's slot and a column's bit; a column of any type.
+
+use Rattle.error.specs.Result.{Result}
 use Prim.Native.Nat.{ℕ, ◌+◌, ◌-◌, ◌/◌, ◌≤◌, ◌<◌}
 use mathlib.Core.Path.{◌≡◌, refl, sym, ap, ◌∙◌}
 use mathlib.Core.Bool.{Bool, true, false}
@@ -14,7 +16,6 @@ use Rattle.laws.proofs.Bytes.{same-length-splice}
 use Rattle.laws.proofs.Parts.{part-all, part_none}
 use Rattle.laws.proofs.Stores.{sets-left, sets-splice}
 use Rattle.laws.proofs.Truths.{by_cond}
-use Rattle.null_bitmap.specs.declared.BitAnswer.{BitAnswer}
 use Rattle.null_bitmap.specs.InnerBitmap.{flag_put}
 use Rattle.row_format.specs.Places.{bitmap_start, table_start, offset_width}
 use Rattle.row_format.specs.Table.{Cell, bytes}
@@ -54,13 +55,13 @@ slot-stored b bs q n at z l h k d =
 -- ---- a bit
 
 -- y is the answer, and x what the callee leaves of the part that starts at the bitmap, at b
-pub bit-stored : (v n i : ℕ) (r : List ℕ) (y : BitAnswer) (x : List ℕ) {b : ℕ} → b ≡ bitmap_start → i < n
+pub bit-stored : (v n i : ℕ) (r : List ℕ) (y : Result Unit) (x : List ℕ) {b : ℕ} → b ≡ bitmap_start → i < n
     → table_start n ≤ length r → (y, x) ≡ flag_put v n i (take (length r - b) (drop b r))
     → take b r ++ (x ++ drop (length r - b) (drop b r)) ≡ bit_put v i r
 bit-stored v n i r y x e h k f =
     let d = rw e at f in
     let inside : i / 8 < length (drop 4 r) = rw length-drop (omega arith) in
-    let put : x ≡ put_bit_at v i (drop 4 r) = ap (λ (p : BitAnswer × List ℕ). p.1) (rw (part-all r 4, lt-leb n i h, lt-leb (length (drop 4 r)) (i / 8) inside) at d) in
+    let put : x ≡ put_bit_at v i (drop 4 r) = ap (λ (p : Result Unit × List ℕ). p.1) (rw (part-all r 4, lt-leb n i h, lt-leb (length (drop 4 r)) (i / 8) inside) at d) in
     rw (e, put, part_none r 4, append-nil)
 
 -- ---- a column

@@ -209,9 +209,9 @@ fn put_bit(row: &mut [u8], columns: usize, column: usize, null: bool)
 {
     let bitmap = RowLayout::bitmap_offset();
     if null {
-        null_bitmap::set_null(&mut row[bitmap..], columns, column);
+        null_bitmap::set_null(&mut row[bitmap..], columns, column).unwrap();
     } else {
-        null_bitmap::clear_null(&mut row[bitmap..], columns, column);
+        null_bitmap::clear_null(&mut row[bitmap..], columns, column).unwrap();
     }
 }
 

@@ -1,4 +1,6 @@
 -- Whether a column reads, and the walk over the columns that asks it of each.
+use Rattle.error.specs.Result.{Result}
+use Rattle.std.specs.Prelude.{Err, Ok}
 use Prim.Native.Nat.{ℕ, ◌+◌, ◌-◌, ◌≤◌, ◌<◌}
 use mathlib.Core.Path.{◌≡◌, refl, sym, ap, ◌∙◌}
 use mathlib.Core.Bool.{Bool, true, false, cond, false≢true}
@@ -7,9 +9,6 @@ use native.Mathlib.Omega.{arith}
 use borrow.Author.Tests.{ltb-false}
 use lib.Dec.{eqb, ltb}
 use lib.ListN.{length, take, drop, drop_of_length-le}
-use Rattle.error.specs.declared.Flag.{Flag}
-use Rattle.error.specs.declared.Flag.TheVariants.{Is}
-use Rattle.error.specs.Result.{ok, refused}
 use Rattle.laws.specs.Bytes.{entry_at}
 use Rattle.laws.proofs.Truths.{by_cond}
 use Rattle.text_limit.specs.Limit.{fits_text}
@@ -31,8 +30,6 @@ use Rattle.datatype.proofs.Again.{Ahead, ahead-end, ahead-split, ahead-column, a
 use Rattle.value.specs.declared.DataValue.{DataValue}
 use Rattle.value_list.specs.Lists.{Values}
 use Rattle.stored_form.specs.Read.{value_if}
-use Rattle.row_column.specs.declared.ColumnRead.{ColumnRead}
-use Rattle.row_column.specs.declared.ColumnRead.TheVariants.{Value, Refused}
 use Rattle.row_column.specs.Column.{slot_value, varlen_value}
 use Rattle.row_column.specs.InnerWalk.{walked_column}
 use Rattle.row_sound.specs.Sound.{reads}
@@ -75,15 +72,15 @@ range-reads p n i r (Range.Bytes a e) = text_cases (fits_text p n (take (e - a) 
 
 -- ---- the columns: what is left of them decides
 
-passes : (answer : Bool) (c : ColumnRead) (ws : Values) → reads c ≡ true
+passes : (answer : Bool) (c : Result DataValue) (ws : Values) → reads c ≡ true
     → read_all answer (on_column c ws) ≡ read_all answer ws
-passes answer (Value v) (ok vs) h = refl
-passes answer (Value v) (refused e) h = refl
-passes answer (Refused e) ws h = absurd (false≢true h)
+passes answer (Ok v) (Ok vs) h = refl
+passes answer (Ok v) (Err e) h = refl
+passes answer (Err e) ws h = absurd (false≢true h)
 
-stops : (answer : Bool) (c : ColumnRead) (ws : Values) → reads c ≡ false → refusal_in c ≡ read_all answer (on_column c ws)
-stops answer (Value v) ws h = absurd (false≢true (sym h))
-stops answer (Refused e) ws h = refl
+stops : (answer : Bool) (c : Result DataValue) (ws : Values) → reads c ≡ false → refusal_in c ≡ read_all answer (on_column c ws)
+stops answer (Ok v) ws h = absurd (false≢true (sym h))
+stops answer (Err e) ws h = refl
 
 pub record Reading (s : List ℕ) (l : RowLayout) (p : Bool) (r : List ℕ) (start : RowLayout) (answer : Bool)
     (b : RowLayout) (at : ℕ) : Type 0 where
@@ -102,10 +99,10 @@ module _ {s : List ℕ} {l : RowLayout} {p : Bool} {r : List ℕ} {answer : Bool
   read-start w = record { walk = walk_ahead w; rest = refl }
 
   module _ {start b : RowLayout} {at : ℕ} (k : Reading s l p r start answer b at) where
-    abbrev whole : Flag
+    abbrev whole : Result Bool
     whole = read_all answer (walked_read l p (λ i. true) r start (drop start.num_columns (types_in s)))
 
-    pub read-end : length s ≤ at → Is answer ≡ whole
+    pub read-end : length s ≤ at → Ok answer ≡ whole
     read-end h =
         let n : b.num_columns ≡ length (types_in s) = ahead-end k.walk h in
         let none : drop b.num_columns (types_in s) ≡ [] =
@@ -116,7 +113,7 @@ module _ {s : List ℕ} {l : RowLayout} {p : Bool} {r : List ℕ} {answer : Bool
       abbrev t : DataType
       t = type_in (column_record_at s at)
 
-      abbrev column : ColumnRead
+      abbrev column : Result DataValue
       column = walked_column l p b t r
 
       abbrev later : Values

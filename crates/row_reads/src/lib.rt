@@ -13,9 +13,7 @@ ghost use Rattle.row_sound.specs.InnerSlots.{Recorded};
 ghost use Rattle.row_decode.specs.InnerWalk.{walked_read};
 ghost use Rattle.row_reads.specs.InnerReads.{range_reads, refusal_in, read_all, WalkAt};
 
-use datatype::{Record, schema_kinds};
-use error::Flag;
-use row_column::ColumnRead;
+use datatype::schema_kinds;
 use row_layout::{RowLayout, VarlenRange};
 
 // The range of a Varchar that is not marked null, whose n counts bytes or code points.
@@ -107,21 +105,15 @@ fn column_refusal(
     packed: bool,
     before: RowLayout,
     row: &[u8],
-) -> Flag
+) -> error::Result<bool>
     requires { Recorded schema.now at
         × Reachable layout packed before (type_in (column_record_at schema.now at)) row.now }
     ensures { result ≡ refusal_in (walked_column layout packed before
         (type_in (column_record_at schema.now at)) row.now) }
 {
-    match datatype::record_at(schema, at) {
-        Record::Refused(e) => Flag::Refused(e),
-        Record::Column(ty, _) => {
-            match row_column::read_column(layout, packed, before, ty, row) {
-                ColumnRead::Refused(e) => Flag::Refused(e),
-                ColumnRead::Value(_) => Flag::Is(true),
-            }
-        }
-    }
+    let (ty, _) = datatype::record_at(schema, at)?;
+    row_column::read_column(layout, packed, before, ty, row)?;
+    Ok(true)
 }
 
 // The columns from a place of a schema on, which was checked: `answer` if all of them read, else the first refusal.
@@ -134,7 +126,7 @@ pub fn check_columns(
     start: RowLayout,
     from: usize,
     answer: bool,
-) -> Flag
+) -> error::Result<bool>
     requires { Framed schema.now layout packed row.now × WalkAt schema.now start from }
     ensures { result ≡ read_all answer (walked_read layout packed (λ i. true) row.now start
         (drop start.num_columns (types_in schema.now))) }
@@ -149,5 +141,5 @@ pub fn check_columns(
         before = step.before;
         at = step.at;
     }
-    Flag::Is(answer)
+    Ok(answer)
 }

@@ -1,4 +1,7 @@
 -- Two columns that are null or of the same bytes have the same content, whatever their type.
+use Rattle.error.specs.Result.{Result}
+use Rattle.std.specs.Prelude.{None, Ok, Option, Some}
+use Rattle.value.specs.declared.DataValue.{DataValue}
 use Prim.Native.Nat.{ℕ, ◌+◌, ◌-◌, ◌≤◌}
 use mathlib.Core.Path.{◌≡◌, refl, sym, ap, ◌∙◌}
 use mathlib.Core.Bool.{Bool, true, false, cond, false≢true}
@@ -10,7 +13,6 @@ use lib.ListN.{length, take, drop, length-drop}
 use lib.Seq.{length-take-le, drop-drop}
 use Rattle.laws.proofs.Same.{same-eq}
 use Rattle.laws.proofs.Lent.{drop-take}
-use Rattle.error.specs.declared.Flag.TheVariants.{Is}
 use Rattle.row_format.specs.Places.{table_start, start_at, offset_width}
 use Rattle.row_format.proofs.Places.{all_at, start_ge}
 use Rattle.row_layout.specs.declared.RowLayout.{RowLayout}
@@ -23,13 +25,9 @@ use Rattle.datatype.specs.declared.DataType.{DataType}
 use Rattle.datatype.specs.Types.{size_of, alignment_of, is_varlen, shape_of}
 use Rattle.datatype.proofs.Again.{all_aligned}
 use Rattle.value.specs.declared.DataValue.TheVariants.{Null}
-use Rattle.stored_form.specs.declared.SlotRead.{SlotRead}
-use Rattle.stored_form.specs.declared.SlotRead.TheVariants as Slot
 use Rattle.stored_form.specs.Read.{read_slot}
 use Rattle.stored_form.proofs.Anywhere.{both}
 use Rattle.value_same.proofs.Equal.{equal_forms_same}
-use Rattle.row_column.specs.declared.ColumnRead.{ColumnRead}
-use Rattle.row_column.specs.declared.ColumnRead.TheVariants.{Value}
 use Rattle.row_column.specs.Column.{slot_value, read_bytes, varlen_value}
 use Rattle.row_column.specs.InnerWalk.{walked_place, walked_column, Reachable}
 use Rattle.row_sound.specs.Sound.{reads}
@@ -40,8 +38,8 @@ use Rattle.row_same.specs.InnerStored.{alike_ranges, range_in, fixed_in, fixed_p
 use Rattle.row_same.specs.InnerStored.{present_alike, stored_alike, Beside}
 
 module _ (t : DataType) (i : ℕ) (a b : List ℕ) where
-  abbrev Same : ColumnRead → ColumnRead → Type 0
-  Same c d = reads c ≡ true → compared t a c b d ≡ Is true
+  abbrev Same : Result DataValue → Result DataValue → Type 0
+  Same c d = reads c ≡ true → compared t a c b d ≡ Ok true
 
   -- the same bytes, from s up to e of row a and from f up to g of row b
   bytes_alike : (s e f g : ℕ) → s ≤ e → e ≤ length a → f ≤ g → g ≤ length b
@@ -58,11 +56,11 @@ module _ (t : DataType) (i : ℕ) (a b : List ℕ) where
       bytes : List ℕ
       bytes = take (e - s) (drop s a)
 
-      of : take (length bytes) (drop s a) ≡ bytes → take (length bytes) (drop f b) ≡ bytes → (x y : SlotRead)
+      of : take (length bytes) (drop s a) ≡ bytes → take (length bytes) (drop f b) ≡ bytes → (x y : Option DataValue)
           → read_slot t s bytes ≡ x → read_slot t f bytes ≡ y → Same (slot_value i x) (slot_value i y)
-      of p q (Slot.Value v) (Slot.Value w) ex ey r = ap Is (equal_forms_same s f bytes a b p q t ex ey)
-      of p q (Slot.Value v) Slot.NoValue ex ey r = absurd (rw (ex, ey) at (both s f bytes t))
-      of p q Slot.NoValue y ex ey r = absurd (false≢true r)
+      of p q (Some v) (Some w) ex ey r = ap Ok (equal_forms_same s f bytes a b p q t ex ey)
+      of p q (Some v) None ex ey r = absurd (rw (ex, ey) at (both s f bytes t))
+      of p q None y ex ey r = absurd (false≢true r)
 
   ranges_alike : (x y : VarlenRange) → Inside a x → Inside b y → alike_ranges a x b y ≡ true
       → Same (varlen_value t i a x) (varlen_value t i b y)
@@ -74,8 +72,8 @@ module _ (t : DataType) (i : ℕ) (a b : List ℕ) where
       bytes_alike s e f g h.0 h.1 k.0 k.1 (same-eq (take (e - s) (drop s a)) (take (g - f) (drop f b)) d)
 
   -- the bits first: both null, or neither
-  marked_alike : (x y alike : Bool) (c d : ColumnRead) → (alike ≡ true → Same c d)
-      → cond x y (cond y false alike) ≡ true → Same (cond x (Value Null) c) (cond y (Value Null) d)
+  marked_alike : (x y alike : Bool) (c d : Result DataValue) → (alike ≡ true → Same c d)
+      → cond x y (cond y false alike) ≡ true → Same (cond x (Ok Null) c) (cond y (Ok Null) d)
   marked_alike true true alike c d h e r = refl
   marked_alike true false alike c d h e r = absurd (false≢true e)
   marked_alike false true alike c d h e r = absurd (false≢true e)
@@ -162,7 +160,7 @@ module _ (x : RowLayout) (t : DataType) where
         sym (slot-part (fixed_in l) (size_in x p) (start p) z a f (h.slot v))
         ∙ rw (d, n) (slot-part (fixed_in m) (size_in x q) (start q) z b g (k.slot v))
 
-    abbrev present : Bool → RowLayout → Bool → List ℕ → ColumnRead
+    abbrev present : Bool → RowLayout → Bool → List ℕ → Result DataValue
     present v n o r =
         cond v (varlen_value t i r (range_in x.num_varlen_cols n r))
         (read_bytes t i r (walked_place n o x t) (walked_place n o x t + size_of t))
@@ -189,7 +187,7 @@ module _ (x : RowLayout) (t : DataType) where
         (rw (so_many s z, so_many u z) (slots_alike v f))
 
     pub stored-alike : stored_alike x y l p a m q b ≡ true → reads (walked_column l p x t a) ≡ true
-        → compared t a (walked_column l p x t a) b (walked_column m q x t b) ≡ Is true
+        → compared t a (walked_column l p x t a) b (walked_column m q x t b) ≡ Ok true
     stored-alike =
         marked_alike t i a b (is_marked x a) (is_marked x b) (present_alike x y l p a m q b) _ _
         (present_alike_lem (is_varlen t) refl)

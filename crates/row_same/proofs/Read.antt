@@ -1,4 +1,5 @@
 -- The call on two rows that read, each of its own sort: what the columns of both say.
+use Rattle.std.specs.Prelude.{Err, Ok}
 use Prim.Native.Nat.{ℕ, zero, suc, ◌<◌}
 use mathlib.Core.Path.{◌≡◌, refl, ap, ap₂, ◌∙◌}
 use mathlib.Core.Bool.{Bool, true}
@@ -6,8 +7,7 @@ use mathlib.Core.List.{List, [], ◌∷◌}
 use native.Mathlib.Omega.{arith}
 use lib.ListN.{length, get_or}
 use Rattle.error.specs.declared.Refusal.{Refusal}
-use Rattle.error.specs.declared.Flag.TheVariants.{Is}
-use Rattle.error.specs.Result.{ok, refused, on_result}
+use Rattle.error.specs.Result.{on_result}
 use Rattle.row_format.specs.Header.{is_long}
 use Rattle.datatype.specs.declared.DataType.{DataType}
 use Rattle.datatype.specs.Types.{length_of}
@@ -27,8 +27,8 @@ use Rattle.row_same.specs.InnerWalk.{both_read}
 pub record ReadsAs (s r : List ℕ) (ts : List DataType) (vs : List DataValue) : Type 0 where
   pub sort : Bool
   pub marked : is_long r ≡ sort
-  pub schema-good : schema_of sort s ≡ ok ts
-  pub all_read : all_columns sort ts r ≡ ok vs
+  pub schema-good : schema_of sort s ≡ Ok ts
+  pub all_read : all_columns sort ts r ≡ Ok vs
 
 module _ {s r : List ℕ} {ts : List DataType} {vs : List DataValue} (h : ReadsAs s r ts vs) where
   abbrev none : Refusal → List DataType
@@ -42,17 +42,17 @@ module _ {s r : List ℕ} {ts : List DataType} {vs : List DataValue} (h : ReadsA
       on_good h.sort s (ap (checked_schema h.sort) h.schema-good) none all
       ∙ ap (λ (p : Parsed). on_result p none all) h.schema-good
 
-  pub row_read : values_read s r ≡ ok vs
+  pub row_read : values_read s r ≡ Ok vs
   row_read =
-      ap (λ (k : Bool). on_result (schema_of k s) refused (λ us. all_columns k us r)) h.marked
-      ∙ ap (λ (p : Parsed). on_result p refused (λ us. all_columns h.sort us r)) h.schema-good
+      ap (λ (k : Bool). on_result (schema_of k s) Err (λ us. all_columns k us r)) h.marked
+      ∙ ap (λ (p : Parsed). on_result p Err (λ us. all_columns h.sort us r)) h.schema-good
       ∙ h.all_read
 
 pub rows-read : {s a b : List ℕ} {ts : List DataType} {vs us : List DataValue} → ReadsAs s a ts vs → ReadsAs s b ts us
-    → same_call s a b ≡ Is (same_values ts a vs b us)
+    → same_call s a b ≡ Ok (same_values ts a vs b us)
 rows-read {s} {a} {b} {ts} {vs} {us} h k =
     ap₂ (λ (x y : Values). both_read (types_in s) a x b y) (row_read h) (row_read k)
-    ∙ ap (λ (x : List DataType). Is (same_values x a vs b us)) (types_are h)
+    ∙ ap (λ (x : List DataType). Ok (same_values x a vs b us)) (types_are h)
 
 -- ---- column by column
 
@@ -73,5 +73,5 @@ module _ (a b : List ℕ) where
 -- two rows of any sorts, as a short one and its long twin
 pub twins_same : {s a b : List ℕ} {ts : List DataType} {vs us : List DataValue} → ReadsAs s a ts vs → ReadsAs s b ts us
     → length vs ≡ length ts → length us ≡ length ts → ((i : ℕ) → i < length ts → SameAt a b ts vs us i)
-    → same_call s a b ≡ Is true
-twins_same {s} {a} {b} {ts} {vs} {us} h k m n same = rows-read h k ∙ ap Is (values_same a b ts vs us m n same)
+    → same_call s a b ≡ Ok true
+twins_same {s} {a} {b} {ts} {vs} {us} h k m n same = rows-read h k ∙ ap Ok (values_same a b ts vs us m n same)

@@ -1,4 +1,6 @@
 -- A value that was read from a column has its text in the row, as the comparison of values requires.
+use Rattle.std.specs.Prelude.{None, Ok, Option, Some}
+use Rattle.value.specs.declared.DataValue.{DataValue}
 use Prim.Native.Nat.{ℕ, ◌+◌, ◌-◌, ◌≤◌}
 use mathlib.Core.Path.{◌≡◌, refl, sym, ◌∙◌}
 use mathlib.Core.Bool.{Bool, true, false, false≢true}
@@ -21,23 +23,20 @@ use Rattle.datatype.specs.Types.{size_of, is_varlen, length_of}
 use Rattle.value.specs.declared.DataValue.TheVariants.{Null}
 use Rattle.value_same.specs.InnerFields.{stands_in}
 use Rattle.value_same.proofs.Read.{read_stands}
-use Rattle.stored_form.specs.declared.SlotRead.{SlotRead}
-use Rattle.stored_form.specs.declared.SlotRead.TheVariants as Slot
 use Rattle.stored_form.specs.Read.{read_slot}
-use Rattle.row_column.specs.declared.ColumnRead.TheVariants.{Value}
 use Rattle.row_column.specs.Column.{slot_value, read_bytes, varlen_value}
 use Rattle.row_column.specs.InnerWalk.{walked_place, walked_column, Reachable}
 use Rattle.row_reads.proofs.Reading.{range_inside}
 use Rattle.row_same.specs.InnerWalk.{Stands}
 
 module _ (t : DataType) (r : List ℕ) where
-  null_stands : Stands t r (Value Null)
+  null_stands : Stands t r (Ok Null)
   null_stands = rw (le-leb 0 (length r) (omega arith))
 
-  slot_stands : (i : ℕ) (s : SlotRead) → ((v : _) → s ≡ Slot.Value v → stands_in (length_of t) v r ≡ true)
+  slot_stands : (i : ℕ) (s : Option DataValue) → ((v : _) → s ≡ Some v → stands_in (length_of t) v r ≡ true)
       → Stands t r (slot_value i s)
-  slot_stands i (Slot.Value v) h = h v refl
-  slot_stands i Slot.NoValue h = tt
+  slot_stands i (Some v) h = h v refl
+  slot_stands i None h = tt
 
   bytes_stand : (i a e : ℕ) → a ≤ e → e ≤ length r → (is_varlen t ≡ false → e - a ≡ size_of t)
       → Stands t r (read_bytes t i r a e)
@@ -60,7 +59,7 @@ column_stands {l} {p} {b} {t} {r} h =
     let v : ℕ = l.num_varlen_cols in
     let k : ℕ = b.num_varlen_cols in
     let at : ℕ = walked_place l p b t in
-    by_cond (Stands t r) (eqb (bit_at i (drop bitmap_start r)) 1) (Value Null) _ (λ z. null_stands t r)
+    by_cond (Stands t r) (eqb (bit_at i (drop bitmap_start r)) 1) (Ok Null) _ (λ z. null_stands t r)
     (λ z. by_cond (Stands t r) (is_varlen t) _ _
     (λ f. range_stands t r f i (varlen_range w table v k r) (range_inside w table v k r))
     (λ f. bytes_stand t r i at (at + size_of t) (omega arith) (h.slot f) (λ g. omega arith)))

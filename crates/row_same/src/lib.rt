@@ -21,9 +21,7 @@ ghost use Rattle.row_same.specs.InnerWalk.{compared_with, compared_at, walked_al
 ghost use Rattle.row_same.specs.InnerWalk.{AllRead, Stands};
 ghost use Rattle.row_same.specs.InnerStored.{alike_ranges, range_in, fixed_part, stored_alike, Ranked, Beside};
 
-use datatype::{DataType, Record, SchemaCheck};
-use error::Flag;
-use row_column::{ColumnRead, Frame};
+use datatype::DataType;
 use row_layout::{RowLayout, VarlenRange};
 use value::DataValue;
 
@@ -140,14 +138,18 @@ fn same_stored(
 }
 
 // The column's value v in row a against what the column of row b reads as.
-fn compare(ty: DataType, v: DataValue, a: &[u8], column: ColumnRead, b: &[u8]) -> Flag
+fn compare(
+    ty: DataType,
+    v: DataValue,
+    a: &[u8],
+    column: error::Result<DataValue>,
+    b: &[u8],
+) -> error::Result<bool>
     requires { (stands_in (length_of ty) v a.now ≡ true) × Stands ty b.now column }
     ensures { result ≡ compared_with ty v a.now column b.now }
 {
-    match column {
-        ColumnRead::Refused(e) => Flag::Refused(e),
-        ColumnRead::Value(w) => Flag::Is(value_same::same_content(ty, v, a, w, b)),
-    }
+    let w = column?;
+    Ok(value_same::same_content(ty, v, a, w, b))
 }
 
 fn compare_values(
@@ -159,17 +161,13 @@ fn compare_values(
     other: RowLayout,
     q: bool,
     b: &[u8],
-) -> Flag
+) -> error::Result<bool>
     requires { Reachable layout p before ty a.now × Reachable other q before ty b.now }
     ensures { result ≡ compared_at ty before layout p a.now other q b.now }
 {
-    match row_column::read_column(layout, p, before, ty, a) {
-        ColumnRead::Refused(e) => Flag::Refused(e),
-        ColumnRead::Value(v) => {
-            let column = row_column::read_column(other, q, before, ty, b);
-            compare(ty, v, a, column, b)
-        }
-    }
+    let v = row_column::read_column(layout, p, before, ty, a)?;
+    let column = row_column::read_column(other, q, before, ty, b);
+    compare(ty, v, a, column, b)
 }
 
 // The column whose record stands at a place of the schema, by its values.
@@ -183,17 +181,15 @@ fn compare_column(
     other: RowLayout,
     q: bool,
     b: &[u8],
-) -> Flag
+) -> error::Result<bool>
     requires { Recorded schema.now at
         × (Reachable layout p before (type_in (column_record_at schema.now at)) a.now
         × Reachable other q before (type_in (column_record_at schema.now at)) b.now) }
     ensures { result ≡ compared_at (type_in (column_record_at schema.now at)) before
         layout p a.now other q b.now }
 {
-    match datatype::record_at(schema, at) {
-        Record::Refused(e) => Flag::Refused(e),
-        Record::Column(ty, _) => compare_values(ty, before, layout, p, a, other, q, b),
-    }
+    let (ty, _) = datatype::record_at(schema, at)?;
+    compare_values(ty, before, layout, p, a, other, q, b)
 }
 
 // All columns. The schema was checked, so that no record of it is refused here, and every column of row a reads.
@@ -206,7 +202,7 @@ fn compare_columns(
     other: RowLayout,
     q: bool,
     b: &[u8],
-) -> Flag
+) -> error::Result<bool>
     requires { Framed schema.now layout p a.now × (Framed schema.now other q b.now
         × AllRead (walked_all (types_in schema.now) layout a.now p)) }
     ensures { result ≡ both_read (types_in schema.now)
@@ -220,21 +216,15 @@ fn compare_columns(
         let after = step.before;
         let next = step.at;
         if !same_stored(before, after, layout, p, a, other, q, b) {
-            match compare_column(schema, at, before, layout, p, a, other, q, b) {
-                Flag::Refused(e) => {
-                    return Flag::Refused(e);
-                }
-                Flag::Is(same) => {
-                    if !same {
-                        return row_reads::check_columns(schema, other, q, b, after, next, false);
-                    }
-                }
+            let same = compare_column(schema, at, before, layout, p, a, other, q, b)?;
+            if !same {
+                return row_reads::check_columns(schema, other, q, b, after, next, false);
             }
         }
         before = after;
         at = next;
     }
-    Flag::Is(true)
+    Ok(true)
 }
 
 // Every column of row a reads, and the schema is good for rows of the sort of b.
@@ -245,17 +235,15 @@ fn compare_framed(
     a: &[u8],
     other: RowLayout,
     b: &[u8],
-) -> Flag
+) -> error::Result<bool>
     requires { Framed schema.now layout p a.now × (Accepted schema.now other
         × AllRead (walked_all (types_in schema.now) layout a.now p)) }
     ensures { result ≡ both_read (types_in schema.now)
         a.now (walked_all (types_in schema.now) layout a.now p)
         b.now (walked_row (types_in schema.now) other b.now) }
 {
-    match row_column::check_frame(other, b) {
-        Frame::Refused(e) => Flag::Refused(e),
-        Frame::Good(q) => compare_columns(schema, layout, p, a, other, q, b),
-    }
+    let q = row_column::check_frame(other, b)?;
+    compare_columns(schema, layout, p, a, other, q, b)
 }
 
 // Every column of row a reads. The schema was checked for its sort; only the limit of a sort is left for that of b.
@@ -266,17 +254,15 @@ fn compare_second(
     a: &[u8],
     other: RowLayout,
     b: &[u8],
-) -> Flag
+) -> error::Result<bool>
     requires { Framed schema.now layout p a.now × (Accepted schema.now other
         × AllRead (walked_all (types_in schema.now) layout a.now p)) }
     ensures { result ≡ both_read (types_in schema.now)
         a.now (walked_all (types_in schema.now) layout a.now p)
         b.now (limited_row schema.now other b.now) }
 {
-    match datatype::finish(other, schema.len()) {
-        SchemaCheck::Refused(e) => Flag::Refused(e),
-        SchemaCheck::Good(_) => compare_framed(schema, layout, p, a, other, b),
-    }
+    datatype::finish(other, schema.len())?;
+    compare_framed(schema, layout, p, a, other, b)
 }
 
 // The first row's header is good.
@@ -287,40 +273,38 @@ fn compare_read(
     a: &[u8],
     other: RowLayout,
     b: &[u8],
-) -> Flag
+) -> error::Result<bool>
     requires { Framed schema.now layout p a.now × Accepted schema.now other }
     ensures { result ≡ both_read (types_in schema.now)
         a.now (walked_all (types_in schema.now) layout a.now p)
         b.now (limited_row schema.now other b.now) }
 {
-    match row_reads::check_columns(schema, layout, p, a, RowLayout::new(), 0, true) {
-        Flag::Refused(e) => Flag::Refused(e),
-        Flag::Is(_) => compare_second(schema, layout, p, a, other, b),
-    }
+    row_reads::check_columns(schema, layout, p, a, RowLayout::new(), 0, true)?;
+    compare_second(schema, layout, p, a, other, b)
 }
 
-fn compare_rows(schema: &[u8], layout: RowLayout, a: &[u8], other: RowLayout, b: &[u8]) -> Flag
+fn compare_rows(
+    schema: &[u8],
+    layout: RowLayout,
+    a: &[u8],
+    other: RowLayout,
+    b: &[u8],
+) -> error::Result<bool>
     requires { Accepted schema.now layout × Accepted schema.now other }
     ensures { result ≡ both_read (types_in schema.now)
         a.now (walked_row (types_in schema.now) layout a.now)
         b.now (limited_row schema.now other b.now) }
 {
-    match row_column::check_frame(layout, a) {
-        Frame::Refused(e) => Flag::Refused(e),
-        Frame::Good(p) => compare_read(schema, layout, p, a, other, b),
-    }
+    let p = row_column::check_frame(layout, a)?;
+    compare_read(schema, layout, p, a, other, b)
 }
 
 // Whether two rows have the same content, each of the sort that its own mark tells.
-pub fn same_content(schema: &[u8], a: &[u8], b: &[u8]) -> Flag
+pub fn same_content(schema: &[u8], a: &[u8], b: &[u8]) -> error::Result<bool>
     ensures { result ≡ same_call schema.now a.now b.now }
 {
     let is_long = row_layout::is_long(a);
-    match datatype::check_schema(schema, is_long) {
-        SchemaCheck::Refused(e) => Flag::Refused(e),
-        SchemaCheck::Good(layout) => {
-            let other = layout.of_sort(row_layout::is_long(b));
-            compare_rows(schema, layout.of_sort(is_long), a, other, b)
-        }
-    }
+    let layout = datatype::check_schema(schema, is_long)?;
+    let other = layout.of_sort(row_layout::is_long(b));
+    compare_rows(schema, layout.of_sort(is_long), a, other, b)
 }

@@ -1,4 +1,5 @@
 -- Every packed row of accepted values is sound.
+use Rattle.std.specs.Prelude.{Ok}
 use Prim.Native.Nat.{ℕ, ◌+◌, ◌%◌, ◌^◌, ◌≤◌, ◌<◌}
 use mathlib.Core.Path.{◌≡◌, refl, sym, ap, ◌∙◌, subst}
 use mathlib.Core.Bool.{Bool, true, false, cond}
@@ -32,7 +33,6 @@ use Rattle.datatype.specs.Check.{type_at}
 use Rattle.value.specs.Ranges.{text_of}
 use Rattle.stored_form.proofs.Lengths.{accepted-suits, length-stored}
 use Rattle.stored_form.proofs.ReadBack.{read-stored}
-use Rattle.row_column.specs.declared.Frame.TheVariants.{Good}
 use Rattle.row_format.specs.Header.{column_count, varlen_field, is_packed}
 use Rattle.row_column.specs.Frame.{frame_of}
 use Rattle.row_column.proofs.Walk.{shape_at}
@@ -84,7 +84,7 @@ written-slot t (some b) slot e h = rw (h b refl) e
 pub good-frame : (k : Bool) (ts : List DataType) (p : Bool) (r : List ℕ) → length r ≤ row_limit k → column_count r
     ≡ length ts
     → varlen_field r % least_mark k ≡ varlens (map shape_of ts) → is_packed r ≡ p
-    → minimum (offset_width k) p (map shape_of ts) ≤ length r → frame_of k ts r ≡ Good p
+    → minimum (offset_width k) p (map shape_of ts) ≤ length r → frame_of k ts r ≡ Ok p
 good-frame k ts p r a n v f m =
     let h : 4 ≤ length r = omega arith in
     rw (
@@ -182,7 +182,7 @@ module _ (w marks : ℕ) {ts : List DataType} {cs : List Cell} {slots : List (Li
 -- its header is read back, with the marks of its sort
 pub cells-frame : (k : Bool) {ts : List DataType} {cs : List Cell} {slots : List (List ℕ)} → Forall₂ Writes ts cs → Forall₂ FitsSlot (map shape_of ts) slots → Agree (map shape_of ts) cs slots → length ts ≤ 256
     → length (row_with (offset_width k) (header (packed_marks k) (map shape_of ts)) (map shape_of ts) cs slots) ≤ row_limit k
-    → frame_of k ts (row_with (offset_width k) (header (packed_marks k) (map shape_of ts)) (map shape_of ts) cs slots) ≡ Good true
+    → frame_of k ts (row_with (offset_width k) (header (packed_marks k) (map shape_of ts)) (map shape_of ts) cs slots) ≡ Ok true
 cells-frame k {ts} {cs} {slots} written fit agree few short =
     let ss : List Shape = map shape_of ts in
     let row : List ℕ = row_with (offset_width k) (header (packed_marks k) ss) ss cs slots in

@@ -1,4 +1,6 @@
 -- What is known of a column by the kind of its record.
+use Rattle.error.specs.Result.{Result}
+use Rattle.std.specs.Prelude.{Err, Ok}
 use Prim.Native.Nat.{ℕ, ◌+◌, ◌≤◌, ◌<◌}
 use mathlib.Core.Path.{◌≡◌, refl, sym, ap, ◌∙◌, subst}
 use mathlib.Core.Bool.{Bool, true, false, cond}
@@ -13,8 +15,6 @@ use Rattle.laws.specs.Bytes.{from_le}
 use Rattle.row_layout.specs.declared.RowLayout.{RowLayout}
 use Rattle.datatype.specs.declared.DataType.{DataType}
 use Rattle.datatype.specs.declared.DataType.TheVariants as T
-use Rattle.datatype.specs.declared.Record.{Record}
-use Rattle.datatype.specs.declared.Record.TheVariants.{Column, Refused}
 use Rattle.datatype.specs.Types.{size_of, alignment_of, is_varlen}
 use Rattle.datatype.specs.Schema.{Kind, unknown, plain, sized, digits, column_kind, good_digits, column_record_of, column_record_at}
 use Rattle.datatype.specs.InnerSteps.{plain_size, plain_type, is_varchar_kind, type_in}
@@ -123,20 +123,20 @@ module _ (s : List ℕ) (at k : ℕ) where
       (fixed-line (eqb k 14) (sized T.Bit) _ refl
       (fixed-line (eqb k 15) (plain T.Timestamp) unknown refl refl))))))))))))))
 
-abbrev IsColumn : Record → Type 0
-IsColumn (Column t next) = Unit {0}
-IsColumn (Refused r) = ⊥
+abbrev IsColumn : Result (DataType × ℕ) → Type 0
+IsColumn (Ok (t, next)) = Unit {0}
+IsColumn (Err r) = ⊥
 
 record Body (s : List ℕ) (at : ℕ) (q : Kind) : Type 0 where
   there : at + 3 ≤ length s
-  says : column_record_of q s at ≡ Column (body_type s at q) (at + 3)
+  says : column_record_of q s at ≡ Ok ((body_type s at q), (at + 3))
 
 module _ (s : List ℕ) (at : ℕ) where
-  word_body : (t : ℕ → DataType) (b : Bool) → ltb (length s) (at + 3) ≡ b → IsColumn (cond b (Refused (BadRecord at)) (Column (t (from_le (take 2 (drop (at + 1) s)))) (at + 3))) → Body s at (sized t)
+  word_body : (t : ℕ → DataType) (b : Bool) → ltb (length s) (at + 3) ≡ b → IsColumn (cond b (Err (BadRecord at)) (Ok ((t (from_le (take 2 (drop (at + 1) s)))), (at + 3)))) → Body s at (sized t)
   word_body t true e h = absurd h
   word_body t false e h = record { there = ltb-false (length s) (at + 3) e; says = rw e }
 
-  pair_body : (t : ℕ → ℕ → DataType) (b c : Bool) → ltb (length s) (at + 3) ≡ b → good_digits (get_or s (at + 1) 0) (get_or s (at + 2) 0) ≡ c → IsColumn (cond b (Refused (BadRecord at)) (cond c (Column (t (get_or s (at + 1) 0) (get_or s (at + 2) 0)) (at + 3)) (Refused (BadSchema at)))) → Body s at (digits t)
+  pair_body : (t : ℕ → ℕ → DataType) (b c : Bool) → ltb (length s) (at + 3) ≡ b → good_digits (get_or s (at + 1) 0) (get_or s (at + 2) 0) ≡ c → IsColumn (cond b (Err (BadRecord at)) (cond c (Ok ((t (get_or s (at + 1) 0) (get_or s (at + 2) 0)), (at + 3))) (Err (BadSchema at)))) → Body s at (digits t)
   pair_body t true c e f h = absurd h
   pair_body t false true e f h = record { there = ltb-false (length s) (at + 3) e; says = rw (e, f) }
   pair_body t false false e f h = absurd h
@@ -148,7 +148,7 @@ module _ (s : List ℕ) (at : ℕ) where
 
 pub record Bodily (s : List ℕ) (at k : ℕ) : Type 0 where
   pub long : at + 3 ≤ length s
-  pub is : column_record_at s at ≡ Column (body_type s at (column_kind k)) (at + 3)
+  pub is : column_record_at s at ≡ Ok ((body_type s at (column_kind k)), (at + 3))
 
 -- the record at a place, whose kind is k
 pub bodily : {s : List ℕ} {at k : ℕ} → k ≡ get_or s at 0 → plain_size (column_kind k) ≡ 0 → Recorded s at → Bodily s at k
@@ -167,11 +167,11 @@ typed_as {s} {at} b e = body_typed b ∙ ap (λ (i : ℕ). body_type s at (colum
 pub varchar-typed : {s : List ℕ} {at k : ℕ} → Bodily s at k → is_varchar_kind k ≡ true → type_in (column_record_at s at) ≡ T.Varchar (eqb k 16) (from_le (take 2 (drop (at + 1) s)))
 varchar-typed {s} {at} {k} b e = body_typed b ∙ ap (body_type s at) (varchar-kind k e)
 
-pub recorded-good : {s : List ℕ} {at : ℕ} → Recorded s at → {e : Refusal} → column_record_at s at ≡ Refused e → ⊥
+pub recorded-good : {s : List ℕ} {at : ℕ} → Recorded s at → {e : Refusal} → column_record_at s at ≡ Err e → ⊥
 recorded-good c e = subst IsColumn (sym c.is ∙ e) tt
 
 -- a record that the walk has come to
 pub recorded : {s : List ℕ} {b : RowLayout} {at : ℕ} → Ahead s b at → at < length s → Recorded s at
 recorded w h =
     let n = ahead-column w h in
-    record { inside = h; next = n.next; is = n.is ∙ ap (λ (t : DataType). Column t n.next) (sym (ap type_in n.is)) }
+    record { inside = h; next = n.next; is = n.is ∙ ap (λ (t : DataType). Ok (t, n.next)) (sym (ap type_in n.is)) }

@@ -1,4 +1,5 @@
 -- The walk over the columns: the columns that are left decide.
+use Rattle.std.specs.Prelude.{Ok}
 use Prim.Native.Nat.{ℕ, ◌≤◌, ◌<◌}
 use mathlib.Core.Path.{◌≡◌, refl, sym, ap, subst}
 use mathlib.Core.Bool.{Bool, true, false}
@@ -8,7 +9,6 @@ use lib.ListN.{length, drop, drop_of_length-le}
 use Rattle.row_layout.specs.declared.RowLayout.{RowLayout}
 use Rattle.row_layout.specs.InnerLayout.{Bounded, no_columns, with_column}
 use Rattle.datatype.specs.declared.DataType.{DataType}
-use Rattle.datatype.specs.declared.Record.TheVariants.{Column}
 use Rattle.datatype.specs.declared.Step.{Step}
 use Rattle.datatype.specs.Types.{shape_of}
 use Rattle.datatype.specs.Schema.{column_record_at}
@@ -33,7 +33,7 @@ module _ {s : List ℕ} {l : RowLayout} {p : Bool} {r : List ℕ} {b : RowLayout
       let none : drop b.num_columns (types_in s) ≡ [] = drop_of_length-le (types_in s) {i = b.num_columns} (omega (arith, n)) in
       rw none at k.rest
 
-  module _ (h : at < length s) {t : DataType} {next : ℕ} (e : column_record_at s at ≡ Column t next) where
+  module _ (h : at < length s) {t : DataType} {next : ℕ} (e : column_record_at s at ≡ Ok (t, next)) where
     pub check_more : walked_sound l p b t r ≡ true → Bounded (with_column b (shape_of t)) → Checking s l p r (with_column b (shape_of t)) next
     check_more q small = record { walk = ahead_more k.walk h e small; rest = rw (ahead-split k.walk h e, q) at k.rest }
 

@@ -1,4 +1,5 @@
 -- The columns of a sound row by their numbers, and its offsets, which rise.
+use Rattle.std.specs.Prelude.{Ok}
 use Prim.Native.Nat.{ℕ, zero, suc, ◌+◌, ◌≤◌, ◌<◌}
 use mathlib.Core.Path.{◌≡◌, refl, sym, ap, ◌∙◌}
 use mathlib.Core.Bool.{Bool, true, false, cond, false≢true}
@@ -27,7 +28,6 @@ use Rattle.datatype.specs.declared.DataType.{DataType}
 use Rattle.datatype.specs.Types.{is_varlen, shape_of}
 use Rattle.datatype.specs.Check.{type_at}
 use Rattle.value.specs.declared.DataValue.TheVariants.{Null}
-use Rattle.row_column.specs.declared.ColumnRead.TheVariants.{Value}
 use Rattle.row_column.specs.Column.{varlen_value, column_value}
 use Rattle.row_column.proofs.Walk.{shape_at}
 use Rattle.row_sound.specs.Sound.{reads, zero_if_null, sound_column, sound_from, first_payload, is_sound_in}
@@ -59,7 +59,7 @@ part-rises : (t : DataType) (i n a e : ℕ) (r : List ℕ) → reads (varlen_val
 part-rises t i n a e r =
     by_cond (λ (x : VarlenRange). reads (varlen_value t i r x) ≡ true → a ≤ e) (ltb e a) Range.Outside (cond (ltb n e) Range.Outside (Range.Bytes a e)) (λ _ f. absurd (false≢true f)) (λ q _. ltb-false e a q)
 
-range-rises : (w : ℕ) (t : DataType) (i table v k o : ℕ) (r : List ℕ) (null : Bool) → entry_at w table k r ≡ o → 0 < o → reads (cond null (Value Null) (varlen_value t i r (varlen_range w table v k r))) ≡ true → zero_if_null o null ≡ true
+range-rises : (w : ℕ) (t : DataType) (i table v k o : ℕ) (r : List ℕ) (null : Bool) → entry_at w table k r ≡ o → 0 < o → reads (cond null (Ok Null) (varlen_value t i r (varlen_range w table v k r))) ≡ true → zero_if_null o null ≡ true
     → o ≤ range_end w table v k r
 range-rises w t i table v k o r true q h f z = absurd (omega (arith, eqb-true o 0 z))
 range-rises w t i table v k o r false q h f z =

@@ -1,4 +1,6 @@
 -- What a column's bytes read as, wherever they stand in a row.
+use Rattle.error.specs.Result.{Result}
+use Rattle.std.specs.Prelude.{Err, None, Ok, Option, Some}
 use Prim.Native.Nat.{ℕ, ◌<◌}
 use mathlib.Core.Path.{◌≡◌, refl, sym, ap, ◌∙◌}
 use mathlib.Core.Bool.{Bool, true, false, cond, false≢true}
@@ -18,16 +20,12 @@ use Rattle.datatype.specs.Types.{is_varlen}
 use Rattle.value.specs.declared.DataValue.{DataValue}
 use Rattle.value.specs.declared.DataValue.TheVariants as D
 use Rattle.value.specs.Ranges.{part, text_of}
-use Rattle.stored_form.specs.declared.SlotRead.{SlotRead}
-use Rattle.stored_form.specs.declared.SlotRead.TheVariants as Slot
 use Rattle.stored_form.specs.Write.{stored_form}
 use Rattle.stored_form.specs.Read.{value_if, whole, read_slot}
 use Rattle.stored_form.specs.ReadBack.{read_back, has_text}
 use Rattle.stored_form.proofs.Lengths.{accepted-suits}
 use Rattle.stored_form.proofs.Anywhere.{Twins, alike, char, varchar, bit, Both, both}
 use Rattle.stored_form.proofs.ReadBack.{read-stored, text-stored}
-use Rattle.row_column.specs.declared.ColumnRead.{ColumnRead}
-use Rattle.row_column.specs.declared.ColumnRead.TheVariants.{Value, Refused}
 use Rattle.row_column.specs.Column.{slot_value}
 use Rattle.row_sound.specs.Sound.{reads, zero_if_null}
 use Rattle.row_sound.specs.Written.{Writes, null, form}
@@ -36,13 +34,13 @@ use Rattle.row_sound.specs.Laid.{held_content, held_value, is_form, sound_cell, 
 
 -- ---- bytes that are a value, wherever they stand
 
-reads-slot : (i : ℕ) (s : SlotRead) → reads (slot_value i s) ≡ is_value s
-reads-slot i (Slot.Value v) = refl
-reads-slot i Slot.NoValue = refl
+reads-slot : (i : ℕ) (s : Option DataValue) → reads (slot_value i s) ≡ is_value s
+reads-slot i (Some v) = refl
+reads-slot i None = refl
 
-pub reads-content : (r : List ℕ) (c : ColumnRead) → reads (content r c).0 ≡ reads c
-reads-content r (Value v) = refl
-reads-content r (Refused e) = refl
+pub reads-content : (r : List ℕ) (c : Result DataValue) → reads (content r c).0 ≡ reads c
+reads-content r (Ok v) = refl
+reads-content r (Err e) = refl
 
 cond_itself : (x : Bool) → cond x true false ≡ x
 cond_itself true = refl
@@ -50,20 +48,20 @@ cond_itself false = refl
 
 -- the same wherever they stand, but for the start of a text's range
 module _ (i at : ℕ) (r bs : List ℕ) (stand : take (length bs) (drop at r) ≡ bs) where
-  with_text : (v : DataValue) → ◌≡◌ {A = Content} (Value v, take (length bs) (drop at r)) (Value v, take (length bs) bs)
-  with_text v = ap (λ (x : List ℕ). (Value v, x)) (stand ∙ sym (take_all (length bs) bs (omega arith)))
+  with_text : (v : DataValue) → ◌≡◌ {A = Content} (Ok v, take (length bs) (drop at r)) (Ok v, take (length bs) bs)
+  with_text v = ap (λ (x : List ℕ). (Ok v, x)) (stand ∙ sym (take_all (length bs) bs (omega arith)))
 
-  content_twins : {v w : DataValue} → Twins at 0 bs v w → content r (Value v) ≡ content bs (Value w)
-  content_twins {v} (alike e) = ap (λ (x : List ℕ). ((content r (Value v)).0, x)) (ap (part r) e ∙ ap (part bs) (sym e))
+  content_twins : {v w : DataValue} → Twins at 0 bs v w → content r (Ok v) ≡ content bs (Ok w)
+  content_twins {v} (alike e) = ap (λ (x : List ℕ). ((content r (Ok v)).0, x)) (ap (part r) e ∙ ap (part bs) (sym e))
   content_twins char = with_text (D.Char (whole 0 bs))
   content_twins varchar = with_text (D.Varchar (whole 0 bs))
   content_twins bit = with_text (D.Bit (whole 0 bs))
 
-  content_both : (x y : SlotRead) → Both at 0 bs x y → content r (slot_value i x) ≡ content bs (slot_value i y)
-  content_both (Slot.Value v) (Slot.Value w) h = content_twins h
-  content_both (Slot.Value v) Slot.NoValue h = absurd h
-  content_both Slot.NoValue (Slot.Value w) h = absurd h
-  content_both Slot.NoValue Slot.NoValue h = refl
+  content_both : (x y : Option DataValue) → Both at 0 bs x y → content r (slot_value i x) ≡ content bs (slot_value i y)
+  content_both (Some v) (Some w) h = content_twins h
+  content_both (Some v) None h = absurd h
+  content_both None (Some w) h = absurd h
+  content_both None None h = refl
 
   content_anywhere : (t : DataType) → content r (slot_value i (read_slot t at bs)) ≡ content bs (slot_value i (read_slot t 0 bs))
   content_anywhere t = content_both (read_slot t at bs) (read_slot t 0 bs) (both at 0 bs t)
@@ -93,7 +91,7 @@ null-held t i none = refl
 null-held t i (some b) = refl
 
 -- a stored form that is read back
-stored-content : (t : DataType) (v : DataValue) (x b : List ℕ) → (has_text v ≡ true → text_of b (read_back t 0 v x) ≡ b) → content b (Value (read_back t 0 v x)) ≡ (Value (read_back t 0 v x), cond (has_text v) b [])
+stored-content : (t : DataType) (v : DataValue) (x b : List ℕ) → (has_text v ≡ true → text_of b (read_back t 0 v x) ≡ b) → content b (Ok (read_back t 0 v x)) ≡ (Ok (read_back t 0 v x), cond (has_text v) b [])
 stored-content t D.Null x b h = refl
 stored-content t (D.SmallInt z) x b h = refl
 stored-content t (D.Int z) x b h = refl
@@ -102,11 +100,11 @@ stored-content t (D.Real z) x b h = refl
 stored-content t (D.DoublePrecision z) x b h = refl
 stored-content t (D.Numeric n) x b h = refl
 stored-content t (D.Bool z) x b h = refl
-stored-content t (D.Char r) x b h = ap (λ (y : List ℕ). (Value (read_back t 0 (D.Char r) x), y)) (h refl)
-stored-content t (D.Varchar r) x b h = ap (λ (y : List ℕ). (Value (read_back t 0 (D.Varchar r) x), y)) (h refl)
+stored-content t (D.Char r) x b h = ap (λ (y : List ℕ). (Ok (read_back t 0 (D.Char r) x), y)) (h refl)
+stored-content t (D.Varchar r) x b h = ap (λ (y : List ℕ). (Ok (read_back t 0 (D.Varchar r) x), y)) (h refl)
 stored-content t (D.Date z) x b h = refl
 stored-content t (D.Time z) x b h = refl
-stored-content t (D.Bit r) x b h = ap (λ (y : List ℕ). (Value (read_back t 0 (D.Bit r) x), y)) (h refl)
+stored-content t (D.Bit r) x b h = ap (λ (y : List ℕ). (Ok (read_back t 0 (D.Bit r) x), y)) (h refl)
 stored-content t (D.Timestamp z) x b h = refl
 
 pub written-content : {t : DataType} {c : Cell} (i : ℕ) (w : Writes t c) → held_content t i (eqb (null_bit c) 1) c ≡ written_content w
@@ -115,7 +113,7 @@ written-content {t} i (form v area m a z) =
     let x : List ℕ = text_of area v in
     let b : List ℕ = stored_form t v x in
     let s = accepted-suits t v area a in
-    ap (λ (y : SlotRead). content b (slot_value i y)) (read-stored t v x 0 m s z) ∙ stored-content t v x b (λ g. rw append-nil at (text-stored t v x [] [] 0 m s g refl))
+    ap (λ (y : Option DataValue). content b (slot_value i y)) (read-stored t v x 0 m s z) ∙ stored-content t v x b (λ g. rw append-nil at (text-stored t v x [] [] 0 m s g refl))
 
 -- the text of a Varchar is its payload
 varchar-text : (t : DataType) (i : ℕ) (b : List ℕ) → is_varlen t ≡ true → is_form t b ≡ true → (held_content t i false (some b)).1 ≡ b

@@ -1,4 +1,5 @@
 -- Which rows that are laid out of parts are sound: each column by its bit, its slot or its cell.
+use Rattle.std.specs.Prelude.{Ok}
 use Prim.Native.Nat.{ℕ, zero, suc, ◌+◌, ◌*◌, ◌-◌, ◌/◌, ◌≤◌, ◌<◌}
 use mathlib.Core.Path.{◌≡◌, refl, sym, ap, ap₂, ◌∙◌}
 use mathlib.Core.Bool.{Bool, true, false, cond}
@@ -27,7 +28,6 @@ use Rattle.datatype.specs.Types.{size_of, alignment_of, is_varlen, shape_of}
 use Rattle.datatype.specs.Check.{type_at}
 use Rattle.datatype.proofs.Again.{all_aligned}
 use Rattle.value.specs.declared.DataValue.TheVariants as D
-use Rattle.row_column.specs.declared.ColumnRead.TheVariants.{Value}
 use Rattle.row_column.specs.Column.{read_bytes, varlen_value, column_value}
 use Rattle.row_column.proofs.Walk.{shape_at}
 use Rattle.row_sound.specs.Sound.{reads, zero_if_null, sound_column, first_payload, is_sound_in}
@@ -42,7 +42,7 @@ use Rattle.row_sound.proofs.Contents.{reads-content, content-held, cell_sound, s
 module _ (w : ℕ) (t : DataType) (i table v k at : ℕ) (r : List ℕ) (pos : 0 < at) where
   varchar-value : (null : Bool) (c : Cell) → entry_at w table k r ≡ offset c at → range_end w table v k r ≡ at + length (bytes c) → at + length (bytes c) ≤ length r
       → ((b : List ℕ) → c ≡ some b → take (length b) (drop at r) ≡ b)
-      → cond null (Value D.Null) (varlen_value t i r (varlen_range w table v k r)) ≡ held_value t i null at c
+      → cond null (Ok D.Null) (varlen_value t i r (varlen_range w table v k r)) ≡ held_value t i null at c
   varchar-value true none o e l h = refl
   varchar-value false none o e l h = rw o
   varchar-value true (some b) o e l h = refl
@@ -52,7 +52,7 @@ module _ (w : ℕ) (t : DataType) (i table v k at : ℕ) (r : List ℕ) (pos : 0
 
 -- a fixed column whose slot stands at `at`
 slot-value : (t : DataType) (i at : ℕ) (r slot : List ℕ) (null : Bool) → take (size_of t) (drop at r) ≡ slot
-    → cond null (Value D.Null) (read_bytes t i r at (at + size_of t)) ≡ held_value t i null at (some slot)
+    → cond null (Ok D.Null) (read_bytes t i r at (at + size_of t)) ≡ held_value t i null at (some slot)
 slot-value t i at r slot true e = refl
 slot-value t i at r slot false e =
     let size : at + size_of t - at ≡ size_of t = omega arith in
@@ -145,7 +145,7 @@ module _ {w : ℕ} {p : Bool} {ts : List DataType} {head bits region : List ℕ}
           let is = ap₂ (λ (n m : ℕ). range_bytes w n m k row) (sym length_front) (sym q.cells) ∙ range-lay w (head ++ bits) region pos ps k b rank e q.fits in
           rw (end, entry, e, size) at is
 
-      varchar-lay : cond (eqb (bit_at i (drop bitmap_start row)) 1) (Value D.Null) (varlen_value t i row (varlen_range w (table_start (length ss)) (varlens ss) k row)) ≡ held_value t i null at cell
+      varchar-lay : cond (eqb (bit_at i (drop bitmap_start row)) 1) (Ok D.Null) (varlen_value t i row (varlen_range w (table_start (length ss)) (varlens ss) k row)) ≡ held_value t i null at cell
       varchar-lay = rw (bit_of_lem i h) (varchar-value w t i (table_start (length ss)) (varlens ss) k at row (omega (arith, pos)) null cell entry end within payload)
 
       offset-lay : cond (reads (held_content t i null cell).0) (zero_if_null (entry_at w (table_start (length ss)) k row) (eqb (bit_at i (drop bitmap_start row)) 1)) false ≡ sound_cell t null cell
@@ -168,7 +168,7 @@ module _ {w : ℕ} {p : Bool} {ts : List DataType} {head bits region : List ℕ}
       slot-size : length slot ≡ size_of t
       slot-size = length-take-le (size_of t) (drop (slot_start p ss i) region) (rw length-drop (omega (arith, inside)))
 
-      fixed-lay : cond (eqb (bit_at i (drop bitmap_start row)) 1) (Value D.Null) (read_bytes t i row start (start + size_of t)) ≡ held_value t i null start (some slot)
+      fixed-lay : cond (eqb (bit_at i (drop bitmap_start row)) 1) (Ok D.Null) (read_bytes t i row start (start + size_of t)) ≡ held_value t i null start (some slot)
       fixed-lay = rw (bit_of_lem i h) (slot-value t i start row slot null slot_in)
 
     abbrev held : Cell

@@ -1,4 +1,6 @@
 -- What the calls cite of sound rows: what the test says, the row's parts, and that built rows and edits of sound rows are sound.
+use Rattle.error.specs.Result.{Result}
+use Rattle.std.specs.Prelude.{Err, None, Ok, Option, Some}
 use Prim.Native.Nat.{ℕ, suc, ◌+◌, ◌-◌, ◌^◌, ◌≤◌, ◌<◌}
 use mathlib.Core.Path.{◌≡◌, refl, sym, ap, ◌∙◌, subst}
 use mathlib.Core.Bool.{Bool, true, false, cond}
@@ -29,15 +31,11 @@ use Rattle.datatype.specs.declared.DataType.{DataType}
 use Rattle.datatype.specs.Types.{size_of, alignment_of, is_varlen, shape_of}
 use Rattle.datatype.specs.Check.{type_at}
 use Rattle.datatype.proofs.Again.{all_aligned}
-use Rattle.row_column.specs.declared.Frame.{Frame}
-use Rattle.row_column.specs.declared.Frame.TheVariants.{Good, Refused}
 use Rattle.row_format.specs.Header.{is_packed}
 use Rattle.row_column.specs.Frame.{frame_of, on_frame}
 use Rattle.row_column.proofs.Walk.{shape_at}
 use Rattle.row_column.proofs.Framing.{Fine, fine}
 use Rattle.row_column.proofs.Depends.{frame_depends}
-use Rattle.row_sound.specs.declared.Soundness.{Soundness}
-use Rattle.row_sound.specs.declared.Soundness.TheVariants.{Sound, NotSound}
 use Rattle.row_sound.specs.Sound.{sound_column, is_sound_in, sound_in, soundness, SoundRow}
 use Rattle.row_sound.specs.Written.{Writes, null}
 use Rattle.row_sound.specs.Reread.{written_content, length_in, Reread}
@@ -50,35 +48,35 @@ use Rattle.row_sound.specs.InnerSound.{is_sound}
 
 -- ---- what the test says
 
-abbrev IsSound : Soundness → Type 0
-IsSound (Sound p) = Unit {0}
-IsSound NotSound = ⊥
+abbrev IsSound : Option Bool → Type 0
+IsSound (Some p) = Unit {0}
+IsSound None = ⊥
 
-abbrev flag : Soundness → Bool
-flag (Sound p) = p
-flag NotSound = false
+abbrev flag : Option Bool → Bool
+flag (Some p) = p
+flag None = false
 
 module _ (k : Bool) (ts : List DataType) (r : List ℕ) where
   pub row-sound : {p : Bool} → SoundRow k ts p r → is_sound k ts r ≡ true
   row-sound s = rw s.frame s.sound
 
-  pub row_told_lem : {p : Bool} → SoundRow k ts p r → soundness k ts r ≡ Sound p
+  pub row_told_lem : {p : Bool} → SoundRow k ts p r → soundness k ts r ≡ Some p
   row_told_lem s = rw (s.frame, s.sound)
 
-  pub told-row : {p : Bool} → soundness k ts r ≡ Sound p → SoundRow k ts p r
+  pub told-row : {p : Bool} → soundness k ts r ≡ Some p → SoundRow k ts p r
   told-row {p} e = by_frame (frame_of k ts r) refl e
     where
-      by_test : (q y : Bool) → frame_of k ts r ≡ Good q → is_sound_in (offset_width k) q ts r ≡ y → cond y (Sound q) NotSound
-          ≡ Sound p
+      by_test : (q y : Bool) → frame_of k ts r ≡ Ok q → is_sound_in (offset_width k) q ts r ≡ y → cond y (Some q) None
+          ≡ Some p
           → SoundRow k ts p r
       by_test q true f s g = subst (λ (x : Bool). SoundRow k ts x r) (ap flag g)
           (record { frame = f; sound = s })
       by_test q false f s g = absurd (subst IsSound (sym g) tt)
 
-      by_frame : (x : Frame) → frame_of k ts r ≡ x → on_frame x (λ b. NotSound) (λ q. sound_in (offset_width k) q ts r) ≡ Sound p
+      by_frame : (x : Result Bool) → frame_of k ts r ≡ x → on_frame x (λ b. None) (λ q. sound_in (offset_width k) q ts r) ≡ Some p
           → SoundRow k ts p r
-      by_frame (Refused b) f g = absurd (subst IsSound (sym g) tt)
-      by_frame (Good q) f g = by_test q (is_sound_in (offset_width k) q ts r) f refl g
+      by_frame (Err b) f g = absurd (subst IsSound (sym g) tt)
+      by_frame (Ok q) f g = by_test q (is_sound_in (offset_width k) q ts r) f refl g
 
 -- ---- a good header: the row's length, and its flag
 

@@ -1,4 +1,6 @@
 -- Soundness of a column without the value that is read.
+use Rattle.error.specs.Result.{Result}
+use Rattle.std.specs.Prelude.{None, Ok, Option, Some}
 use Prim.Native.Nat.{ℕ, ◌+◌, ◌-◌}
 use mathlib.Core.Path.{◌≡◌, refl, sym, ◌∙◌}
 use mathlib.Core.Bool.{Bool, true, false, cond, not}
@@ -22,11 +24,7 @@ use Rattle.datatype.specs.declared.DataType.TheVariants.{Char, Character, Varcha
 use Rattle.datatype.specs.Types.{size_of, alignment_of, is_varlen}
 use Rattle.value.specs.declared.DataValue.{DataValue}
 use Rattle.value.specs.declared.DataValue.TheVariants.{Null}
-use Rattle.stored_form.specs.declared.SlotRead.{SlotRead}
-use Rattle.stored_form.specs.declared.SlotRead.TheVariants as Slot
 use Rattle.stored_form.specs.Read.{value_if, read_slot}
-use Rattle.row_column.specs.declared.ColumnRead.{ColumnRead}
-use Rattle.row_column.specs.declared.ColumnRead.TheVariants.{Value}
 use Rattle.row_column.specs.Column.{slot_value, varlen_value}
 use Rattle.row_column.specs.InnerWalk.{walked_place, Reachable}
 use Rattle.row_sound.specs.Sound.{reads}
@@ -44,10 +42,10 @@ value_if_lem false v = refl
 
 -- ---- a fixed column
 
-fixed_cases : (x : Bool) (i : ℕ) (s : SlotRead) → cond (reads (cond x (Value Null) (slot_value i s))) true false ≡ cond x true (is_value s)
+fixed_cases : (x : Bool) (i : ℕ) (s : Option DataValue) → cond (reads (cond x (Ok Null) (slot_value i s))) true false ≡ cond x true (is_value s)
 fixed_cases true i s = refl
-fixed_cases false i (Slot.Value v) = refl
-fixed_cases false i Slot.NoValue = refl
+fixed_cases false i (Some v) = refl
+fixed_cases false i None = refl
 
 either_way : (x : Bool) {y : Bool} → true ≡ y → true ≡ cond x true y
 either_way true e = refl
@@ -106,7 +104,7 @@ module _ (l : RowLayout) (p : Bool) (b : RowLayout) (r : List ℕ) where
     range_cases true g h = refl
     range_cases false g h = h
 
-  varchar_cases : (x z : Bool) (c : ColumnRead) (w : Bool) → cond (reads c) (not z) false ≡ w → cond (reads (cond x (Value Null) c)) (cond x z (not z)) false ≡ cond x z w
+  varchar_cases : (x z : Bool) (c : Result DataValue) (w : Bool) → cond (reads c) (not z) false ≡ w → cond (reads (cond x (Ok Null) c)) (cond x z (not z)) false ≡ cond x z w
   varchar_cases true z c w h = refl
   varchar_cases false z c w h = h
 

@@ -1,4 +1,7 @@
 -- The walk over the columns of a row tells what the definition of soundness tells by their numbers.
+use Rattle.error.specs.Result.{Result}
+use Rattle.std.specs.Prelude.{None, Some}
+use Rattle.value.specs.declared.DataValue.{DataValue}
 use Prim.Native.Nat.{ℕ, zero, suc, ◌+◌, ◌<◌}
 use mathlib.Core.Path.{◌≡◌, sym, ap, ap₂, ◌∙◌}
 use mathlib.Core.Bool.{Bool, false, cond}
@@ -20,11 +23,9 @@ use Rattle.datatype.specs.Types.{shape_of}
 use Rattle.datatype.specs.Check.{type_at, layout_for}
 use Rattle.datatype.proofs.Again.{before-next}
 use Rattle.datatype.specs.InnerCheck.{layout_before}
-use Rattle.row_column.specs.declared.ColumnRead.{ColumnRead}
 use Rattle.row_column.specs.InnerWalk.{walked_column}
 use Rattle.row_column.proofs.Walk.{minimum_walked, column_walked}
 use Rattle.row_column.proofs.Reach.{columns-before}
-use Rattle.row_sound.specs.declared.Soundness.TheVariants.{Sound, NotSound}
 use Rattle.row_sound.specs.Sound.{sound_with, sound_column, sound_from, first_payload, sound_in}
 use Rattle.row_sound.specs.InnerWalk.{walked_sound, walked_columns, walked_first, walked_soundness}
 
@@ -38,9 +39,9 @@ module _ (k p : Bool) (ts : List DataType) (r : List ℕ) where
   sound_walked i h =
       let t : DataType = type_at ts i in
       let b : RowLayout = layout_before ts i in
-      let tell : ColumnRead → ℕ → ℕ → ℕ → Bool = λ c n rank j. sound_with t c (entry_at (offset_width k) (table_start n) rank r) (eqb
+      let tell : Result DataValue → ℕ → ℕ → ℕ → Bool = λ c n rank j. sound_with t c (entry_at (offset_width k) (table_start n) rank r) (eqb
       (bit_at j (drop bitmap_start r)) 1) in
-      ap (λ (c : ColumnRead). tell c (length ts) (rank_of (map shape_of ts) i) i) (column_walked k p ts i r h)
+      ap (λ (c : Result DataValue). tell c (length ts) (rank_of (map shape_of ts) i) i) (column_walked k p ts i r h)
       ∙ ap₂ (λ (n rank : ℕ). tell (walked_column l p b t r) n rank i) (sym (length-map ts shape_of))
       (ap varlens (take-map shape_of i ts))
       ∙ ap (λ (j : ℕ). tell (walked_column l p b t r) l.num_columns b.num_varlen_cols j)
@@ -67,10 +68,10 @@ module _ (k p : Bool) (ts : List DataType) (r : List ℕ) where
   told =
       ap (λ (x : Bool). cond (cond x
       (eqb (first_payload (offset_width k) (table_start (length ts)) (varlens (map shape_of ts)) r)
-      (minimum (offset_width k) p (map shape_of ts))) false) (Sound p) NotSound)
+      (minimum (offset_width k) p (map shape_of ts))) false) (Some p) None)
       (from_walked (length ts) 0 (omega arith))
       ∙ ap₂ (λ (n m : ℕ). cond (cond (walked_columns l p r no_columns ts) (eqb n m) false)
-      (Sound p) NotSound) first_walked (minimum_walked k ts p)
+      (Some p) None) first_walked (minimum_walked k ts p)
 
 -- where the layout of the columns is known as l
 pub soundness_walked : (p : Bool) (ts : List DataType) (r : List ℕ) {l : RowLayout} → layout_for l.is_long ts ≡ l

@@ -1,9 +1,8 @@
 -- For the proofs: what the check of a column looks at. Soundness is told without the value that is read.
-use Rattle.std.specs.Prelude.{ℕ, ◌-◌, ◌<◌, Bool, false, List, ◌≡◌, length, take, drop}
+use Rattle.std.specs.Prelude.{ℕ, ◌-◌, ◌<◌, Bool, false, List, ◌≡◌, length, take, drop, Ok}
 use Rattle.text_limit.specs.Limit.{fits_text}
 use Rattle.row_layout.specs.declared.VarlenRange.{VarlenRange}
 use Rattle.row_layout.specs.declared.VarlenRange.TheVariants as Range
-use Rattle.datatype.specs.declared.Record.TheVariants.{Column}
 use Rattle.datatype.specs.Schema.{column_record_at}
 use Rattle.datatype.specs.InnerSteps.{type_in}
 
@@ -17,4 +16,4 @@ range_sound byPoints n r Range.Outside = false
 pub record Recorded (s : List ℕ) (at : ℕ) : Type 0 where
   pub inside : at < length s
   pub next : ℕ
-  pub is : column_record_at s at ≡ Column (type_in (column_record_at s at)) next
+  pub is : column_record_at s at ≡ Ok ((type_in (column_record_at s at)), next)

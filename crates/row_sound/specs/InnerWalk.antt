@@ -1,5 +1,5 @@
 -- For the proofs: the walk, as the code goes it.
-use Rattle.std.specs.Prelude.{ℕ, Bool, true, false, cond, List, [], ◌∷◌, eqb, drop}
+use Rattle.std.specs.Prelude.{ℕ, Bool, true, false, cond, List, [], ◌∷◌, eqb, drop, None, Option, Some}
 use Rattle.laws.specs.Bits.{bit_at}
 use Rattle.laws.specs.Bytes.{entry_at}
 use Rattle.row_format.specs.Places.{bitmap_start, table_start, offset_width}
@@ -8,8 +8,6 @@ use Rattle.row_layout.specs.InnerLayout.{minimum_of, no_columns, with_column}
 use Rattle.datatype.specs.declared.DataType.{DataType}
 use Rattle.datatype.specs.Types.{shape_of}
 use Rattle.row_column.specs.InnerWalk.{walked_column}
-use Rattle.row_sound.specs.declared.Soundness.{Soundness}
-use Rattle.row_sound.specs.declared.Soundness.TheVariants.{Sound, NotSound}
 use Rattle.row_sound.specs.Sound.{sound_with, first_payload}
 
 -- the column of type t that comes after those of layout b, in a row r with layout l, packed or padded
@@ -31,6 +29,6 @@ walked_first l r =
     first_payload (offset_width l.is_long) (table_start l.num_columns) l.num_varlen_cols r
 
 -- behind its header
-abbrev pub walked_soundness : RowLayout → Bool → List DataType → List ℕ → Soundness
+abbrev pub walked_soundness : RowLayout → Bool → List DataType → List ℕ → Option Bool
 walked_soundness l p ts r =
-    cond (cond (walked_columns l p r no_columns ts) (eqb (walked_first l r) (minimum_of l p)) false) (Sound p) NotSound
+    cond (cond (walked_columns l p r no_columns ts) (eqb (walked_first l r) (minimum_of l p)) false) (Some p) None

@@ -1,6 +1,8 @@
 -- A row that is laid out of parts: a header, a bitmap, the bytes of the fixed columns, and the cells of the
 -- Varchars. What a column of it holds, reads as, and whether it is sound. FORMAT 3.1, 3.3.
-use Rattle.std.specs.Prelude.{ℕ, ◌+◌, ◌^◌, ◌<◌, Bool, true, false, cond, List, ◌++◌, map, ◌≡◌, eqb, length, get_or, take, drop}
+use Rattle.error.specs.Result.{Result}
+use Rattle.value.specs.declared.DataValue.{DataValue}
+use Rattle.std.specs.Prelude.{ℕ, ◌+◌, ◌^◌, ◌<◌, Bool, true, false, cond, List, ◌++◌, map, ◌≡◌, eqb, length, get_or, take, drop, None, Ok, Option, Some}
 use Rattle.std.proofs.Math.Option.{none, some}
 use Rattle.laws.specs.Bits.{bit_at}
 use Rattle.row_format.specs.Places.{varlens, fixed_size, rank_of, slot_start, bitmap_size, slot_place, minimum}
@@ -9,11 +11,7 @@ use Rattle.datatype.specs.declared.DataType.{DataType}
 use Rattle.datatype.specs.Types.{size_of, is_varlen, shape_of}
 use Rattle.datatype.specs.Check.{type_at}
 use Rattle.value.specs.declared.DataValue.TheVariants.{Null}
-use Rattle.stored_form.specs.declared.SlotRead.{SlotRead}
-use Rattle.stored_form.specs.declared.SlotRead.TheVariants as Slot
 use Rattle.stored_form.specs.Read.{read_slot}
-use Rattle.row_column.specs.declared.ColumnRead.{ColumnRead}
-use Rattle.row_column.specs.declared.ColumnRead.TheVariants.{Value}
 use Rattle.row_column.specs.Column.{slot_value}
 use Rattle.row_sound.specs.Reread.{Content, content}
 
@@ -43,18 +41,18 @@ held_place w p ts ps i =
 -- ---- a column that holds a cell; `marked` says whether its bit is set
 
 -- what column i, of type t, reads as, where the cell's bytes stand at `at`
-abbrev pub held_value : DataType → ℕ → Bool → ℕ → Cell → ColumnRead
-held_value t i marked at none = Value Null
-held_value t i marked at (some b) = cond marked (Value Null) (slot_value i (read_slot t at b))
+abbrev pub held_value : DataType → ℕ → Bool → ℕ → Cell → Result DataValue
+held_value t i marked at none = Ok Null
+held_value t i marked at (some b) = cond marked (Ok Null) (slot_value i (read_slot t at b))
 
 -- wherever they stand
 abbrev pub held_content : DataType → ℕ → Bool → Cell → Content
 held_content t i marked c = content (bytes c) (held_value t i marked 0 c)
 
 -- whether a slot holds a value
-abbrev pub is_value : SlotRead → Bool
-is_value (Slot.Value v) = true
-is_value Slot.NoValue = false
+abbrev pub is_value : Option DataValue → Bool
+is_value (Some v) = true
+is_value None = false
 
 -- whether it is sound: a Varchar by its cell, a fixed column by its slot
 abbrev pub is_form : DataType → List ℕ → Bool

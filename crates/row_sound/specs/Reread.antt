@@ -1,6 +1,7 @@
 -- 01, "Editing" and "Histories of edits": a column that was set reads as its new value, every other as before; texts
 -- move, so they are compared by their bytes. FORMAT 8.4, 8.5.
-use Rattle.std.specs.Prelude.{ℕ, zero, suc, ◌+◌, ◌<◌, Bool, cond, List, [], map, ◌≡◌, length}
+use Rattle.error.specs.Result.{Result}
+use Rattle.std.specs.Prelude.{ℕ, zero, suc, ◌+◌, ◌<◌, Bool, cond, List, [], map, ◌≡◌, length, Err, Ok}
 use Rattle.row_format.specs.Places.{minimum}
 use Rattle.row_format.specs.Table.{Cell}
 use Rattle.datatype.specs.declared.DataType.{DataType}
@@ -11,19 +12,17 @@ use Rattle.value.specs.declared.DataValue.TheVariants.{Null}
 use Rattle.value.specs.Ranges.{range_of, text_of, moved}
 use Rattle.stored_form.specs.Write.{stored_form}
 use Rattle.stored_form.specs.ReadBack.{read_back, has_text}
-use Rattle.row_column.specs.declared.ColumnRead.{ColumnRead}
-use Rattle.row_column.specs.declared.ColumnRead.TheVariants.{Value, Refused}
 use Rattle.row_column.specs.Column.{column_value}
 use Rattle.row_sound.specs.Written.{Writes, null, form}
 
 -- ---- what a column of a row holds, wherever its text stands: what is read, with its range at 0, and the range's bytes
 
 abbrev pub Content : Type 0
-Content = ColumnRead × List ℕ
+Content = Result DataValue × List ℕ
 
-abbrev pub content : List ℕ → ColumnRead → Content
-content r (Value v) = (Value (moved 0 (range_of v).length v), text_of r v)
-content r (Refused e) = (Refused e, [])
+abbrev pub content : List ℕ → Result DataValue → Content
+content r (Ok v) = (Ok (moved 0 (range_of v).length v), text_of r v)
+content r (Err e) = (Err e, [])
 
 -- column j of a row r of columns ts, packed or padded, with offsets of w bytes
 abbrev pub column_content : ℕ → Bool → List DataType → ℕ → List ℕ → Content
@@ -33,10 +32,10 @@ column_content w p ts j r = content r (column_value w p ts j r)
 -- no spare bits.
 
 abbrev pub null_content : Content
-null_content = (Value Null, [])
+null_content = (Ok Null, [])
 
 abbrev pub value_content : DataType → DataValue → List ℕ → Content
-value_content t v x = (Value (read_back t 0 v x), cond (has_text v) (stored_form t v x) [])
+value_content t v x = (Ok (read_back t 0 v x), cond (has_text v) (stored_form t v x) [])
 
 -- what `Writes` puts there
 abbrev pub written_content : {t : DataType} {c : Cell} → Writes t c → Content

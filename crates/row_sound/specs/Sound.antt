@@ -1,7 +1,9 @@
 -- FORMAT 8.1. 01: "A row is sound when all columns read without refusal, each Varchar has offset 0 exactly if it is
 -- null, and the first non-zero offset is the minimum length (with none, the row has that length)." A row that is not
 -- sound is not edited (15). Null is the bitmap's bit alone. "Bitmap bits past the last column are not looked at."
-use Rattle.std.specs.Prelude.{ℕ, zero, suc, Bool, true, false, cond, not, List, map, ◌≡◌, eqb, length, drop}
+use Rattle.error.specs.Result.{Result}
+use Rattle.value.specs.declared.DataValue.{DataValue}
+use Rattle.std.specs.Prelude.{ℕ, zero, suc, Bool, true, false, cond, not, List, map, ◌≡◌, eqb, length, drop, Err, None, Ok, Option, Some}
 use Rattle.laws.specs.Bits.{bit_at}
 use Rattle.laws.specs.Bytes.{from_table, entry_at}
 use Rattle.row_format.specs.Places.{varlens, rank_of, bitmap_start, table_start, minimum, offset_width}
@@ -9,27 +11,22 @@ use Rattle.row_format.specs.Table.{first_offset}
 use Rattle.datatype.specs.declared.DataType.{DataType}
 use Rattle.datatype.specs.Types.{is_varlen, shape_of}
 use Rattle.datatype.specs.Check.{type_at}
-use Rattle.row_column.specs.declared.ColumnRead.{ColumnRead}
-use Rattle.row_column.specs.declared.ColumnRead.TheVariants.{Value, Refused}
-use Rattle.row_column.specs.declared.Frame.TheVariants.{Good}
 use Rattle.row_column.specs.Frame.{frame_of, on_frame}
 use Rattle.row_column.specs.Column.{column_value}
-use Rattle.row_sound.specs.declared.Soundness.{Soundness}
-use Rattle.row_sound.specs.declared.Soundness.TheVariants.{Sound, NotSound}
 
 -- ---- a column
 
 -- "all columns read without refusal"
-abbrev pub reads : ColumnRead → Bool
-reads (Value v) = true
-reads (Refused e) = false
+abbrev pub reads : Result DataValue → Bool
+reads (Ok v) = true
+reads (Err e) = false
 
 -- "each Varchar has offset 0 exactly if it is null": an offset, and whether the bit is set
 abbrev pub zero_if_null : ℕ → Bool → Bool
 zero_if_null o null = cond null (eqb o 0) (not (eqb o 0))
 
 -- a column of type t that reads as c, its offset o if it is a Varchar, and whether its bit is set
-abbrev pub sound_with : DataType → ColumnRead → ℕ → Bool → Bool
+abbrev pub sound_with : DataType → Result DataValue → ℕ → Bool → Bool
 sound_with t c o null = cond (reads c) (cond (is_varlen t) (zero_if_null o null) true) false
 
 -- column i of a row r of columns ts, packed or padded, with offsets of w bytes
@@ -57,14 +54,14 @@ is_sound_in w p ts r =
     false
 
 -- what a call that edits is told: sound, and the row's own flag
-abbrev pub sound_in : ℕ → Bool → List DataType → List ℕ → Soundness
-sound_in w p ts r = cond (is_sound_in w p ts r) (Sound p) NotSound
+abbrev pub sound_in : ℕ → Bool → List DataType → List ℕ → Option Bool
+sound_in w p ts r = cond (is_sound_in w p ts r) (Some p) None
 
 -- of a sort
-abbrev pub soundness : Bool → List DataType → List ℕ → Soundness
-soundness k ts r = on_frame (frame_of k ts r) (λ e. NotSound) (λ p. sound_in (offset_width k) p ts r)
+abbrev pub soundness : Bool → List DataType → List ℕ → Option Bool
+soundness k ts r = on_frame (frame_of k ts r) (λ e. None) (λ p. sound_in (offset_width k) p ts r)
 
 -- a sound row of sort k, packed or padded as p says
 pub record SoundRow (k : Bool) (ts : List DataType) (p : Bool) (r : List ℕ) : Type 0 where
-  pub frame : frame_of k ts r ≡ Good p
+  pub frame : frame_of k ts r ≡ Ok p
   pub sound : is_sound_in (offset_width k) p ts r ≡ true

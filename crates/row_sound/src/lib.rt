@@ -24,17 +24,8 @@ ghost use Rattle.row_sound.specs.InnerWalk.{walked_sound, walked_columns, walked
 ghost use Rattle.row_sound.specs.InnerSlots.{range_sound, Recorded};
 ghost use Rattle.row_sound.specs.Laid.{is_value};
 
-use datatype::{DataType, Record, schema_kinds};
-use row_column::{ColumnRead, Frame};
+use datatype::{DataType, schema_kinds};
 use row_layout::{RowLayout, VarlenRange};
-use temporal::TimeOfDay;
-
-// A sound row is packed or padded.
-#[derive(Clone, Copy)]
-pub enum Soundness {
-    Sound(bool),
-    NotSound,
-}
 
 // A stored Time, at `start`.
 fn time_sound(row: &[u8], start: usize) -> bool
@@ -42,8 +33,8 @@ fn time_sound(row: &[u8], start: usize) -> bool
     ensures { result ≡ is_value (timed (time_of (to_z w64 (from_le (take 8 (drop start row.now)))))) }
 {
     match temporal::time_of(endian::read_i64(row, start)) {
-        TimeOfDay::Micros(_) => true,
-        TimeOfDay::OutOfRange => false,
+        Some(_) => true,
+        None => false,
     }
 }
 
@@ -158,8 +149,8 @@ fn column_sound(
     ensures { result ≡ walked_sound layout packed before ty row.now }
 {
     match row_column::read_column(layout, packed, before, ty, row) {
-        ColumnRead::Refused(_) => false,
-        ColumnRead::Value(_) => true,
+        Err(_) => false,
+        Ok(_) => true,
     }
 }
 
@@ -179,8 +170,8 @@ pub fn record_sound(
         row.now }
 {
     match datatype::record_at(schema, at) {
-        Record::Refused(_) => false,
-        Record::Column(ty, _) => column_sound(layout, packed, before, ty, row),
+        Err(_) => false,
+        Ok((ty, _)) => column_sound(layout, packed, before, ty, row),
     }
 }
 
@@ -279,25 +270,25 @@ fn first_payload(layout: RowLayout, row: &[u8]) -> usize
 }
 
 // The row's header is good.
-fn row_sound(schema: &[u8], layout: RowLayout, packed: bool, row: &[u8]) -> Soundness
+fn row_sound(schema: &[u8], layout: RowLayout, packed: bool, row: &[u8]) -> Option<bool>
     requires { Framed schema.now layout packed row.now }
     ensures { result ≡ walked_soundness layout packed (types_in schema.now) row.now }
 {
     if columns_sound(schema, layout, packed, row) {
         if first_payload(layout, row) == layout.min_row_size(packed) {
-            return Soundness::Sound(packed);
+            return Some(packed);
         }
     }
-    Soundness::NotSound
+    None
 }
 
 // Whether a row of a schema that was checked is sound.
-pub fn check_sound(schema: &[u8], layout: RowLayout, row: &[u8]) -> Soundness
+pub fn check_sound(schema: &[u8], layout: RowLayout, row: &[u8]) -> Option<bool>
     requires { Accepted schema.now layout }
     ensures { result ≡ soundness layout.is_long (types_in schema.now) row.now }
 {
     match row_column::check_frame(layout, row) {
-        Frame::Refused(_) => Soundness::NotSound,
-        Frame::Good(packed) => row_sound(schema, layout, packed, row),
+        Err(_) => None,
+        Ok(packed) => row_sound(schema, layout, packed, row),
     }
 }

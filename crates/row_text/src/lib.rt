@@ -8,18 +8,10 @@ ghost use Rattle.row_column.specs.InnerWalk.{Found, InRow};
 ghost use Rattle.value.specs.Kinds.{holds_text};
 ghost use Rattle.row_text.specs.Text.{text_read, text_in_row, text_of_column, text_call, text_part, PartIn};
 
-use datatype::{DataType, SchemaCheck};
+use datatype::DataType;
 use error::Refusal;
-use row_column::{ColumnRead, Frame};
 use row_layout::RowLayout;
-use value::{TextRange, value_kinds};
-
-#[derive(Clone, Copy)]
-pub enum ColumnText {
-    // Where the text stands in the row; for a null an empty range at 0.
-    Part(TextRange),
-    Refused(Refusal),
-}
+use value::{DataValue, TextRange, value_kinds};
 
 fn holds_text(ty: DataType) -> bool
     ensures { result ≡ holds_text ty }
@@ -31,14 +23,12 @@ fn holds_text(ty: DataType) -> bool
     kind == value_kinds::VARCHAR
 }
 
-fn text_read(column: ColumnRead, row: &[u8]) -> ColumnText
+fn text_read(column: error::Result<DataValue>, row: &[u8]) -> error::Result<TextRange>
     requires { InRow (length row.now) column }
     ensures { (result ≡ text_read column) × PartIn (length row.now) result }
 {
-    match column {
-        ColumnRead::Value(v) => ColumnText::Part(v.range()),
-        ColumnRead::Refused(e) => ColumnText::Refused(e),
-    }
+    let v = column?;
+    Ok(v.range())
 }
 
 fn text_in_row(
@@ -47,49 +37,48 @@ fn text_in_row(
     row: &[u8],
     column: usize,
     found: row_column::Column,
-) -> ColumnText
+) -> error::Result<TextRange>
     requires { Accepted schema.now layout
         × ((column < length (types_in schema.now)) × Found schema.now column found) }
     ensures { (result ≡ text_in_row layout.is_long (types_in schema.now) row.now column)
         × PartIn (length row.now) result }
 {
-    match row_column::check_frame(layout, row) {
-        Frame::Refused(e) => ColumnText::Refused(e),
-        Frame::Good(packed) => {
-            let ty = found.ty;
-            let read = row_column::read_column(layout, packed, found.before, ty, row);
-            text_read(read, row)
-        }
-    }
+    let packed = row_column::check_frame(layout, row)?;
+    let ty = found.ty;
+    let read = row_column::read_column(layout, packed, found.before, ty, row);
+    text_read(read, row)
 }
 
-fn text_of_column(schema: &[u8], layout: RowLayout, row: &[u8], column: usize) -> ColumnText
+fn text_of_column(
+    schema: &[u8],
+    layout: RowLayout,
+    row: &[u8],
+    column: usize,
+) -> error::Result<TextRange>
     requires { Accepted schema.now layout }
     ensures { (result
         ≡ text_of_column layout.is_long (types_in schema.now) row.now column)
         × PartIn (length row.now) result }
 {
     if layout.num_columns <= column {
-        return ColumnText::Refused(Refusal::NoSuchColumn);
+        return Err(Refusal::NoSuchColumn);
     }
     let found = row_column::column_at(schema, column);
     let ty = found.ty;
     if holds_text(ty) {
         return text_in_row(schema, layout, row, column, found);
     }
-    ColumnText::Refused(Refusal::WrongKind(column))
+    Err(Refusal::WrongKind(column))
 }
 
 // Where the text of a column stands in the row, or why there is none. The row's own mark tells its sort.
-pub fn column_text(schema: &[u8], row: &[u8], column: usize) -> ColumnText
+pub fn column_text(schema: &[u8], row: &[u8], column: usize) -> error::Result<TextRange>
     ensures { (result ≡ text_call schema.now row.now column)
         × PartIn (length row.now) result }
 {
     let is_long = row_layout::is_long(row);
-    match datatype::check_schema(schema, is_long) {
-        SchemaCheck::Refused(e) => ColumnText::Refused(e),
-        SchemaCheck::Good(layout) => text_of_column(schema, layout.of_sort(is_long), row, column),
-    }
+    let layout = datatype::check_schema(schema, is_long)?;
+    text_of_column(schema, layout.of_sort(is_long), row, column)
 }
 
 // The text of a column: empty for a null or a refusal, which `column_text` tells apart.
@@ -99,8 +88,8 @@ pub fn text<'s, 'r>(schema: &'s [u8], row: &'r [u8], column: usize) -> &'r [u8]
         (text_call schema.now row.now column) }
 {
     match column_text(schema, row, column) {
-        ColumnText::Refused(_) => &row[0..0],
-        ColumnText::Part(part) => {
+        Err(_) => &row[0..0],
+        Ok(part) => {
             let start = part.start;
             let end = start + part.length;
             &row[start..end]

@@ -13,74 +13,76 @@ ghost use Rattle.slot_record.specs.InnerRecord.{recorded, text_recorded};
 
 use datatype::schema_kinds;
 use error::Refusal;
-use temporal::TimeOfDay;
-use text::TextCheck;
 use value::{TextRange, value_kinds};
 
-// The place after a record that was written, and the code points of its text; or the refusal.
-#[derive(Clone, Copy)]
-pub enum Recorded {
-    Done(usize, u32),
-    Refused(Refusal),
-}
-
-fn bool_record(bytes: &[u8], out: &mut [u8], at: usize) -> Recorded
+fn bool_record(bytes: &[u8], out: &mut [u8], at: usize) -> error::Result<(usize, u32)>
     requires { (length bytes.now ≡ 1) × (at + 18 ≤ length out.old) }
     ensures { (k : Bool) → (result, out.new)
         ≡ recorded k out.old at 0 0 (read_slot BoolType 0 bytes.now) }
 {
     if bytes[0] == 0 {
-        return Recorded::Done(record_encode::write_8(out, at, value_kinds::BOOL, 0), 0);
+        return Ok((record_encode::write_8(out, at, value_kinds::BOOL, 0), 0));
     }
-    Recorded::Done(record_encode::write_8(out, at, value_kinds::BOOL, 1), 0)
+    Ok((record_encode::write_8(out, at, value_kinds::BOOL, 1), 0))
 }
 
-fn date_record(i: usize, bytes: &[u8], out: &mut [u8], at: usize) -> Recorded
+fn date_record(i: usize, bytes: &[u8], out: &mut [u8], at: usize) -> error::Result<(usize, u32)>
     requires { (length bytes.now ≡ 4) × (at + 18 ≤ length out.old) }
     ensures { (k : Bool) → (result, out.new)
         ≡ recorded k out.old at i 0 (read_slot DateType 0 bytes.now) }
 {
     let days = endian::read_i32(bytes, 0);
     if temporal::is_date(days) {
-        return Recorded::Done(
+        return Ok((
             record_encode::write_32(out, at, value_kinds::DATE, endian::read_u32(bytes, 0)),
             0,
-        );
+        ));
     }
-    Recorded::Refused(Refusal::NoValue(i))
+    Err(Refusal::NoValue(i))
 }
 
-fn time_record(i: usize, bytes: &[u8], out: &mut [u8], at: usize) -> Recorded
+fn time_record(i: usize, bytes: &[u8], out: &mut [u8], at: usize) -> error::Result<(usize, u32)>
     requires { (length bytes.now ≡ 8) × (at + 18 ≤ length out.old) }
     ensures { (k : Bool) → (result, out.new)
         ≡ recorded k out.old at i 0 (read_slot TimeType 0 bytes.now) }
 {
     match temporal::time_of(endian::read_i64(bytes, 0)) {
-        TimeOfDay::Micros(micros) => Recorded::Done(
+        Some(micros) => Ok((
             record_encode::write_64(out, at, value_kinds::TIME, signed::cast_unsigned_64(micros)),
             0,
-        ),
-        TimeOfDay::OutOfRange => Recorded::Refused(Refusal::NoValue(i)),
+        )),
+        None => Err(Refusal::NoValue(i)),
     }
 }
 
-fn timestamp_record(i: usize, bytes: &[u8], out: &mut [u8], at: usize) -> Recorded
+fn timestamp_record(
+    i: usize,
+    bytes: &[u8],
+    out: &mut [u8],
+    at: usize,
+) -> error::Result<(usize, u32)>
     requires { (length bytes.now ≡ 8) × (at + 18 ≤ length out.old) }
     ensures { (k : Bool) → (result, out.new)
         ≡ recorded k out.old at i 0 (read_slot TimestampType 0 bytes.now) }
 {
     let micros = endian::read_i64(bytes, 0);
     if temporal::is_timestamp(micros) {
-        return Recorded::Done(
+        return Ok((
             record_encode::write_64(out, at, value_kinds::TIMESTAMP, endian::read_u64(bytes, 0)),
             0,
-        );
+        ));
     }
-    Recorded::Refused(Refusal::NoValue(i))
+    Err(Refusal::NoValue(i))
 }
 
 // A column of a kind without a body, wherever its bytes stand. The numbers have one kind as types and as values.
-pub fn plain_record(kind: u8, i: usize, bytes: &[u8], out: &mut [u8], at: usize) -> Recorded
+pub fn plain_record(
+    kind: u8,
+    i: usize,
+    bytes: &[u8],
+    out: &mut [u8],
+    at: usize,
+) -> error::Result<(usize, u32)>
     requires { (plain_size (column_kind kind) ≡ 0 → ⊥)
         × ((length bytes.now ≡ plain_size (column_kind kind)) × (at + 18 ≤ length out.old)) }
     ensures { (k : Bool) (start : ℕ) → (result, out.new)
@@ -88,23 +90,23 @@ pub fn plain_record(kind: u8, i: usize, bytes: &[u8], out: &mut [u8], at: usize)
         (read_slot (plain_type (column_kind kind)) start bytes.now) }
 {
     match kind {
-        schema_kinds::SMALL_INT => Recorded::Done(
+        schema_kinds::SMALL_INT => Ok((
             record_encode::write_16(out, at, value_kinds::SMALL_INT, endian::read_u16(bytes, 0)),
             0,
-        ),
-        schema_kinds::INT => Recorded::Done(
+        )),
+        schema_kinds::INT => Ok((
             record_encode::write_32(out, at, value_kinds::INT, endian::read_u32(bytes, 0)),
             0,
-        ),
-        schema_kinds::BIG_INT => Recorded::Done(
+        )),
+        schema_kinds::BIG_INT => Ok((
             record_encode::write_64(out, at, value_kinds::BIG_INT, endian::read_u64(bytes, 0)),
             0,
-        ),
-        schema_kinds::REAL => Recorded::Done(
+        )),
+        schema_kinds::REAL => Ok((
             record_encode::write_32(out, at, value_kinds::REAL, endian::read_u32(bytes, 0)),
             0,
-        ),
-        schema_kinds::DOUBLE_PRECISION => Recorded::Done(
+        )),
+        schema_kinds::DOUBLE_PRECISION => Ok((
             record_encode::write_64(
                 out,
                 at,
@@ -112,7 +114,7 @@ pub fn plain_record(kind: u8, i: usize, bytes: &[u8], out: &mut [u8], at: usize)
                 endian::read_u64(bytes, 0),
             ),
             0,
-        ),
+        )),
         schema_kinds::BOOL => bool_record(bytes, out, at),
         schema_kinds::DATE => date_record(i, bytes, out, at),
         schema_kinds::TIME => time_record(i, bytes, out, at),
@@ -132,7 +134,7 @@ fn text_record(
     end: usize,
     out: &mut [u8],
     at: usize,
-) -> Recorded
+) -> error::Result<(usize, u32)>
     requires { (start ≤ end)
         × ((end ≤ length row.now) × ((length row.now ≤ row_limit is_long) × (at + 18 ≤ length out.old))) }
     ensures { (result, out.new)
@@ -140,14 +142,14 @@ fn text_record(
         (take (end - start) (drop start row.now)) }
 {
     match text_limit::check_within(&row[start..end], by_points, n) {
-        TextCheck::Invalid => Recorded::Refused(Refusal::NoValue(i)),
-        TextCheck::Valid(points) => {
+        None => Err(Refusal::NoValue(i)),
+        Some(points) => {
             let length = end - start;
             let range = TextRange { start, length };
-            Recorded::Done(
+            Ok((
                 record_encode::write_range(out, at, is_long, kind, range),
                 points as u32,
-            )
+            ))
         }
     }
 }
@@ -161,7 +163,7 @@ pub fn char_record(
     end: usize,
     out: &mut [u8],
     at: usize,
-) -> Recorded
+) -> error::Result<(usize, u32)>
     requires { (start ≤ end)
         × ((end ≤ length row.now) × ((length row.now ≤ row_limit is_long) × (at + 18 ≤ length out.old))) }
     ensures { (result, out.new)
@@ -193,7 +195,7 @@ pub fn varchar_record(
     end: usize,
     out: &mut [u8],
     at: usize,
-) -> Recorded
+) -> error::Result<(usize, u32)>
     requires { (start ≤ end)
         × ((end ≤ length row.now) × ((length row.now ≤ row_limit is_long) × (at + 18 ≤ length out.old))) }
     ensures { (result, out.new)

@@ -1,4 +1,5 @@
 -- What bytes read as is the same wherever they stand, but for the start of a text's range.
+use Rattle.std.specs.Prelude.{None, Option, Some, ℤ}
 use Prim.Native.Nat.{ℕ}
 use mathlib.Core.Path.{◌≡◌, refl}
 use mathlib.Core.Bool.{Bool, true, false, cond}
@@ -10,8 +11,6 @@ use mir.Val.{to_z}
 use Rattle.laws.specs.Bytes.{from_le}
 use Rattle.text.specs.Rfc3629.{is_text}
 use Rattle.text_limit.specs.Limit.{fits_text}
-use Rattle.temporal.specs.declared.TimeOfDay.{TimeOfDay}
-use Rattle.temporal.specs.declared.TimeOfDay.TheVariants.{Micros, OutOfRange}
 use Rattle.temporal.specs.Ranges.{is_date, is_timestamp}
 use Rattle.temporal.specs.Time.{time_of}
 use Rattle.numeric.specs.declared.Decoded.{Decoded}
@@ -22,8 +21,6 @@ use Rattle.datatype.specs.declared.DataType.TheVariants as T
 use Rattle.value.specs.declared.DataValue.{DataValue}
 use Rattle.value.specs.declared.DataValue.TheVariants as D
 use Rattle.value.specs.Ranges.{no_text, range_of}
-use Rattle.stored_form.specs.declared.SlotRead.{SlotRead}
-use Rattle.stored_form.specs.declared.SlotRead.TheVariants.{Value, NoValue}
 use Rattle.stored_form.specs.Read.{twos_complement, decoded, timed, whole, read_slot}
 
 module _ (a b : ℕ) (bs : List ℕ) where
@@ -34,26 +31,26 @@ module _ (a b : ℕ) (bs : List ℕ) where
     varchar : Twins (D.Varchar (whole a bs)) (D.Varchar (whole b bs))
     bit : Twins (D.Bit (whole a bs)) (D.Bit (whole b bs))
 
-  abbrev pub Both : SlotRead → SlotRead → Type 0
-  Both (Value v) (Value w) = Twins v w
-  Both (Value v) NoValue = ⊥
-  Both NoValue (Value w) = ⊥
-  Both NoValue NoValue = Unit {0}
+  abbrev pub Both : Option DataValue → Option DataValue → Type 0
+  Both (Some v) (Some w) = Twins v w
+  Both (Some v) None = ⊥
+  Both None (Some w) = ⊥
+  Both None None = Unit {0}
 
-  by_both : (t : Bool) (x y x' y' : SlotRead) → Both x x' → Both y y' → Both (cond t x y) (cond t x' y')
+  by_both : (t : Bool) (x y x' y' : Option DataValue) → Both x x' → Both y y' → Both (cond t x y) (cond t x' y')
   by_both true x y x' y' p q = p
   by_both false x y x' y' p q = q
 
   both_number : (s : ℕ) (d : Decoded) → Both (decoded s bs d) (decoded s bs d)
   both_number s (Bcd.Value negative high low) = alike refl
-  both_number s Bcd.Broken = by_both (eqb (length bs) 17) (Value (D.Numeric (twos_complement bs))) NoValue (Value (D.Numeric (twos_complement bs))) NoValue (alike refl) tt
+  both_number s Bcd.Broken = by_both (eqb (length bs) 17) (Some (D.Numeric (twos_complement bs))) None (Some (D.Numeric (twos_complement bs))) None (alike refl) tt
 
-  both_time : (d : TimeOfDay) → Both (timed d) (timed d)
-  both_time (Micros z) = alike refl
-  both_time OutOfRange = tt
+  both_time : (d : Option ℤ) → Both (timed d) (timed d)
+  both_time (Some z) = alike refl
+  both_time None = tt
 
-  both_if : (t : Bool) (v w : DataValue) → Twins v w → Both (cond t (Value v) NoValue) (cond t (Value w) NoValue)
-  both_if t v w h = by_both t (Value v) NoValue (Value w) NoValue h tt
+  both_if : (t : Bool) (v w : DataValue) → Twins v w → Both (cond t (Some v) None) (cond t (Some w) None)
+  both_if t v w h = by_both t (Some v) None (Some w) None h tt
 
   pub both : (t : DataType) → Both (read_slot t a bs) (read_slot t b bs)
   both T.SmallInt = alike refl

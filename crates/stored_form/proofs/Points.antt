@@ -1,4 +1,5 @@
 -- The values of a type are texts exactly if the type holds text, so that only these have a count.
+use Rattle.std.specs.Prelude.{None, Option, Some, ℤ}
 use Prim.Native.Nat.{ℕ}
 use mathlib.Core.Path.{◌≡◌, refl, ap, ◌∙◌}
 use mathlib.Core.Bool.{Bool, true, false, cond, ◌||◌, false≢true}
@@ -11,8 +12,6 @@ use mir.Val.{to_z}
 use Rattle.laws.specs.Bytes.{from_le}
 use Rattle.text.specs.Rfc3629.{is_text}
 use Rattle.text_limit.specs.Limit.{fits_text}
-use Rattle.temporal.specs.declared.TimeOfDay.{TimeOfDay}
-use Rattle.temporal.specs.declared.TimeOfDay.TheVariants.{Micros, OutOfRange}
 use Rattle.temporal.specs.Ranges.{is_date, is_timestamp}
 use Rattle.temporal.specs.Time.{time_of}
 use Rattle.numeric.specs.declared.Decoded.{Decoded}
@@ -23,16 +22,14 @@ use Rattle.datatype.specs.declared.DataType.TheVariants as T
 use Rattle.value.specs.declared.DataValue.{DataValue}
 use Rattle.value.specs.declared.DataValue.TheVariants as D
 use Rattle.value.specs.Kinds.{kind_of, value_kind, matches, is_text_kind, holds_text, is_text_value}
-use Rattle.stored_form.specs.declared.SlotRead.{SlotRead}
-use Rattle.stored_form.specs.declared.SlotRead.TheVariants.{Value, NoValue}
 use Rattle.stored_form.specs.Read.{value_if, decoded, timed, read_slot}
 use Rattle.stored_form.specs.ReadBack.{read_back, has_text}
 use Rattle.stored_form.specs.Points.{points_in}
 
 -- whether what was read is a text
-abbrev pub Texts : Bool → SlotRead → Type 0
-Texts b (Value v) = is_text_value v ≡ b
-Texts b NoValue = Unit {0}
+abbrev pub Texts : Bool → Option DataValue → Type 0
+Texts b (Some v) = is_text_value v ≡ b
+Texts b None = Unit {0}
 
 if_texts : (b t : Bool) (v : DataValue) → is_text_value v ≡ b → Texts b (value_if t v)
 if_texts b true v e = e
@@ -42,9 +39,9 @@ digits-texts : (s : ℕ) (bs : List ℕ) (d : Decoded) → Texts false (decoded 
 digits-texts s bs (Bcd.Value negative high low) = refl
 digits-texts s bs Bcd.Broken = if_texts false (eqb (length bs) 17) _ refl
 
-time-texts : (t : TimeOfDay) → Texts false (timed t)
-time-texts (Micros z) = refl
-time-texts OutOfRange = tt
+time-texts : (t : Option ℤ) → Texts false (timed t)
+time-texts (Some z) = refl
+time-texts None = tt
 
 pub slot-texts : (t : DataType) (start : ℕ) (bs : List ℕ) → Texts (holds_text t) (read_slot t start bs)
 slot-texts T.SmallInt start bs = refl

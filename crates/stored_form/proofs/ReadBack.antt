@@ -1,4 +1,5 @@
 -- A stored value is read back, and its text is what was stored; of a Bit the n bits are those that were given.
+use Rattle.std.specs.Prelude.{Some}
 use Prim.Native.Nat.{ℕ, ◌-◌, ◌^◌}
 use mathlib.Core.Path.{◌≡◌, refl, sym, ap, ◌∙◌}
 use mathlib.Core.Bool.{Bool, true, false, cond, false≢true}
@@ -32,7 +33,6 @@ use Rattle.value.specs.declared.DataValue.TheVariants as D
 use Rattle.value.specs.Kinds.{matches}
 use Rattle.value.specs.Ranges.{range_of, text_of, part}
 use Rattle.value_list.specs.Records.{SizedNumeric, Sized}
-use Rattle.stored_form.specs.declared.SlotRead.TheVariants.{Value}
 use Rattle.stored_form.specs.Number.{is_negative, magnitude}
 use Rattle.stored_form.specs.Write.{suits, stored_form}
 use Rattle.stored_form.specs.Read.{value_if, decoded, timed, whole, read_slot}
@@ -43,42 +43,42 @@ use Rattle.stored_form.proofs.Numbers.{unsigned_back, signed_back, bool_back, nu
 
 -- the digits of a number that fits
 numeric_back : (p s : ℕ) (n : NumericValue) (bs : List ℕ) → cond (eqb n.scale s) (ltb (magnitude n.high n.low) (10 ^ p)) false ≡ true → SizedNumeric n
-    → decoded s bs (decode_bcd p (encode_bcd p (is_negative n.high) (magnitude n.high n.low))) ≡ Value (D.Numeric n)
+    → decoded s bs (decode_bcd p (encode_bcd p (is_negative n.high) (magnitude n.high n.low))) ≡ Some (D.Numeric n)
 numeric_back p s n bs e f =
     let m : ℕ = magnitude n.high n.low in
     let fits = both (eqb n.scale s) (ltb m (10 ^ p)) e in
     ap (decoded s bs) (decode_encode p (is_negative n.high) m (ltb-true m (10 ^ p) fits.1))
-    ∙ ap (λ (k : NumericValue). Value (D.Numeric k)) (number_back n s f.low.fits (eqb-true n.scale s fits.0))
+    ∙ ap (λ (k : NumericValue). Some (D.Numeric k)) (number_back n s f.low.fits (eqb-true n.scale s fits.0))
 
 -- a value under a test that holds of it
-tested : (test : ℤ → Bool) (make : ℤ → DataValue) (y z : ℤ) → y ≡ z → test z ≡ true → value_if (test y) (make y) ≡ Value (make z)
+tested : (test : ℤ → Bool) (make : ℤ → DataValue) (y z : ℤ) → y ≡ z → test z ≡ true → value_if (test y) (make y) ≡ Some (make z)
 tested test make y z e h = rw (e, h)
 
 -- a text with its blanks is text, and fills the slot
 char_back : (n start : ℕ) (x : List ℕ) → fits_text false n x ≡ true
-    → (let bs = x ++ replicate (n - length x) 0x20 in value_if (is_text bs) (D.Char (whole start bs))) ≡ Value (D.Char (record { start = start; length = n }))
+    → (let bs = x ++ replicate (n - length x) 0x20 in value_if (is_text bs) (D.Char (whole start bs))) ≡ Some (D.Char (record { start = start; length = n }))
 char_back n start x e =
     let valid : is_text (x ++ replicate (n - length x) 0x20) ≡ true = text-append x (replicate (n - length x) 0x20) (fits-valid false n x e) (blanks (n - length x)) in
     rw (valid, length_char n x e)
 
-of_matched : (t : DataType) (v : DataValue) (x : List ℕ) (start : ℕ) → Matched t v → suits t v x ≡ true → Sized v → read_slot t start (stored_form t v x) ≡ Value (read_back t start v x)
-of_matched t v x start (smallint z) e f = ap (λ (y : ℤ). Value (D.SmallInt y)) (signed_back w16 2 refl z f)
-of_matched t v x start (int z) e f = ap (λ (y : ℤ). Value (D.Int y)) (signed_back w32 4 refl z f)
-of_matched t v x start (bigint z) e f = ap (λ (y : ℤ). Value (D.BigInt y)) (signed_back w64 8 refl z f)
-of_matched t v x start (real b) e f = ap (λ (y : ℕ). Value (D.Real y)) (unsigned_back w32 4 refl b f)
-of_matched t v x start (double b) e f = ap (λ (y : ℕ). Value (D.DoublePrecision y)) (unsigned_back w64 8 refl b f)
+of_matched : (t : DataType) (v : DataValue) (x : List ℕ) (start : ℕ) → Matched t v → suits t v x ≡ true → Sized v → read_slot t start (stored_form t v x) ≡ Some (read_back t start v x)
+of_matched t v x start (smallint z) e f = ap (λ (y : ℤ). Some (D.SmallInt y)) (signed_back w16 2 refl z f)
+of_matched t v x start (int z) e f = ap (λ (y : ℤ). Some (D.Int y)) (signed_back w32 4 refl z f)
+of_matched t v x start (bigint z) e f = ap (λ (y : ℤ). Some (D.BigInt y)) (signed_back w64 8 refl z f)
+of_matched t v x start (real b) e f = ap (λ (y : ℕ). Some (D.Real y)) (unsigned_back w32 4 refl b f)
+of_matched t v x start (double b) e f = ap (λ (y : ℕ). Some (D.DoublePrecision y)) (unsigned_back w64 8 refl b f)
 of_matched t v x start (numeric p s n) e f = numeric_back p s n (stored_form t v x) e f
 of_matched t v x start (decimal p s n) e f = numeric_back p s n (stored_form t v x) e f
-of_matched t v x start (bool b) e f = ap (λ (y : ℕ). Value (D.Bool y)) (bool_back b e)
+of_matched t v x start (bool b) e f = ap (λ (y : ℕ). Some (D.Bool y)) (bool_back b e)
 of_matched t v x start (char n r) e f = char_back n start x e
 of_matched t v x start (character n r) e f = char_back n start x e
 of_matched t v x start (varchar p n r) e f = rw e
 of_matched t v x start (date z) e f = tested is_date D.Date _ z (signed_back w32 4 refl z f) e
 of_matched t v x start (time z) e f = ap (λ (y : ℤ). timed (time_of y)) (signed_back w64 8 refl z f) ∙ ap timed (time-read z e)
-of_matched t v x start (bit n r) e f = ap (λ (k : ℕ). Value (D.Bit (record { start = start; length = k }))) (length-packed (bytes_for n) _)
+of_matched t v x start (bit n r) e f = ap (λ (k : ℕ). Some (D.Bit (record { start = start; length = k }))) (length-packed (bytes_for n) _)
 of_matched t v x start (timestamp z) e f = tested is_timestamp D.Timestamp _ z (signed_back w64 8 refl z f) e
 
-pub read-stored : (t : DataType) (v : DataValue) (x : List ℕ) (start : ℕ) → matches t v ≡ true → suits t v x ≡ true → Sized v → read_slot t start (stored_form t v x) ≡ Value (read_back t start v x)
+pub read-stored : (t : DataType) (v : DataValue) (x : List ℕ) (start : ℕ) → matches t v ≡ true → suits t v x ≡ true → Sized v → read_slot t start (stored_form t v x) ≡ Some (read_back t start v x)
 read-stored t v x start m e f = of_matched t v x start (matched t v m) e f
 
 -- ---- the text of what was read is the slot

@@ -5,7 +5,7 @@
 use value::DataValue;
 
 #[derive(Clone, Copy)]
-pub enum SlotRead {
+pub enum Option<DataValue> {
     Value(DataValue),
     // The bytes are no value of the type.
     NoValue,

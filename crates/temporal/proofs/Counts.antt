@@ -1,4 +1,5 @@
 -- Signed counts, compared and divided. A machine's number is known by its bits, so an operation on z reads `to_z w (of_z w z)`, which is z.
+use Rattle.std.specs.Prelude.{None, Some}
 use Prim.Native.Nat.{ℕ, zero, suc, ◌+◌, ◌*◌, ◌/◌, ◌%◌, ◌^◌, ◌≤◌, ◌<◌, zero-le}
 use mathlib.Core.Path.{◌≡◌, refl, ap, ◌∙◌, subst}
 use mathlib.Core.Bool.{true, false, false≢true}
@@ -13,7 +14,6 @@ use mir.ValLaws.{to_z-of_z, to_z_pos}
 use borrow.Author.Tests.{le-leb, lt-leb, le-ltb, leb-true}
 use Rattle.temporal.specs.Ranges.{between, is_time}
 use Rattle.temporal.specs.Time.{mod_z, time_of}
-use Rattle.temporal.specs.declared.TimeOfDay.TheVariants.{Micros, OutOfRange}
 
 -- ---- ranges
 
@@ -75,7 +75,7 @@ module _ (z : ℤ) (f : SFits w64 z) where
 
   -- what the machine has for the remainder, r, and for the seconds, s
   module _ (r : ℤ) (e : r ≡ rem_z z (pos 1000000)) where
-    pub negative_rest : lt_z r (pos 0) ≡ true → OutOfRange ≡ time_of z
+    pub negative_rest : lt_z r (pos 0) ≡ true → None ≡ time_of z
     negative_rest h = let k : lt_z (rem_z z (pos 1000000)) (pos 0) ≡ true = rw e at h in rw k
 
     module _ (h : lt_z r (pos 0) ≡ false) where
@@ -86,7 +86,7 @@ module _ (z : ℤ) (f : SFits w64 z) where
         k : lt_z (rem_z z (pos 1000000)) (pos 0) ≡ false
         k = rw e at h
 
-        pub late : 86400 ≤ s → OutOfRange ≡ time_of z
+        pub late : 86400 ≤ s → None ≡ time_of z
         late l = let t : leb 86400 (mod_z (quot_z z (pos 1000000)) (2 ^ 32)) ≡ true = rw q at (le-leb 86400 s l) in rw (k, t)
 
         pub count_fits : s < 86400 → Fits w64 (s * 1000000 + nat_abs r)
@@ -95,20 +95,20 @@ module _ (z : ℤ) (f : SFits w64 z) where
         pub count-signed : s < 86400 → SFits w64 (pos (s * 1000000 + nat_abs r))
         count-signed l = rw e (record { sfits = omega (arith, rem_below z 1000000 (omega arith)) })
 
-        pub in_day : s < 86400 → Micros (to_z w64 (s * 1000000 + nat_abs r)) ≡ time_of z
+        pub in_day : s < 86400 → Some (to_z w64 (s * 1000000 + nat_abs r)) ≡ time_of z
         in_day l =
             let t : leb 86400 (mod_z (quot_z z (pos 1000000)) (2 ^ 32)) ≡ false = rw q at (lt-leb 86400 s l) in
-            rw (k, t, ← q, ← e) (ap Micros (to_z_pos w64 (s * 1000000 + nat_abs r) (count-signed l).sfits))
+            rw (k, t, ← q, ← e) (ap Some (to_z_pos w64 (s * 1000000 + nat_abs r) (count-signed l).sfits))
 
 -- ---- a time that may be written is read as itself
 
-time_pos : (n : ℕ) → n ≤ 86399999999 → time_of (pos n) ≡ Micros (pos n)
+time_pos : (n : ℕ) → n ≤ 86399999999 → time_of (pos n) ≡ Some (pos n)
 time_pos n h =
     let rest : ltb (n % 1000000) 0 ≡ false = le-ltb (n % 1000000) 0 (omega arith) in
     let day : leb 86400 (n / 1000000 % 2 ^ 32) ≡ false = lt-leb 86400 (n / 1000000 % 2 ^ 32) (omega arith) in
     let e : n / 1000000 % 2 ^ 32 * 1000000 + n % 1000000 ≡ n = omega arith in
     rw (rest, day, e)
 
-pub time-read : (z : ℤ) → is_time z ≡ true → time_of z ≡ Micros z
+pub time-read : (z : ℤ) → is_time z ≡ true → time_of z ≡ Some z
 time-read (pos n) e = let z : ltb n 0 ≡ false = le-ltb n 0 (omega arith) in time_pos n (leb-true n 86399999999 (rw z at e))
 time-read (negsuc n) e = absurd (false≢true e)

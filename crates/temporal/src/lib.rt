@@ -35,13 +35,6 @@ pub fn is_timestamp(micros: i64) -> bool
     micros <= 253_402_300_799_999_999
 }
 
-// What a stored Time reads as.
-#[derive(Clone, Copy)]
-pub enum TimeOfDay {
-    Micros(i64),
-    OutOfRange,
-}
-
 fn low_32(q: i64) -> u32
     ensures { result ≡ mod_z q (2 ^ 32) }
 {
@@ -49,17 +42,17 @@ fn low_32(q: i64) -> u32
 }
 
 // The count is split as the Rust does it: the seconds keep their low 32 bits.
-pub fn time_of(micros: i64) -> TimeOfDay
+pub fn time_of(micros: i64) -> Option<i64>
     ensures { result ≡ time_of micros }
 {
     let rest = micros % 1_000_000;
     if rest < 0 {
-        return TimeOfDay::OutOfRange;
+        return None;
     }
     let seconds = low_32(micros / 1_000_000);
     if seconds >= 86_400 {
-        return TimeOfDay::OutOfRange;
+        return None;
     }
     let count = (seconds as u64) * 1_000_000 + (rest as u64);
-    TimeOfDay::Micros(count as i64)
+    Some(count as i64)
 }

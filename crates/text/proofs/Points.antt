@@ -1,4 +1,5 @@
 -- A text has as many code points as bytes that are no tails; the check's answer; texts end to end.
+use Rattle.std.specs.Prelude.{None, Some}
 use Prim.Native.Nat.{ℕ, suc, ◌+◌, ◌-◌, ◌≤◌}
 use mathlib.Core.Path.{◌≡◌, refl, sym, ap}
 use mathlib.Core.Bool.{Bool, true, false, cond, ◌&&◌, ◌||◌, false≢true}
@@ -10,7 +11,6 @@ use native.Mathlib.Omega.{arith}
 use lib.Dec.{leb}
 use lib.ListN.{length, replicate}
 use borrow.Author.Tests.{leb-true, le-leb, lt-leb}
-use Rattle.text.specs.declared.TextCheck.TheVariants.{Valid, Invalid}
 use Rattle.text.specs.Rfc3629.{Range, Form, within, ◌to◌, utf8_tail, utf8_char, more, or_next, begin, octets, code_points, is_given, is_text}
 use Rattle.text.specs.Check.{check_of, points_of, points}
 use Rattle.text.specs.InnerTails.{tails_of}
@@ -101,33 +101,33 @@ points-le s e = let h = points_tails s e in omega arith
 
 -- ---- the check's answer
 
-given_check : (x : Option ℕ) → is_given x ≡ true → check_of x ≡ Valid (points_of x)
+given_check : (x : Option ℕ) → is_given x ≡ true → check_of x ≡ Some (points_of x)
 given_check none e = absurd (false≢true e)
 given_check (some n) e = refl
 
-none_check : (x : Option ℕ) → is_given x ≡ false → check_of x ≡ Invalid
+none_check : (x : Option ℕ) → is_given x ≡ false → check_of x ≡ None
 none_check none e = refl
 none_check (some n) e = absurd (false≢true (sym e))
 
-pub valid_check : (s : List ℕ) → is_text s ≡ true → check_of (code_points s) ≡ Valid (points s)
+pub valid_check : (s : List ℕ) → is_text s ≡ true → check_of (code_points s) ≡ Some (points s)
 valid_check s e = given_check (code_points s) e
 
-pub invalid_check : (s : List ℕ) → is_text s ≡ false → check_of (code_points s) ≡ Invalid
+pub invalid_check : (s : List ℕ) → is_text s ≡ false → check_of (code_points s) ≡ None
 invalid_check s e = none_check (code_points s) e
 
 -- what an answer says
-check_some : (x : Option ℕ) {n : ℕ} → check_of x ≡ Valid n → x ≡ some n
+check_some : (x : Option ℕ) {n : ℕ} → check_of x ≡ Some n → x ≡ some n
 check_some none e = let z : ◌≡◌ {A = ℕ} 0 1 = cc in absurd (omega arith)
 check_some (some m) e = cc
 
-check_none : (x : Option ℕ) → check_of x ≡ Invalid → x ≡ none
+check_none : (x : Option ℕ) → check_of x ≡ None → x ≡ none
 check_none none e = refl
 check_none (some m) e = let z : ◌≡◌ {A = ℕ} 0 1 = cc in absurd (omega arith)
 
-pub answered-valid : (s : List ℕ) {n : ℕ} → check_of (code_points s) ≡ Valid n → code_points s ≡ some n
+pub answered-valid : (s : List ℕ) {n : ℕ} → check_of (code_points s) ≡ Some n → code_points s ≡ some n
 answered-valid s e = check_some (code_points s) e
 
-pub answered_invalid : (s : List ℕ) → check_of (code_points s) ≡ Invalid → is_text s ≡ false
+pub answered_invalid : (s : List ℕ) → check_of (code_points s) ≡ None → is_text s ≡ false
 answered_invalid s e = ap is_given (check_none (code_points s) e)
 
 -- the number of code points of a text

@@ -1,4 +1,5 @@
 -- Runs of characters of one form, and what they come to.
+use Rattle.std.specs.Prelude.{None, Some}
 use Prim.Native.Nat.{ℕ, zero, suc, ◌+◌, ◌-◌, ◌*◌, ◌/◌, ◌≤◌, ◌<◌}
 use mathlib.Core.Path.{◌≡◌, refl, sym, ap, subst, ◌∙◌}
 use mathlib.Core.Bool.{Bool, true, false, false≢true}
@@ -11,7 +12,6 @@ use borrow.Author.Tests.{leb-false}
 use lib.Dec.{leb}
 use lib.ListN.{length, get_or, take, drop, take-append-drop, length-drop}
 use lib.Seq.{drop-drop, drop-cons, drop-length, get_or-drop, take_at, take_all}
-use Rattle.text.specs.declared.TextCheck.TheVariants.{Valid, Invalid}
 use Rattle.text.specs.Rfc3629.{Form, octets, code_points, utf8_1, utf8_2, utf8_3, utf8_4}
 use Rattle.text.specs.Check.{check_of}
 use Rattle.text.specs.Characters.{is_one, utf8, Characters, end, next}
@@ -204,7 +204,7 @@ module _ {s : List ℕ} where
       let e : g.count ≡ r = omega arith in
       record { inside = a.inside; low = omega arith; count = rw e at g.says }
 
-  pub valid : {i n : ℕ} → Reached s i n → length s ≤ i → Valid n ≡ check_of (code_points s)
+  pub valid : {i n : ℕ} → Reached s i n → length s ≤ i → Some n ≡ check_of (code_points s)
   unfolding octets
   valid {i} {n} g h =
       let e : i ≡ length s = let l = g.inside in omega arith in
@@ -213,7 +213,7 @@ module _ {s : List ℕ} where
 
   invalid : {i n : ℕ} → Reached s i n → i < length s → is_one utf8_1 (take 1 (drop i s)) ≡ false
       → is_one utf8_2 (take 2 (drop i s)) ≡ false → is_one utf8_3 (take 3 (drop i s)) ≡ false
-      → is_one utf8_4 (take 4 (drop i s)) ≡ false → Invalid ≡ check_of (code_points s)
+      → is_one utf8_4 (take 4 (drop i s)) ≡ false → None ≡ check_of (code_points s)
   invalid {i} {n} g h one two three four =
       let l = length-drop i s in
       let e =
@@ -249,7 +249,7 @@ module _ {s : List ℕ} where
     over_2 : two ≡ i → is_one utf8_2 (take 2 (drop i s)) ≡ false
     over_2 e = rw e at r2.over
 
-    pub stuck_low : leb 0xE0 (get_or s two 0) ≡ false → two ≡ i → i < length s → Invalid ≡ check_of (code_points s)
+    pub stuck_low : leb 0xE0 (get_or s two 0) ≡ false → two ≡ i → i < length s → None ≡ check_of (code_points s)
     stuck_low l e h =
         let m : get_or s i 0 < 0xE0 = rw e at (leb-false 0xE0 (get_or s two 0) l) in
         invalid g h (over_1 e) (over_2 e) (low s utf8_3 0xE0 2 i refl refl m) (low s utf8_4 0xE0 3 i refl refl m)
@@ -273,7 +273,7 @@ module _ {s : List ℕ} where
           let u = r4.going.inside in
           omega arith
 
-      pub stuck : four ≡ i → i < length s → Invalid ≡ check_of (code_points s)
+      pub stuck : four ≡ i → i < length s → None ≡ check_of (code_points s)
       stuck e h =
           let p = r1.going.place in
           let q = r2.going.place in

@@ -13,30 +13,23 @@ ghost use Rattle.text.specs.InnerEach.{Each};
 ghost use Rattle.text.specs.InnerRuns.{is_ascii, Ascii, AsciiUpTo, Run};
 ghost use Rattle.text.specs.InnerTails.{tails_of};
 
-#[derive(Clone, Copy)]
-pub enum TextCheck {
-    // The text's number of code points.
-    Valid(usize),
-    Invalid,
-}
-
 // Whether the bytes are valid text.
 pub fn is_valid(s: &[u8]) -> bool
     ensures { result ≡ is_text s.now }
 {
     match check(s) {
-        TextCheck::Valid(_) => true,
-        TextCheck::Invalid => false,
+        Some(_) => true,
+        None => false,
     }
 }
 
 // Whether the bytes are valid text, and of how many code points. A text of ASCII alone is told first.
-pub fn check(s: &[u8]) -> TextCheck
+pub fn check(s: &[u8]) -> Option<usize>
     ensures { result ≡ check_of (code_points s.now) }
 {
     let lead = ascii_lead(s);
     if lead == s.len() {
-        return TextCheck::Valid(lead);
+        return Some(lead);
     }
     check_from(s, lead)
 }
@@ -44,7 +37,7 @@ pub fn check(s: &[u8]) -> TextCheck
 // The answer for a text whose bytes before first are ASCII.
 // UTF8-octets = *( UTF8-char )
 // UTF8-char   = UTF8-1 / UTF8-2 / UTF8-3 / UTF8-4
-fn check_from(s: &[u8], first: usize) -> TextCheck
+fn check_from(s: &[u8], first: usize) -> Option<usize>
     requires { Ascii s.now 0 first }
     ensures { result ≡ check_of (code_points s.now) }
 {
@@ -61,11 +54,11 @@ fn check_from(s: &[u8], first: usize) -> TextCheck
             count += (three - two) / 3 + (end - three) / 4;
         }
         if end == i {
-            return TextCheck::Invalid;
+            return None;
         }
         i = end;
     }
-    TextCheck::Valid(count)
+    Some(count)
 }
 
 // UTF8-1 = %x00-7F

@@ -1,4 +1,5 @@
 -- What fits: by the bytes where they are at most n, else by the code points.
+use Rattle.std.specs.Prelude.{None, Option, Some}
 use Prim.Native.Nat.{ℕ, ◌≤◌, ◌<◌}
 use mathlib.Core.Path.{◌≡◌, refl, ap, ◌∙◌}
 use mathlib.Core.Bool.{Bool, true, false, cond}
@@ -8,8 +9,6 @@ use borrow.Author.Tests.{leb-true, le-leb, lt-leb}
 use lib.Dec.{leb}
 use lib.ListN.{length}
 use Rattle.laws.proofs.Truths.{both}
-use Rattle.text.specs.declared.TextCheck.{TextCheck}
-use Rattle.text.specs.declared.TextCheck.TheVariants.{Valid, Invalid}
 use Rattle.text.specs.Rfc3629.{code_points, is_text}
 use Rattle.text.specs.Check.{check_of, points}
 use Rattle.text.proofs.Points.{valid_check, invalid_check, points-some, points-le}
@@ -46,14 +45,14 @@ many-bytes n x h = many (is_text x) (length x) n h
 
 -- ---- the check's answer
 
-by_text : (t : Bool) (k : ℕ) (c : TextCheck) → (t ≡ true → c ≡ Valid k) → (t ≡ false → c ≡ Invalid) → c ≡ cond t (Valid k) Invalid
+by_text : (t : Bool) (k : ℕ) (c : Option ℕ) → (t ≡ true → c ≡ Some k) → (t ≡ false → c ≡ None) → c ≡ cond t (Some k) None
 by_text true k c f g = f refl
 by_text false k c f g = g refl
 
-pub checked : (x : List ℕ) → check_of (code_points x) ≡ cond (is_text x) (Valid (points x)) Invalid
+pub checked : (x : List ℕ) → check_of (code_points x) ≡ cond (is_text x) (Some (points x)) None
 checked x = by_text (is_text x) (points x) (check_of (code_points x)) (valid_check x) (invalid_check x)
 
-limit : (t : Bool) (k n : ℕ) → limited n (cond t (Valid k) Invalid) ≡ cond (cond t (leb k n) false) (Valid k) Invalid
+limit : (t : Bool) (k n : ℕ) → limited n (cond t (Some k) None) ≡ cond (cond t (leb k n) false) (Some k) None
 limit true k n = refl
 limit false k n = refl
 
@@ -64,15 +63,15 @@ pub points-checked : (n : ℕ) (x : List ℕ) → limited n (check_of (code_poin
 points-checked n x = ap (limited n) (checked x) ∙ limit (is_text x) (points x) n
 
 -- what it says of a test
-pub told_false : (t : Bool) (k : ℕ) → cond t (Valid k) Invalid ≡ Invalid → false ≡ t
+pub told_false : (t : Bool) (k : ℕ) → cond t (Some k) None ≡ None → false ≡ t
 told_false true k e = let z : ◌≡◌ {A = ℕ} 0 1 = cc in absurd (omega arith)
 told_false false k e = refl
 
 module _ (k : ℕ) {m : ℕ} where
-  pub told_true : (t : Bool) → cond t (Valid k) Invalid ≡ Valid m → true ≡ t
+  pub told_true : (t : Bool) → cond t (Some k) None ≡ Some m → true ≡ t
   told_true true e = refl
   told_true false e = let z : ◌≡◌ {A = ℕ} 0 1 = cc in absurd (omega arith)
 
-  pub told-points : (t : Bool) → cond t (Valid k) Invalid ≡ Valid m → m ≡ k
+  pub told-points : (t : Bool) → cond t (Some k) None ≡ Some m → m ≡ k
   told-points true e = cc
   told-points false e = let z : ◌≡◌ {A = ℕ} 0 1 = cc in absurd (omega arith)

@@ -6,32 +6,26 @@ ghost use Rattle.std.specs.Prelude.{◌≡◌, true};
 ghost use Rattle.text_limit.specs.Limit.{fits_text};
 ghost use Rattle.text_limit.specs.InnerCheck.{check_within, limited};
 
-use text::TextCheck;
-
 // What the check says of a text, where that is at most n code points.
-fn at_most(found: TextCheck, n: usize) -> TextCheck
+fn at_most(found: Option<usize>, n: usize) -> Option<usize>
     ensures { result ≡ limited n found }
 {
-    match found {
-        TextCheck::Invalid => TextCheck::Invalid,
-        TextCheck::Valid(points) => {
-            if points <= n {
-                return TextCheck::Valid(points);
-            }
-            TextCheck::Invalid
-        }
+    let points = found?;
+    if points <= n {
+        return Some(points);
     }
+    None
 }
 
 // The text check of a text that fits.
-pub fn check_within(s: &[u8], by_points: bool, n: usize) -> TextCheck
+pub fn check_within(s: &[u8], by_points: bool, n: usize) -> Option<usize>
     ensures { result ≡ check_within by_points n s.now }
 {
     if n < s.len() {
         if by_points {
             return at_most(text::check(s), n);
         }
-        return TextCheck::Invalid;
+        return None;
     }
     text::check(s)
 }
@@ -41,8 +35,8 @@ fn points_within(s: &[u8], n: usize) -> bool
     ensures { result ≡ fits_text true n s.now }
 {
     match text::check(s) {
-        TextCheck::Invalid => false,
-        TextCheck::Valid(points) => points <= n,
+        None => false,
+        Some(points) => points <= n,
     }
 }
 

@@ -2,7 +2,7 @@
 // area.
 #![tactic(auto)]
 
-ghost use Rattle.std.specs.Prelude.{◌≡◌, true, false, cond, ◌+◌, ◌/◌, ◌^◌, ◌<◌, ◌≤◌, eqb, length, get_or};
+ghost use Rattle.std.specs.Prelude.{◌≡◌, true, false, cond, ◌+◌, ◌/◌, ◌^◌, ◌<◌, ◌≤◌, eqb, length, get_or, Some};
 ghost use Rattle.std.specs.Int.{w32, w64};
 ghost use Rattle.std.proofs.Common.{to_z};
 ghost use Rattle.laws.specs.Bytes.{from_le};
@@ -14,14 +14,11 @@ ghost use Rattle.numeric.specs.Decimal.{halves};
 ghost use Rattle.numeric.specs.Packed.{decode_bcd};
 ghost use Rattle.datatype.specs.Types.{size_of, is_varlen, precision_of};
 ghost use Rattle.value.specs.declared.DataValue.TheVariants.{Bool as BoolValue, Char as CharValue, Varchar as VarcharValue, Date as DateValue, Timestamp as TimestampValue, Numeric as NumericNumber};
-ghost use Rattle.stored_form.specs.declared.SlotRead.TheVariants.{Value as Read, NoValue};
 ghost use Rattle.stored_form.specs.Number.{numeric_of};
 ghost use Rattle.stored_form.specs.Read.{value_if, twos_complement, decoded, timed, whole, read_slot};
 
 use datatype::DataType;
 use numeric::Decoded;
-use stored_form::SlotRead;
-use temporal::TimeOfDay;
 use value::{DataValue, NumericValue, TextRange};
 
 // The number below zero of a magnitude: the complement of one less.
@@ -65,7 +62,7 @@ fn numeric_from(negative: bool, high: u64, low: u64, scale: u8) -> NumericValue
 }
 
 // 17 bytes that are no digits: 16 of two's complement, and a scale.
-fn from_twos_complement(bytes: &[u8]) -> SlotRead
+fn from_twos_complement(bytes: &[u8]) -> Option<DataValue>
     ensures { result
         ≡ value_if (eqb (length bytes.now) 17) (NumericNumber (twos_complement bytes.now)) }
 {
@@ -73,55 +70,55 @@ fn from_twos_complement(bytes: &[u8]) -> SlotRead
         let low = endian::read_u64(bytes, 0);
         let high = endian::read_i64(bytes, 8);
         let scale = bytes[16];
-        return SlotRead::Value(DataValue::Numeric(NumericValue { high, low, scale }));
+        return Some(DataValue::Numeric(NumericValue { high, low, scale }));
     }
-    SlotRead::NoValue
+    None
 }
 
-fn read_numeric(bytes: &[u8], p: usize, scale: u8) -> SlotRead
+fn read_numeric(bytes: &[u8], p: usize, scale: u8) -> Option<DataValue>
     requires { (p ≤ 38) × (length bytes.now ≡ (p + 2) / 2) }
     ensures { result ≡ decoded scale bytes.now (decode_bcd p bytes.now) }
 {
     match numeric::decode_numeric_bcd(bytes, p) {
         Decoded::Value(negative, high, low) => {
-            SlotRead::Value(DataValue::Numeric(numeric_from(negative, high, low, scale)))
+            Some(DataValue::Numeric(numeric_from(negative, high, low, scale)))
         }
         Decoded::Broken => from_twos_complement(bytes),
     }
 }
 
-fn read_bool(bytes: &[u8]) -> SlotRead
+fn read_bool(bytes: &[u8]) -> Option<DataValue>
     requires { length bytes.now ≡ 1 }
-    ensures { result ≡ Read (BoolValue (cond (eqb (get_or bytes.now 0 0) 0) 0 1)) }
+    ensures { result ≡ Some (BoolValue (cond (eqb (get_or bytes.now 0 0) 0) 0 1)) }
 {
     if bytes[0] == 0 {
-        return SlotRead::Value(DataValue::Bool(0));
+        return Some(DataValue::Bool(0));
     }
-    SlotRead::Value(DataValue::Bool(1))
+    Some(DataValue::Bool(1))
 }
 
-fn read_char(bytes: &[u8], start: usize) -> SlotRead
+fn read_char(bytes: &[u8], start: usize) -> Option<DataValue>
     ensures { result ≡ value_if (is_text bytes.now) (CharValue (whole start bytes.now)) }
 {
     if text::is_valid(bytes) {
         let length = bytes.len();
-        return SlotRead::Value(DataValue::Char(TextRange { start, length }));
+        return Some(DataValue::Char(TextRange { start, length }));
     }
-    SlotRead::NoValue
+    None
 }
 
-fn read_varchar(bytes: &[u8], start: usize, by_points: bool, n: usize) -> SlotRead
+fn read_varchar(bytes: &[u8], start: usize, by_points: bool, n: usize) -> Option<DataValue>
     ensures { result
         ≡ value_if (fits_text by_points n bytes.now) (VarcharValue (whole start bytes.now)) }
 {
     if text_limit::is_within(bytes, by_points, n) {
         let length = bytes.len();
-        return SlotRead::Value(DataValue::Varchar(TextRange { start, length }));
+        return Some(DataValue::Varchar(TextRange { start, length }));
     }
-    SlotRead::NoValue
+    None
 }
 
-fn read_date(bytes: &[u8]) -> SlotRead
+fn read_date(bytes: &[u8]) -> Option<DataValue>
     requires { length bytes.now ≡ 4 }
     ensures { result
         ≡ value_if (is_date (to_z w32 (from_le bytes.now)))
@@ -129,22 +126,20 @@ fn read_date(bytes: &[u8]) -> SlotRead
 {
     let days = endian::read_i32(bytes, 0);
     if temporal::is_date(days) {
-        return SlotRead::Value(DataValue::Date(days));
+        return Some(DataValue::Date(days));
     }
-    SlotRead::NoValue
+    None
 }
 
-fn read_time(bytes: &[u8]) -> SlotRead
+fn read_time(bytes: &[u8]) -> Option<DataValue>
     requires { length bytes.now ≡ 8 }
     ensures { result ≡ timed (time_of (to_z w64 (from_le bytes.now))) }
 {
-    match temporal::time_of(endian::read_i64(bytes, 0)) {
-        TimeOfDay::Micros(micros) => SlotRead::Value(DataValue::Time(micros)),
-        TimeOfDay::OutOfRange => SlotRead::NoValue,
-    }
+    let micros = temporal::time_of(endian::read_i64(bytes, 0))?;
+    Some(DataValue::Time(micros))
 }
 
-fn read_timestamp(bytes: &[u8]) -> SlotRead
+fn read_timestamp(bytes: &[u8]) -> Option<DataValue>
     requires { length bytes.now ≡ 8 }
     ensures { result
         ≡ value_if (is_timestamp (to_z w64 (from_le bytes.now)))
@@ -152,23 +147,23 @@ fn read_timestamp(bytes: &[u8]) -> SlotRead
 {
     let micros = endian::read_i64(bytes, 0);
     if temporal::is_timestamp(micros) {
-        return SlotRead::Value(DataValue::Timestamp(micros));
+        return Some(DataValue::Timestamp(micros));
     }
-    SlotRead::NoValue
+    None
 }
 
-pub fn from_bytes(ty: DataType, bytes: &[u8], start: usize) -> SlotRead
+pub fn from_bytes(ty: DataType, bytes: &[u8], start: usize) -> Option<DataValue>
     requires { (precision_of ty ≤ 38) × (is_varlen ty ≡ false → length bytes.now ≡ size_of ty) }
     ensures { result ≡ read_slot ty start bytes.now }
 {
     let length = bytes.len();
     match ty {
-        DataType::SmallInt => SlotRead::Value(DataValue::SmallInt(endian::read_i16(bytes, 0))),
-        DataType::Int => SlotRead::Value(DataValue::Int(endian::read_i32(bytes, 0))),
-        DataType::BigInt => SlotRead::Value(DataValue::BigInt(endian::read_i64(bytes, 0))),
-        DataType::Real => SlotRead::Value(DataValue::Real(endian::read_u32(bytes, 0))),
+        DataType::SmallInt => Some(DataValue::SmallInt(endian::read_i16(bytes, 0))),
+        DataType::Int => Some(DataValue::Int(endian::read_i32(bytes, 0))),
+        DataType::BigInt => Some(DataValue::BigInt(endian::read_i64(bytes, 0))),
+        DataType::Real => Some(DataValue::Real(endian::read_u32(bytes, 0))),
         DataType::DoublePrecision => {
-            SlotRead::Value(DataValue::DoublePrecision(endian::read_u64(bytes, 0)))
+            Some(DataValue::DoublePrecision(endian::read_u64(bytes, 0)))
         }
         DataType::Numeric { precision, scale } => read_numeric(bytes, precision as usize, scale),
         DataType::Decimal { precision, scale } => read_numeric(bytes, precision as usize, scale),
@@ -178,7 +173,7 @@ pub fn from_bytes(ty: DataType, bytes: &[u8], start: usize) -> SlotRead
         DataType::Varchar { by_points, n } => read_varchar(bytes, start, by_points, n as usize),
         DataType::Date => read_date(bytes),
         DataType::Time => read_time(bytes),
-        DataType::Bit(_) => SlotRead::Value(DataValue::Bit(TextRange { start, length })),
+        DataType::Bit(_) => Some(DataValue::Bit(TextRange { start, length })),
         DataType::Timestamp => read_timestamp(bytes),
     }
 }

@@ -1,4 +1,6 @@
 -- The loop of the check: the records that are left, counted on to those before them, decide as the whole list does.
+
+use Rattle.std.specs.Prelude.{Err, Ok}
 use Prim.Native.Nat.{ℕ, zero, suc, ◌+◌, ◌-◌, ◌≤◌, ◌<◌}
 use mathlib.Core.Path.{◌≡◌, refl, sym, ap, ◌∙◌}
 use mathlib.Core.Bool.{Bool, true, false, cond}
@@ -10,37 +12,35 @@ use lib.Dec.{eqb, ltb}
 use lib.ListN.{length}
 use Rattle.error.specs.declared.Refusal.{Refusal}
 use Rattle.error.specs.declared.Refusal.TheVariants.{BadValueList}
-use Rattle.error.specs.Result.{ok, refused, before}
+use Rattle.error.specs.Result.{before, Result}
 use Rattle.row_format.specs.Places.{row_limit}
 use Rattle.value.specs.declared.DataValue.{DataValue}
-use Rattle.value_list.specs.declared.ListCheck.{ListCheck}
-use Rattle.value_list.specs.declared.ListCheck.TheVariants as Check
 use Rattle.value_list.specs.Lists.{Values, records, values_of, judged, checked}
 use Rattle.value_list.specs.InnerSizes.{size_at}
 use Rattle.value_list.proofs.Sizes.{Whole, size_none}
 use Rattle.value_list.specs.InnerLists.{answer}
 
 -- the tests after the last record
-abbrev pub settled : Bool → ℕ → ℕ → ℕ → ℕ → ListCheck
-settled k n area len count = cond (eqb count n) (cond (ltb (row_limit k) area) (Check.Refused (BadValueList 0)) Check.Good) (Check.Refused (BadValueList len))
+abbrev pub settled : Bool → ℕ → ℕ → ℕ → ℕ → Result Unit
+settled k n area len count = cond (eqb count n) (cond (ltb (row_limit k) area) (Err (BadValueList 0)) (Ok tt)) (Err (BadValueList len))
 
-abbrev rest : Bool → ℕ → ℕ → ℕ → ℕ → Values → ListCheck
-rest k n area len count (ok vs) = settled k n area len (count + length vs)
-rest k n area len count (refused r) = Check.Refused r
+abbrev rest : Bool → ℕ → ℕ → ℕ → ℕ → Values → Result Unit
+rest k n area len count (Ok vs) = settled k n area len (count + length vs)
+rest k n area len count (Err r) = Err r
 
-answer-cond : (t u : Bool) (q r : Refusal) (vs : List DataValue) → cond t (cond u (Check.Refused q) Check.Good) (Check.Refused r) ≡ answer (cond t (cond u (refused q) (ok vs)) (refused r))
+answer-cond : (t u : Bool) (q r : Refusal) (vs : List DataValue) → cond t (cond u (Err q) (Ok tt)) (Err r) ≡ answer (cond t (cond u (Err q) (Ok vs)) (Err r))
 answer-cond true true q r vs = refl
 answer-cond true false q r vs = refl
 answer-cond false u q r vs = refl
 
 rest_all : (k : Bool) (n area len : ℕ) (p : Values) → rest k n area len 0 p ≡ answer (judged k n area len p)
-rest_all k n area len (ok vs) =
+rest_all k n area len (Ok vs) =
     ap (settled k n area len) (zero-add (length vs)) ∙ answer-cond (eqb (length vs) n) (ltb (row_limit k) area) (BadValueList 0) (BadValueList len) vs
-rest_all k n area len (refused r) = refl
+rest_all k n area len (Err r) = refl
 
 rest_before : (k : Bool) (n area len count : ℕ) (v : DataValue) (p : Values) → rest k n area len count (before v p) ≡ rest k n area len (count + 1) p
-rest_before k n area len count v (ok vs) = ap (settled k n area len) (omega arith)
-rest_before k n area len count v (refused r) = refl
+rest_before k n area len count v (Ok vs) = ap (settled k n area len) (omega arith)
+rest_before k n area len count v (Err r) = refl
 
 pub record Checking (k : Bool) (s : List ℕ) (n area at count : ℕ) : Type 0 where
   pub behind : count ≤ at
@@ -63,7 +63,7 @@ module _ {k : Bool} {s : List ℕ} {n area at count : ℕ} (w : Checking k s n a
     left : length s - count ≡ suc (length s - (count + 1))
     left = omega (arith, w.behind)
 
-    pub check_bad : size_at s at ≡ 0 → Check.Refused (BadValueList at) ≡ answer (checked k n area s)
+    pub check_bad : size_at s at ≡ 0 → Err (BadValueList at) ≡ answer (checked k n area s)
     check_bad e = sym (rw (lt-ltb at (length s) h, size_none s at h e)) ∙ rw left at w.whole
 
     pub check_more : Whole s at → Checking k s n area (at + size_at s at) (count + 1)

@@ -1,4 +1,5 @@
 -- A record that was written is read back, and what is read fits a record.
+use Rattle.std.specs.Prelude.{Err, Ok}
 use Prim.Native.Nat.{ℕ, suc, ◌+◌, ◌^◌, ◌≤◌, ◌<◌, ◌*◌}
 use mathlib.Core.Path.{◌≡◌, refl, sym, ap, ◌∙◌, subst}
 use mathlib.Core.Bool.{Bool, true, false, cond}
@@ -15,6 +16,8 @@ use mir.ValLaws.{to_z-of_z, to_z-Fits, of_z_fits}
 use Rattle.row_format.proofs.Sorts.{width-le, limit_fits, offset-le}
 use Rattle.row_format.specs.Places.{offset_width, row_limit}
 use Rattle.laws.specs.Bytes.{to_le}
+use Rattle.error.proofs.Results.{ok_first, ok_second, refused-ok}
+use Rattle.error.specs.Result.{Result}
 use Rattle.error.specs.declared.Refusal.{Refusal}
 use Rattle.laws.proofs.Bytes.{AllBytes, from_at, from-part, length-to_le}
 use Rattle.laws.proofs.Truths.{cases, by_cond}
@@ -24,7 +27,6 @@ use Rattle.value.specs.declared.NumericValue.{NumericValue}
 use Rattle.value.specs.declared.TextRange.{TextRange}
 use Rattle.value.specs.Kinds.{kind_of, is_range_kind, plain_kind, is_long_kind, is_value_kind}
 use Rattle.value.specs.Ranges.{range_of as textRange}
-use Rattle.value_list.specs.declared.ValueRecord.TheVariants.{Value, Refused}
 use Rattle.value_list.specs.Records.{body_length, number_at, numeric_at, range_at, value_at, record_of_kind, record_at, numeric_bytes, range_body, range_record, body_of, record_of, NarrowRange, SizedNumeric, Sized}
 use Rattle.value_list.proofs.LongKinds.{either}
 use Rattle.value_list.proofs.Sizes.{body_value, whole_of}
@@ -103,7 +105,7 @@ form_of true (D.Bit r) f n = record { kind = 19; body = range_body 4 r; whole = 
 form_of k (D.Timestamp x) f n = plain refl refl refl (λ p q at e. ap D.Timestamp (signed-read p q at e w64 8 refl x f))
 
 -- a record at a place of any list is read back, with the place after it
-form-read : (us vs : List ℕ) (at : ℕ) → length us ≡ at → {k : Bool} {v : DataValue} (m : Form k v) → record_at (us ++ ((m.kind ∷ m.body) ++ vs)) at ≡ Value v (at + length (m.kind ∷ m.body))
+form-read : (us vs : List ℕ) (at : ℕ) → length us ≡ at → {k : Bool} {v : DataValue} (m : Form k v) → record_at (us ++ ((m.kind ∷ m.body) ++ vs)) at ≡ Ok (v, (at + length (m.kind ∷ m.body)))
 form-read us vs at e {k} {v} m =
     let s = us ++ ((m.kind ∷ m.body) ++ vs) in
     let n = body_length m.kind in
@@ -116,10 +118,10 @@ form-read us vs at e {k} {v} m =
     ∙ m.back (us ++ (m.kind ∷ [])) vs (at + 1) (length-append us (m.kind ∷ []) ∙ ap (λ (x : ℕ). x + 1) e) in
     ap (λ (x : ℕ). record_of_kind x s at) kind
     ∙ whole_of s at m.kind m.known (rw lengths (omega arith))
-    ∙ ap (λ (u : DataValue). Value u (at + (1 + n))) body
-    ∙ ap (λ (x : ℕ). Value v (at + x)) (sym long)
+    ∙ ap (λ (u : DataValue). Ok (u, (at + (1 + n)))) body
+    ∙ ap (λ (x : ℕ). Ok (v, (at + x))) (sym long)
 
-pub record_read : (us vs : List ℕ) (at : ℕ) → length us ≡ at → (k : Bool) (v : DataValue) → Sized v → Narrow k v → record_at (us ++ (record_of k v ++ vs)) at ≡ Value v (at + length (record_of k v))
+pub record_read : (us vs : List ℕ) (at : ℕ) → length us ≡ at → (k : Bool) (v : DataValue) → Sized v → Narrow k v → record_at (us ++ (record_of k v ++ vs)) at ≡ Ok (v, (at + length (record_of k v)))
 record_read us vs at e k v f n = let m = form_of k v f n in rw m.whole (form-read us vs at e m)
 
 -- it has a byte or more
@@ -185,25 +187,22 @@ pub record Given (s : List ℕ) (at : ℕ) (v : DataValue) (next : ℕ) : Type 0
   pub place : next ≡ at + 1 + body_length (get_or s at 0)
   pub within : next ≤ length s
 
-pub given : (s : List ℕ) (at : ℕ) {v : DataValue} {next : ℕ} → record_at s at ≡ Value v next → Given s at v next
+pub given : (s : List ℕ) (at : ℕ) {v : DataValue} {next : ℕ} → record_at s at ≡ Ok (v, next) → Given s at v next
 given s at {v} {next} e =
     let k = get_or s at 0 in
     either (is_value_kind k)
     (λ g.
-    cases (length s) (at + 1 + body_length k) (λ l. absurd (refused-value (rw (g, lt-ltb (length s) (at + 1 + body_length k) l) at e)))
+    cases (length s) (at + 1 + body_length k) (λ l. absurd (refused-ok (rw (g, lt-ltb (length s) (at + 1 + body_length k) l) at e)))
     (λ l. taken g l (rw (g, le-ltb (length s) (at + 1 + body_length k) l) at e)))
-    (λ g. absurd (refused-value (rw g at e)))
+    (λ g. absurd (refused-ok (rw g at e)))
   where
-    refused-value : {r : Refusal} {u : DataValue} {n : ℕ} → Refused r ≡ Value u n → ⊥
-    refused-value p = let z : ◌≡◌ {A = ℕ} 0 1 = cc in omega arith
-
-    taken : is_value_kind (get_or s at 0) ≡ true → at + 1 + body_length (get_or s at 0) ≤ length s → Value (body_value (get_or s at 0) s (at + 1)) (at + 1 + body_length (get_or s at 0)) ≡ Value v next → Given s at v next
+    taken : is_value_kind (get_or s at 0) ≡ true → at + 1 + body_length (get_or s at 0) ≤ length s → ◌≡◌ {A = Result (DataValue × ℕ)} (Ok (body_value (get_or s at 0) s (at + 1), at + 1 + body_length (get_or s at 0))) (Ok (v, next)) → Given s at v next
     taken g l p =
-        let q : next ≡ at + 1 + body_length (get_or s at 0) = cc in
-        record { value = cc; known = g; place = q; within = rw q l }
+        let q : next ≡ at + 1 + body_length (get_or s at 0) = sym (ok_second p) in
+        record { value = sym (ok_first p); known = g; place = q; within = rw q l }
 
 -- every value that is read fits a record
-pub value-sized : (s : List ℕ) (at : ℕ) {v : DataValue} {next : ℕ} → AllBytes s → record_at s at ≡ Value v next → Sized v
+pub value-sized : (s : List ℕ) (at : ℕ) {v : DataValue} {next : ℕ} → AllBytes s → record_at s at ≡ Ok (v, next) → Sized v
 value-sized s at a e = subst Sized (sym (given s at e).value) (body_sized s a (is_long_kind (get_or s at 0)) (plain_kind (get_or s at 0)) (at + 1))
 
 -- what fits a record can be written for long rows

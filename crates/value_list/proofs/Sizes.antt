@@ -1,4 +1,5 @@
 -- The record at a place by its number of bytes: none, or all of them inside the list.
+use Rattle.std.specs.Prelude.{Err, Ok}
 use Prim.Native.Nat.{ℕ, ◌+◌, ◌-◌, ◌≤◌, ◌<◌}
 use mathlib.Core.Path.{◌≡◌, ap}
 use mathlib.Core.List.{List}
@@ -9,7 +10,6 @@ use lib.ListN.{length, get_or}
 use Rattle.value.specs.declared.DataValue.{DataValue}
 use Rattle.error.specs.declared.Refusal.TheVariants.{BadValueList}
 use Rattle.laws.proofs.Truths.{cases}
-use Rattle.value_list.specs.declared.ValueRecord.TheVariants.{Value, Refused}
 use Rattle.value_list.specs.Records.{body_length, range_width, value_at, record_of_kind, record_at}
 use Rattle.value.specs.Kinds.{plain_kind, is_value_kind}
 use Rattle.value_list.proofs.LongKinds.{either}
@@ -21,17 +21,17 @@ body_value k s at = value_at (range_width k) (plain_kind k) s at
 
 -- a record that is whole
 pub record Whole (s : List ℕ) (at : ℕ) : Type 0 where
-  pub value : record_at s at ≡ Value (body_value (get_or s at 0) s (at + 1)) (at + size_at s at)
+  pub value : record_at s at ≡ Ok ((body_value (get_or s at 0) s (at + 1)), (at + size_at s at))
   pub body : at + 1 + body_length (get_or s at 0) ≤ length s
   pub within : at + size_at s at ≤ length s
   pub some : 0 < size_at s at
 
 -- a record of a known kind whose body is there
-pub whole_of : (s : List ℕ) (at k : ℕ) → is_value_kind k ≡ true → at + 1 + body_length k ≤ length s → record_of_kind k s at ≡ Value (body_value k s (at + 1)) (at + (1 + body_length k))
-whole_of s at k g l = rw (g, le-ltb (length s) (at + 1 + body_length k) l) (ap (Value (body_value k s (at + 1))) (omega arith))
+pub whole_of : (s : List ℕ) (at k : ℕ) → is_value_kind k ≡ true → at + 1 + body_length k ≤ length s → record_of_kind k s at ≡ Ok ((body_value k s (at + 1)), (at + (1 + body_length k)))
+whole_of s at k g l = rw (g, le-ltb (length s) (at + 1 + body_length k) l) (ap ((λ z. Ok ((body_value k s (at + 1)), z))) (omega arith))
 
 module _ (s : List ℕ) (at : ℕ) (h : at < length s) where
-  none_of : (k : ℕ) → size_of_kind k s at ≡ 0 → record_of_kind k s at ≡ Refused (BadValueList at)
+  none_of : (k : ℕ) → size_of_kind k s at ≡ 0 → record_of_kind k s at ≡ Err (BadValueList at)
   none_of k e =
       either (is_value_kind k)
       (λ g.
@@ -41,7 +41,7 @@ module _ (s : List ℕ) (at : ℕ) (h : at < length s) where
       absurd (omega arith)))
       (λ g. rw g)
 
-  pub size_none : size_at s at ≡ 0 → record_at s at ≡ Refused (BadValueList at)
+  pub size_none : size_at s at ≡ 0 → record_at s at ≡ Err (BadValueList at)
   size_none e = none_of (get_or s at 0) e
 
   some_of : (k : ℕ) → (size_of_kind k s at ≡ 0 → ⊥) → (at + 1 + body_length k ≤ length s) × ((size_of_kind k s at ≡ 1 + body_length k) × (is_value_kind k ≡ true))

@@ -1,17 +1,16 @@
 -- For the proofs: the check's answer, and values that records can hold.
-use Rattle.error.specs.Result.{ok, refused}
-use Rattle.value_list.specs.declared.ListCheck.{ListCheck}
-use Rattle.value_list.specs.declared.ListCheck.TheVariants as Check
+
+use Rattle.error.specs.Result.{Result}
 use Rattle.value_list.specs.Lists.{Values}
-use Rattle.std.specs.Prelude.{List, [], ◌∷◌, Bool}
+use Rattle.std.specs.Prelude.{List, [], ◌∷◌, Bool, Err, Ok}
 use Rattle.value.specs.declared.DataValue.{DataValue}
 use Rattle.value_list.specs.Records.{Sized}
 use Rattle.value_list.specs.InnerRecords.{Narrow}
 
 -- the check's answer: the values forgotten
-abbrev pub answer : Values → ListCheck
-answer (ok vs) = Check.Good
-answer (refused r) = Check.Refused r
+abbrev pub answer : Values → Result Unit
+answer (Ok vs) = (Ok tt)
+answer (Err r) = Err r
 
 -- values that records can hold
 abbrev pub AllSized : List DataValue → Type 0

@@ -1,6 +1,7 @@
 -- FORMAT 4.1, 4.6. 01, "Schema and value bytes": "A record is one byte of kind, then a body whose length the kind
 -- fixes; numbers are little-endian." 02, request 5, has three more kinds.
-use Rattle.std.specs.Prelude.{ℕ, ◌+◌, ◌^◌, ◌<◌, Bool, true, false, cond, List, [], ◌∷◌, ◌++◌, eqb, ltb, length, get_or, take, drop}
+use Rattle.error.specs.Result.{Result}
+use Rattle.std.specs.Prelude.{ℕ, ◌+◌, ◌^◌, ◌<◌, Bool, true, false, cond, List, [], ◌∷◌, ◌++◌, eqb, ltb, length, get_or, take, drop, Err, Ok}
 use Rattle.std.specs.Int.{w8, w16, w32, w64}
 use Rattle.std.proofs.Common.{Fits, SFits, to_z, of_z}
 use Rattle.error.specs.declared.Refusal.TheVariants.{BadValueList}
@@ -12,8 +13,6 @@ use Rattle.value.specs.declared.TextRange.{TextRange}
 use Rattle.row_format.specs.Places.{offset_width}
 use Rattle.value.specs.Kinds.{kind_of, is_range_kind, long_kind, plain_kind, is_long_kind, is_value_kind}
 use Rattle.value.specs.Ranges.{range_of}
-use Rattle.value_list.specs.declared.ValueRecord.{ValueRecord}
-use Rattle.value_list.specs.declared.ValueRecord.TheVariants.{Value, Refused}
 
 -- "1 SmallInt 2; 2 Int 4; 3 BigInt 8; 4 Real 4; 5 DoublePrecision 8; 6 Numeric 17 [..]; 7 Bool 1 [..]; 8 Char, 9
 -- Varchar and 12 Bit 4 [..]; 10 Date 4; 11 Time 8; 13 Timestamp 8"; "0 null 0". 02, request 5: "17, 18 and 19 [..] with
@@ -77,14 +76,14 @@ abbrev pub range_width : ℕ → ℕ
 range_width k = offset_width (is_long_kind k)
 
 -- 10: "unknown kind, cut"; else the value and the place after its record
-abbrev pub record_of_kind : ℕ → List ℕ → ℕ → ValueRecord
+abbrev pub record_of_kind : ℕ → List ℕ → ℕ → Result (DataValue × ℕ)
 record_of_kind k s at =
     cond (is_value_kind k)
-    (cond (ltb (length s) (at + 1 + body_length k)) (Refused (BadValueList at))
-    (Value (value_at (range_width k) (plain_kind k) s (at + 1)) (at + 1 + body_length k)))
-    (Refused (BadValueList at))
+    (cond (ltb (length s) (at + 1 + body_length k)) (Err (BadValueList at))
+    (Ok ((value_at (range_width k) (plain_kind k) s (at + 1)), (at + 1 + body_length k))))
+    (Err (BadValueList at))
 
-abbrev pub record_at : List ℕ → ℕ → ValueRecord
+abbrev pub record_at : List ℕ → ℕ → Result (DataValue × ℕ)
 record_at s at = record_of_kind (get_or s at 0) s at
 
 -- ---- a record written

@@ -11,20 +11,6 @@ ghost use Rattle.value_list.specs.InnerLists.{answer};
 use error::Refusal;
 use value::{DataValue, NumericValue, TextRange, value_kinds};
 
-// What stands at a place of a value list.
-#[derive(Clone, Copy)]
-pub enum ValueRecord {
-    // A value, and the place after its record.
-    Value(DataValue, usize),
-    Refused(Refusal),
-}
-
-#[derive(Clone, Copy)]
-pub enum ListCheck {
-    Good,
-    Refused(Refusal),
-}
-
 // The bytes after the byte of kind.
 pub fn body_length(kind: u8) -> usize
     ensures { (result ≡ body_length kind) × (result ≤ 17) }
@@ -128,25 +114,25 @@ fn value_at(list: &[u8], is_long: bool, at: usize, kind: u8) -> DataValue
     }
 }
 
-pub fn value_record_at(list: &[u8], at: usize) -> ValueRecord
+pub fn value_record_at(list: &[u8], at: usize) -> error::Result<(DataValue, usize)>
     requires { at < length list.now }
     ensures { result ≡ record_at list.now at }
 {
     let size = record_size(list, at);
     if size == 0 {
-        return ValueRecord::Refused(Refusal::BadValueList(at));
+        return Err(Refusal::BadValueList(at));
     }
     let kind = list[at];
     let is_long = value::is_long_kind(kind);
-    ValueRecord::Value(
+    Ok((
         value_at(list, is_long, at + 1, value::plain_kind(kind)),
         at + size,
-    )
+    ))
 }
 
 // Whether a list has one record a column, beside a text area of `area` bytes, for rows of a sort. The bodies are not
 // looked at.
-pub fn check_values(list: &[u8], is_long: bool, columns: usize, area: usize) -> ListCheck
+pub fn check_values(list: &[u8], is_long: bool, columns: usize, area: usize) -> error::Result<()>
     ensures { result ≡ answer (checked is_long columns area list.now) }
 {
     let mut at = 0;
@@ -154,16 +140,16 @@ pub fn check_values(list: &[u8], is_long: bool, columns: usize, area: usize) -> 
     while at < list.len() {
         let size = record_size(list, at);
         if size == 0 {
-            return ListCheck::Refused(Refusal::BadValueList(at));
+            return Err(Refusal::BadValueList(at));
         }
         at += size;
         count += 1;
     }
     if count != columns {
-        return ListCheck::Refused(Refusal::BadValueList(list.len()));
+        return Err(Refusal::BadValueList(list.len()));
     }
     if row_layout::row_limit(is_long) < area {
-        return ListCheck::Refused(Refusal::BadValueList(0));
+        return Err(Refusal::BadValueList(0));
     }
-    ListCheck::Good
+    Ok(())
 }

@@ -1,4 +1,5 @@
 -- Equal stored forms read back as the same content, wherever they stand.
+use Rattle.std.specs.Prelude.{Some}
 use Prim.Native.Nat.{ℕ}
 use mathlib.Core.Path.{◌≡◌, sym, ap, ◌∙◌}
 use mathlib.Core.Bool.{true}
@@ -10,7 +11,6 @@ use Rattle.datatype.specs.declared.DataType.{DataType}
 use Rattle.datatype.specs.Types.{length_of}
 use Rattle.value.specs.declared.DataValue.{DataValue}
 use Rattle.value.specs.Ranges.{part, text_of}
-use Rattle.stored_form.specs.declared.SlotRead.TheVariants.{Value}
 use Rattle.stored_form.specs.Read.{read_slot}
 use Rattle.stored_form.proofs.Anywhere.{Twins, alike, char, varchar, bit, both}
 use Rattle.value_same.specs.Same.{same_content}
@@ -26,6 +26,6 @@ module _ (a b : ℕ) (bs r s : List ℕ)
   twins_same n varchar = rw (at_a, at_b) (bytes-self bs)
   twins_same n bit = rw (at_a, at_b) (bytes-self (unpack_bits n bs))
 
-  pub equal_forms_same : (t : DataType) {v w : DataValue} → read_slot t a bs ≡ Value v → read_slot t b bs ≡ Value w
+  pub equal_forms_same : (t : DataType) {v w : DataValue} → read_slot t a bs ≡ Some v → read_slot t b bs ≡ Some w
       → same_content (length_of t) v (text_of r v) w (text_of s w) ≡ true
   equal_forms_same t e f = twins_same (length_of t) (rw (e, f) at (both a b bs t))

@@ -1,4 +1,5 @@
 -- A value read from a slot stands in its row, as `same_content` requires, and fits a record.
+use Rattle.std.specs.Prelude.{None, Option, Some}
 use Prim.Native.Nat.{ℕ, zero, suc, ◌+◌, ◌/◌, ◌%◌, ◌^◌, ◌≤◌, ◌<◌}
 use mathlib.Core.Path.{◌≡◌, refl, subst}
 use mathlib.Core.Bool.{Bool, true, false, cond}
@@ -18,8 +19,6 @@ use Rattle.laws.proofs.Bytes.{AllBytes, from-part}
 use Rattle.laws.proofs.Truths.{by_cond}
 use Rattle.text.specs.Rfc3629.{is_text}
 use Rattle.text_limit.specs.Limit.{fits_text}
-use Rattle.temporal.specs.declared.TimeOfDay.{TimeOfDay}
-use Rattle.temporal.specs.declared.TimeOfDay.TheVariants.{Micros, OutOfRange}
 use Rattle.temporal.specs.Ranges.{is_date, is_timestamp}
 use Rattle.temporal.specs.Time.{mod_z, time_of}
 use Rattle.temporal.proofs.Counts.{count-signed}
@@ -38,8 +37,6 @@ use Rattle.value.specs.declared.DataValue.TheVariants as D
 use Rattle.value.specs.Kinds.{kind_of}
 use Rattle.value.specs.Ranges.{no_text, range_of}
 use Rattle.value_list.specs.Records.{NarrowRange, SizedNumeric, Sized}
-use Rattle.stored_form.specs.declared.SlotRead.{SlotRead}
-use Rattle.stored_form.specs.declared.SlotRead.TheVariants.{Value, NoValue}
 use Rattle.stored_form.specs.Number.{numeric_of}
 use Rattle.stored_form.specs.Read.{value_if, twos_complement, decoded, timed, whole, read_slot}
 use Rattle.stored_form.proofs.Numbers.{number_fits}
@@ -47,9 +44,9 @@ use Rattle.value_same.specs.InnerFields.{stands_in}
 
 -- ---- what holds of every value that a slot of type t can give
 
-abbrev Holds : (DataValue → Type 0) → SlotRead → Type 0
-Holds P (Value v) = P v
-Holds P NoValue = Unit {0}
+abbrev Holds : (DataValue → Type 0) → Option DataValue → Type 0
+Holds P (Some v) = P v
+Holds P None = Unit {0}
 
 module _ (P : DataValue → Type 0) where
   if_holds : (b : Bool) (v : DataValue) → P v → Holds P (value_if b v)
@@ -62,11 +59,11 @@ module _ (P : DataValue → Type 0) where
   numeric_holds s bs Bcd.Broken e =
       if_holds (eqb (length bs) 17) (D.Numeric (twos_complement bs)) (e (twos_complement bs))
 
-  time-holds : (d : TimeOfDay) → ((z : ℤ) → P (D.Time z)) → Holds P (timed d)
-  time-holds (Micros z) e = e z
-  time-holds OutOfRange e = tt
+  time-holds : (d : Option ℤ) → ((z : ℤ) → P (D.Time z)) → Holds P (timed d)
+  time-holds (Some z) e = e z
+  time-holds None e = tt
 
-  read-holds : (s : SlotRead) (v : DataValue) → Holds P s → s ≡ Value v → P v
+  read-holds : (s : Option DataValue) (v : DataValue) → Holds P s → s ≡ Some v → P v
   read-holds s v h e = subst (Holds P) e h
 
 -- ---- the row
@@ -120,7 +117,7 @@ module _ (start : ℕ) (bs row : List ℕ) (h : start + length bs ≤ length row
 
   -- bs are the bytes of a column of type t, at `start` of the row
   module _ (t : DataType) (v : DataValue)
-      (l : is_varlen t ≡ false → length bs ≡ size_of t) (e : read_slot t start bs ≡ Value v) where
+      (l : is_varlen t ≡ false → length bs ≡ size_of t) (e : read_slot t start bs ≡ Some v) where
     pub read-placed : Placed t row v
     read-placed = read-holds (Placed t row) (read_slot t start bs) v (slot_placed t l) e
 
@@ -151,8 +148,8 @@ time-sized : (z : ℤ) → SFits w64 z → Holds Sized (timed (time_of z))
 time-sized z f =
     let r = rem_z z (pos 1000000) in
     let s = mod_z (quot_z z (pos 1000000)) (2 ^ 32) in
-    by_cond (λ d. Holds Sized (timed d)) (lt_z r (pos 0)) OutOfRange _ (λ _. tt)
-    (λ h. by_cond (λ d. Holds Sized (timed d)) (leb 86400 s) OutOfRange _ (λ _. tt)
+    by_cond (λ d. Holds Sized (timed d)) (lt_z r (pos 0)) None _ (λ _. tt)
+    (λ h. by_cond (λ d. Holds Sized (timed d)) (leb 86400 s) None _ (λ _. tt)
     (λ k. count-signed z f r refl h s refl (leb-false 86400 s k)))
 
 module _ (start : ℕ) (bs : List ℕ) (a : AllBytes bs) where
@@ -207,5 +204,5 @@ module _ (start : ℕ) (bs : List ℕ) (a : AllBytes bs) where
 
   -- bs are the bytes of a column of type t, at `start` of a row that is not too long, of either sort
   pub read-sized : (t : DataType) (v : DataValue) → (is_varlen t ≡ false → length bs ≡ size_of t)
-      → start + length bs ≤ 1048576 → precision_of t ≤ 38 → scale_of t < 256 → read_slot t start bs ≡ Value v → Sized v
+      → start + length bs ≤ 1048576 → precision_of t ≤ 38 → scale_of t < 256 → read_slot t start bs ≡ Some v → Sized v
   read-sized t v l n p s e = read-holds Sized (read_slot t start bs) v (slot-sized t l n p s) e

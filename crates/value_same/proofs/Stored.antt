@@ -13,6 +13,7 @@ use Rattle.laws.proofs.Truths.{both}
 use Rattle.float.specs.Same.{same_value}
 use Rattle.float.proofs.ByBits.{value_alike}
 use Rattle.bit_utils.specs.Bits.{pack_bits, unpack_bits}
+use Rattle.error.proofs.Results.{ok_first}
 use Rattle.datatype.specs.declared.DataType.{DataType}
 use Rattle.datatype.specs.Types.{length_of}
 use Rattle.value.specs.declared.DataValue.{DataValue}
@@ -29,10 +30,9 @@ use Rattle.value_same.proofs.Equivalence.{same_kinds, pattern}
 -- values whose records are equal: the record is read back
 record_same : (v w : DataValue) → Sized v → Sized w → record_of true v ≡ record_of true w → v ≡ w
 record_same v w f g e =
-    let p =
-    sym (record_read [] [] 0 refl true v f (sized_narrow v f)) ∙ ap (λ (s : List ℕ). record_at (s ++ []) 0) e
-    ∙ record_read [] [] 0 refl true w g (sized_narrow w g) in
-    cc
+    ok_first
+    (sym (record_read [] [] 0 refl true v f (sized_narrow v f)) ∙ ap (λ (s : List ℕ). record_at (s ++ []) 0) e
+    ∙ record_read [] [] 0 refl true w g (sized_narrow w g))
 
 module _ (t : DataType) (x y : List ℕ) where
   floats : (f : Format) (v w : DataValue) → kind_of v ≡ kind_for f → kind_of w ≡ kind_for f

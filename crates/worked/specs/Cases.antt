@@ -1,12 +1,10 @@
 -- 01, "Platform rows worked out": the cases marked (P) and case 11, and RFC 3629's examples (section 7), each as what
 -- the definitions compute beside what the paper states. "S is Int, Varchar(5), SmallInt."
-use Rattle.std.specs.Prelude.{ℕ, true, false, List, [], ◌∷◌, ◌++◌, map, ◌≡◌, replicate, ℤ, pos, negsuc}
+use Rattle.error.specs.Result.{Result}
+use Rattle.std.specs.Prelude.{ℕ, true, false, List, [], ◌∷◌, ◌++◌, map, ◌≡◌, replicate, ℤ, pos, negsuc, Err, Ok}
 use Rattle.std.proofs.Math.Option.{Option, none, some}
-use Rattle.error.specs.declared.Answer.{Answer}
-use Rattle.error.specs.declared.Answer.TheVariants.{Done, Refused}
 use Rattle.error.specs.Refusal.{number_of as numberFor, place_of}
 use Rattle.error.specs.Answer.{Outcome, Counted}
-use Rattle.error.specs.Result.{ok, refused}
 use Rattle.laws.specs.Bits.{bit_value}
 use Rattle.laws.specs.Bytes.{to_le}
 use Rattle.row_format.specs.declared.Shape.{Shape}
@@ -36,8 +34,8 @@ AllHold cases = map (λ c. c.computed) cases ≡ map (λ c. c.stated) cases
 
 -- the columns of a schema's bytes
 abbrev pub shapes_in : Parsed → List Shape
-shapes_in (ok ts) = map shape_of ts
-shapes_in (refused r) = []
+shapes_in (Ok ts) = map shape_of ts
+shapes_in (Err r) = []
 
 unfoldable pub columns : List ℕ → List Shape
 columns schema = shapes_in (schema_of false schema)
@@ -57,9 +55,9 @@ abbrev pub one : Cell
 one = some (to_le 4 1)
 
 -- 0 and the length, or number and place; then the lent bytes
-abbrev pub answered : Answer → List ℕ
-answered (Done n) = 0 ∷ n ∷ []
-answered (Refused e) = numberFor e ∷ place_of e ∷ []
+abbrev pub answered : Result ℕ → List ℕ
+answered (Ok n) = 0 ∷ n ∷ []
+answered (Err e) = numberFor e ∷ place_of e ∷ []
 
 abbrev pub outcome : Outcome → List ℕ
 outcome o = answered o.0 ++ o.1

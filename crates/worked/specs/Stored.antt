@@ -1,8 +1,7 @@
 -- 01, "Stored forms", in rows of one column: what a build stores of a value, and what a read gives of a slot. Outside a
 -- type's range "a value gives 12; a stored Date or Timestamp outside its range gives 8".
-use Rattle.std.specs.Prelude.{ℕ, false, List, [], ◌∷◌, ◌++◌, take}
-use Rattle.error.specs.declared.Answer.{Answer}
-use Rattle.error.specs.declared.Answer.TheVariants.{Done, Refused}
+use Rattle.error.specs.Result.{Result}
+use Rattle.std.specs.Prelude.{ℕ, false, List, [], ◌∷◌, ◌++◌, take, Err, Ok}
 use Rattle.error.specs.Refusal.{number_of, place_of}
 use Rattle.row_build.specs.Build.{build_call}
 use Rattle.row_decode.specs.Read.{read_call}
@@ -10,9 +9,9 @@ use Rattle.worked.specs.Cases.{Case}
 use Rattle.worked.specs.Calls.{◌gives◌, hex, zeros, lent}
 
 -- 0 and the bytes of the result, or number and place
-abbrev pub result : Answer → List ℕ → List ℕ
-result (Done n) out = 0 ∷ take n out
-result (Refused e) out = number_of e ∷ place_of e ∷ []
+abbrev pub result : Result ℕ → List ℕ → List ℕ
+result (Ok n) out = 0 ∷ take n out
+result (Err e) out = number_of e ∷ place_of e ∷ []
 
 -- a slot's row
 abbrev pub row : List ℕ → List ℕ

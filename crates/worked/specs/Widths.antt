@@ -1,9 +1,7 @@
 -- 02, request 1, worked out: the text check with its number of code points, and the counts that building and reading
 -- put, each as what the definitions compute beside what is stated.
-use Rattle.std.specs.Prelude.{ℕ, false, List, [], ◌∷◌, ◌++◌, replicate}
+use Rattle.std.specs.Prelude.{ℕ, false, List, [], ◌∷◌, ◌++◌, replicate, None, Option, Some}
 use Rattle.error.specs.Answer.{Counted}
-use Rattle.text.specs.declared.TextCheck.{TextCheck}
-use Rattle.text.specs.declared.TextCheck.TheVariants.{Valid, Invalid}
 use Rattle.text.specs.Rfc3629.{code_points}
 use Rattle.text.specs.Check.{check_of}
 use Rattle.row_decode.specs.Read.{read_call}
@@ -14,9 +12,9 @@ use Rattle.worked.specs.Cases.{Case, answered}
 abbrev pub checked : List ℕ → List ℕ
 checked s = told (check_of (code_points s))
   where
-    told : TextCheck → List ℕ
-    told (Valid n) = 1 ∷ n ∷ []
-    told Invalid = 0 ∷ 0 ∷ []
+    told : Option ℕ → List ℕ
+    told (Some n) = 1 ∷ n ∷ []
+    told None = 0 ∷ 0 ∷ []
 
 -- the answer, the lent bytes, the lent numbers
 abbrev pub counted : Counted → List ℕ

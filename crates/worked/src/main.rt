@@ -3,9 +3,7 @@
 // What each gives is written on a line; the file `stdout` has what it must be.
 #![tactic(auto)]
 
-use datatype::SchemaCheck;
-use error::{Answer, Flag, Refusal};
-use text::TextCheck;
+use error::Refusal;
 
 // POSIX's descriptor of standard output.
 const STDOUT_FILENO: i32 = 1;
@@ -17,12 +15,12 @@ fn say(words: &[u8]) {
 fn say_text(name: &[u8], s: &[u8]) {
     say(name);
     match text::check(s) {
-        TextCheck::Valid(points) => {
+        Some(points) => {
             say(b": valid, code points ");
             io::print_decimal(STDOUT_FILENO, points as u64);
             say(b"\n");
         }
-        TextCheck::Invalid => say(b": not valid\n"),
+        None => say(b": not valid\n"),
     }
 }
 
@@ -62,11 +60,11 @@ fn say_refusal(r: Refusal) {
 fn say_schema(name: &[u8], schema: &[u8]) {
     say(name);
     match datatype::check_schema(schema, false) {
-        SchemaCheck::Good(layout) => {
+        Ok(layout) => {
             say(b": columns ");
             io::print_decimal(STDOUT_FILENO, layout.num_columns as u64);
         }
-        SchemaCheck::Refused(r) => say_refusal(r),
+        Err(r) => say_refusal(r),
     }
     say(b"\n");
 }
@@ -83,11 +81,11 @@ fn say_build(name: &[u8], schema: &[u8], values: &[u8], text: &[u8]) {
         &mut out,
         &mut counts,
     ) {
-        Answer::Done(n) => {
+        Ok(n) => {
             say(b": bytes ");
             io::print_decimal(STDOUT_FILENO, n as u64);
         }
-        Answer::Refused(r) => say_refusal(r),
+        Err(r) => say_refusal(r),
     }
     say(b"\n");
 }
@@ -145,11 +143,11 @@ fn schemas() {
 fn say_flag(name: &[u8], row: &[u8]) {
     say(name);
     match null_bitmap::is_column_null_in_row(row, 0) {
-        Flag::Is(null) => {
+        Ok(null) => {
             say(b": null ");
             io::print_decimal(STDOUT_FILENO, null as u64);
         }
-        Flag::Refused(r) => say_refusal(r),
+        Err(r) => say_refusal(r),
     }
     say(b"\n");
 }

@@ -3,6 +3,7 @@ use mathlib.Core.Path.{sym, ◌∙◌}
 use Rattle.datatype.proofs.Walk.{walk_start, walk_end, walk_over, walk_bad, walk_more}
 use Rattle.datatype.proofs.Plain.{plain_record, plain_added}
 use borrow.Author.Rules.{rules}
+use Rattle.error.proofs.Results.{handed_on}
 use Rattle.datatype.proofs.check_schema.Goals as goal
 
 pub loop-at-init : goal.loop-at-init
@@ -27,23 +28,24 @@ loop-at-preserved-then-size-ne0 c =
 pub body_at-requires : goal.body_at-requires
 body_at-requires c = (search rules, sym c.plain_size-size.ensures.0 ∙ c.if-size-ne0.false)
 
-pub returns-in-Refused : goal.returns-in-Refused
-returns-in-Refused c =
-    let l = c.loop-at in
-    (walk_bad l.invariant c.loop-at-test.true c.if-layout-eq-COLUMN_LIMIT.false (sym c.body_at.ensures ∙ c.in-Refused.is), tt)
+pub returns-in_err-t : goal.returns-in_err-t
+returns-in_err-t c =
+    rw (handed_on c.from_residual.result c.from_residual.ensures)
+    (let l = c.loop-at in
+    (walk_bad l.invariant c.loop-at-test.true c.if-layout-eq-COLUMN_LIMIT.false (sym c.body_at.ensures ∙ c.in_err-t.was), tt))
 
-pub with_column-layout-requires-in-Column : goal.with_column-layout-requires-in-Column
-with_column-layout-requires-in-Column c = (omega (arith, c.loop-at.invariant.bounded), (c.loop-at.invariant.bounded, c.shape.ensures.1))
+pub with_column-layout-requires-else-size-ne0 : goal.with_column-layout-requires-else-size-ne0
+with_column-layout-requires-else-size-ne0 c = (omega (arith, c.loop-at.invariant.bounded), (c.loop-at.invariant.bounded, c.shape.ensures.1))
 
 pub loop-at-smaller : goal.loop-at-smaller
-loop-at-smaller c = rw c.with_column-layout-in-Column.ensures.0 (omega (arith, c.loop-at.invariant.bounded))
+loop-at-smaller c = rw c.with_column-layout-else-size-ne0.ensures.0 (omega (arith, c.loop-at.invariant.bounded))
 
 pub loop-at-preserved : goal.loop-at-preserved
 loop-at-preserved c =
     let l = c.loop-at in
-    let e = rw c.shape.ensures.0 at c.with_column-layout-in-Column.ensures.0 in
-    let r = sym c.body_at.ensures ∙ c.in-Column.is in
-    rw e (walk_more l.invariant c.loop-at-test.true c.if-layout-eq-COLUMN_LIMIT.false r (rw e at c.with_column-layout-in-Column.ensures.1))
+    let e = rw c.shape.ensures.0 at c.with_column-layout-else-size-ne0.ensures.0 in
+    let r = sym c.body_at.ensures ∙ c.in_ok-t.was in
+    rw e (walk_more l.invariant c.loop-at-test.true c.if-layout-eq-COLUMN_LIMIT.false r (rw e at c.with_column-layout-else-size-ne0.ensures.1))
 
 pub finish-requires : goal.finish-requires
 finish-requires c = c.loop-at.invariant.bounded

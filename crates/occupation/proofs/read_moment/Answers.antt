@@ -1,4 +1,5 @@
 -- `read_moment` meets its contract.
+use Rattle.std.specs.Prelude.{None, Ok, Some}
 use Prim.Native.Nat.{ℕ, suc, ◌+◌}
 use mathlib.Core.Path.{◌≡◌, sym, ap, ◌∙◌}
 use native.Mathlib.Omega.{arith}
@@ -6,8 +7,6 @@ use lib.ListN.{take, drop}
 use mir.Syntax.{w64}
 use mir.Val.{to_z}
 use Rattle.laws.specs.Bytes.{from_le}
-use Rattle.error.specs.Result.{ok}
-use Rattle.calendar.specs.declared.Moment.TheVariants.{Micros, OutOfRange}
 use Rattle.calendar.specs.InnerMoment.{moment_of}
 use Rattle.calendar.proofs.Since.{moment_lt}
 use Rattle.occupation.specs.InnerFields.{moment_from}
@@ -23,25 +22,25 @@ pub overflow_add-result : goal.overflow_add-result
 overflow_add-result c =
     let a = c.args in
     let z = to_z w64 (from_le (take 8 (drop a.at a.row.now))) in
-    let e : moment_of z ≡ Micros c.in-Micros.micros = sym (c.moment_of.ensures ∙ ap (λ (n : ℕ). moment_of (to_z w64 n)) c.read_u64.ensures) ∙ c.in-Micros.is in
+    let e : moment_of z ≡ Some c.in-Some.micros = sym (c.moment_of.ensures ∙ ap (λ (n : ℕ). moment_of (to_z w64 n)) c.read_u64.ensures) ∙ c.in-Some.is in
     let t = moment_told a.column a.at a.row.now (sym c.column_bit_is_set.ensures ∙ c.if-column_bit_is_set.false) in
-    let m = moment_lt z c.in-Micros.micros e in
+    let m = moment_lt z c.in-Some.micros e in
     record { fits = omega arith }
 
-pub returns-in-Micros : goal.returns-in-Micros
-returns-in-Micros c =
+pub returns-in-Some : goal.returns-in-Some
+returns-in-Some c =
     let a = c.args in
     let z = to_z w64 (from_le (take 8 (drop a.at a.row.now))) in
-    let e : moment_of z ≡ Micros c.in-Micros.micros = sym (c.moment_of.ensures ∙ ap (λ (n : ℕ). moment_of (to_z w64 n)) c.read_u64.ensures) ∙ c.in-Micros.is in
+    let e : moment_of z ≡ Some c.in-Some.micros = sym (c.moment_of.ensures ∙ ap (λ (n : ℕ). moment_of (to_z w64 n)) c.read_u64.ensures) ∙ c.in-Some.is in
     let t = moment_told a.column a.at a.row.now (sym c.column_bit_is_set.ensures ∙ c.if-column_bit_is_set.false) in
-    let m = moment_lt z c.in-Micros.micros e in
-    let n : c.in-Micros.micros + 1 ≡ suc c.in-Micros.micros = omega arith in
-    (ap (λ (k : ℕ). ok (moment_from k)) n ∙ (sym (ap (moment_read a.column) e) ∙ t), omega arith)
+    let m = moment_lt z c.in-Some.micros e in
+    let n : c.in-Some.micros + 1 ≡ suc c.in-Some.micros = omega arith in
+    (ap (λ (k : ℕ). Ok (moment_from k)) n ∙ (sym (ap (moment_read a.column) e) ∙ t), omega arith)
 
-pub returns-in-OutOfRange : goal.returns-in-OutOfRange
-returns-in-OutOfRange c =
+pub returns-in-None : goal.returns-in-None
+returns-in-None c =
     let a = c.args in
     let z = to_z w64 (from_le (take 8 (drop a.at a.row.now))) in
-    let e : moment_of z ≡ OutOfRange = sym (c.moment_of.ensures ∙ ap (λ (n : ℕ). moment_of (to_z w64 n)) c.read_u64.ensures) ∙ c.in-OutOfRange.is in
+    let e : moment_of z ≡ None = sym (c.moment_of.ensures ∙ ap (λ (n : ℕ). moment_of (to_z w64 n)) c.read_u64.ensures) ∙ c.in-None.is in
     let t = moment_told a.column a.at a.row.now (sym c.column_bit_is_set.ensures ∙ c.if-column_bit_is_set.false) in
     (sym (ap (moment_read a.column) e) ∙ t, tt)

@@ -1,3 +1,5 @@
+use Rattle.error.specs.Result.{Result}
+use Rattle.datatype.specs.declared.DataType.{DataType}
 use mathlib.Core.Path.{◌≡◌}
 use Rattle.datatype.specs.Schema.{column_kind}
 use Rattle.record_slot.specs.InnerSteps.{declared_at, slot_size}
@@ -5,7 +7,6 @@ use Rattle.record_slot.proofs.Forms.{plain_size_lem, slot-bytes}
 use Rattle.datatype.proofs.Plain.{plain_facts, plain_record}
 use Rattle.datatype.specs.InnerSteps.{plain_size, type_in}
 use Rattle.datatype.specs.Types.{size_of}
-use Rattle.datatype.specs.declared.Record.{Record}
 use borrow.Author.Tests.{ne_eqb}
 use lib.ListN.{get_or}
 use mathlib.Core.Path.{refl, sym, ap, ◌∙◌}
@@ -17,7 +18,7 @@ returns-then-size-ne0 c =
     let a = c.args in
     let kind = get_or a.schema.now a.at 0 in
     let some : plain_size (column_kind kind) ≡ 0 → ⊥ = λ e. c.if-size-ne0.true (c.plain_size-size.ensures.0 ∙ e) in
-    c.plain_size-size.ensures.0 ∙ sym (ap (λ (x : Record). size_of (type_in x)) (plain_record a.schema.now a.at some) ∙ (plain_facts kind some).sized)
+    c.plain_size-size.ensures.0 ∙ sym (ap (λ (x : Result (DataType × ℕ)). size_of (type_in x)) (plain_record a.schema.now a.at some) ∙ (plain_facts kind some).sized)
 
 pub returns-in-6 : goal.returns-in-6
 returns-in-6 c =

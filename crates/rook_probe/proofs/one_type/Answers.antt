@@ -8,11 +8,11 @@ returns-then-schema-eq0 c = (search by_tests depth 9, tt)
 
 pub returns-then-next-schema : goal.returns-then-next-schema
 returns-then-next-schema c =
-    let e = sym c.record_at.ensures ∙ c.in-Column.is in
+    let e = sym c.record_at.ensures ∙ c.in-Ok.is in
     (rw e (search by_tests depth 9), few-digits c.args.schema.now 0 e)
 
 pub returns-else-next-schema : goal.returns-else-next-schema
-returns-else-next-schema c = (rw (← c.record_at.ensures, c.in-Column.is) (search by_tests depth 9), tt)
+returns-else-next-schema c = (rw (← c.record_at.ensures, c.in-Ok.is) (search by_tests depth 9), tt)
 
-pub returns-in-Refused : goal.returns-in-Refused
-returns-in-Refused c = (rw (← c.record_at.ensures, c.in-Refused.is, ← c.number.ensures) (search by_tests depth 9), tt)
+pub returns-in-Err : goal.returns-in-Err
+returns-in-Err c = (rw (← c.record_at.ensures, c.in-Err.is, ← c.number.ensures) (search by_tests depth 9), tt)

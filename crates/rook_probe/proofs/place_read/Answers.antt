@@ -18,11 +18,11 @@ pub write_value_record-length-requires : goal.write_value_record-length-requires
 write_value_record-length-requires c =
     let a = c.args in
     let p = c.requires.1.1 in
-    let m = record_short false c.in-Value.v in
-    (omega (arith, c.if-out-lt18.false), read_narrow a.start a.bytes.now p.0 p.1 a.ty (sym c.from_bytes.ensures ∙ c.in-Value.is))
+    let m = record_short false c.in-Some.v in
+    (omega (arith, c.if-out-lt18.false), read_narrow a.start a.bytes.now p.0 p.1 a.ty (sym c.from_bytes.ensures ∙ c.in-Some.is))
 
-pub returns-in-Value : goal.returns-in-Value
-returns-in-Value c = rw (c.write_value_record-length.ensures.0, zero-add, c.write_value_record-length.ensures.1, ← c.from_bytes.ensures, c.in-Value.is) (search by_tests depth 4)
+pub returns-in-Some : goal.returns-in-Some
+returns-in-Some c = rw (c.write_value_record-length.ensures.0, zero-add, c.write_value_record-length.ensures.1, ← c.from_bytes.ensures, c.in-Some.is) (search by_tests depth 4)
 
-pub returns-in-NoValue : goal.returns-in-NoValue
-returns-in-NoValue c = rw (c.refused-in-NoValue.ensures, ← c.from_bytes.ensures, c.in-NoValue.is) (search by_tests depth 4)
+pub returns-in-None : goal.returns-in-None
+returns-in-None c = rw (c.refused-in-None.ensures, ← c.from_bytes.ensures, c.in-None.is) (search by_tests depth 4)

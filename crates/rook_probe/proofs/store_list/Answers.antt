@@ -1,7 +1,7 @@
 use Rattle.rook_probe.proofs.store_list.Goals as goal
 
-pub returns-in-Only : goal.returns-in-Only
-returns-in-Only c = rw (← c.one_value.ensures, c.in-Only.is) c.store_value.ensures
+pub returns-in-Some : goal.returns-in-Some
+returns-in-Some c = rw (← c.one_value.ensures, c.in-Some.is) c.store_value.ensures
 
-pub returns-in-Bad : goal.returns-in-Bad
-returns-in-Bad c = rw (← c.one_value.ensures, c.in-Bad.is, c.refused.ensures)
+pub returns-in-None : goal.returns-in-None
+returns-in-None c = rw (← c.one_value.ensures, c.in-None.is, c.refused.ensures)

@@ -1,7 +1,7 @@
 use Rattle.rook_row.proofs.rook_row_text.Goals as goal
 
-pub returns-in-Part : goal.returns-in-Part
-returns-in-Part c = rw (← c.column_text.ensures.0, c.in-Part.is)
+pub returns-in-Ok : goal.returns-in-Ok
+returns-in-Ok c = rw (← c.column_text.ensures.0, c.in-Ok.is)
 
-pub returns-in-Refused : goal.returns-in-Refused
-returns-in-Refused c = rw (← c.column_text.ensures.0, c.in-Refused.is, c.number.ensures, c.place.ensures)
+pub returns-in-Err : goal.returns-in-Err
+returns-in-Err c = rw (← c.column_text.ensures.0, c.in-Err.is, c.number.ensures, c.place.ensures)

@@ -1,7 +1,7 @@
 use Rattle.rook_row.proofs.rook_text_check.Goals as goal
 
-pub returns-in-Valid : goal.returns-in-Valid
-returns-in-Valid c = rw (← c.check.ensures, c.in-Valid.is)
+pub returns-in-Some : goal.returns-in-Some
+returns-in-Some c = rw (← c.check.ensures, c.in-Some.is)
 
-pub returns-in-Invalid : goal.returns-in-Invalid
-returns-in-Invalid c = rw (← c.check.ensures, c.in-Invalid.is)
+pub returns-in-None : goal.returns-in-None
+returns-in-None c = rw (← c.check.ensures, c.in-None.is)

@@ -2,6 +2,7 @@ use borrow.Author.Rules.{rules}
 use native.Mathlib.Omega.{arith}
 use Rattle.row_format.proofs.Sorts.{limit_le}
 use Rattle.row_build.proofs.Measuring.{walk_start, walk_none, walk_readable, walk_bad, walk_room, walk_more, walk_left, walk_end, no_length-told, bad_told}
+use Rattle.error.proofs.Results.{handed_on}
 use Rattle.row_build.proofs.row_length.Goals as goal
 
 pub returns-then-row_limit-text : goal.returns-then-row_limit-text
@@ -18,21 +19,22 @@ pub payload_at-requires : goal.payload_at-requires
 payload_at-requires c =
     (walk_readable c.requires c.loop-column.invariant c.loop-column-test.true c.record_length-length.ensures c.if-length-eq0.false, omega (arith, c.loop-column.invariant.short, limit_le c.args.layout.is_long))
 
-pub returns-in-Refused : goal.returns-in-Refused
-returns-in-Refused c =
-    bad_told c.requires (walk_bad c.requires c.loop-column.invariant c.loop-column-test.true c.record_length-length.ensures c.if-length-eq0.false c.payload_at.result c.payload_at.ensures.0 c.in-Refused.is)
+pub returns-in_err-n : goal.returns-in_err-n
+returns-in_err-n c =
+    rw (handed_on c.from_residual.result c.from_residual.ensures)
+    (bad_told c.requires (walk_bad c.requires c.loop-column.invariant c.loop-column-test.true c.record_length-length.ensures c.if-length-eq0.false c.payload_at.result c.payload_at.ensures.0 c.in_err-n.was))
 
 pub overflow_add-size : goal.overflow_add-size
-overflow_add-size c = let q = walk_room c.requires c.loop-column.invariant c.loop-column-test.true c.record_length-length.ensures c.if-length-eq0.false c.payload_at.result c.payload_at.ensures.0 c.in-Done.is c.payload_at.ensures.1 in search rules
+overflow_add-size c = let q = walk_room c.requires c.loop-column.invariant c.loop-column-test.true c.record_length-length.ensures c.if-length-eq0.false c.payload_at.result c.payload_at.ensures.0 c.in_ok-n.was c.payload_at.ensures.1 in search rules
 
 pub after_column-at-requires : goal.after_column-at-requires
 after_column-at-requires c = (walk_readable c.requires c.loop-column.invariant c.loop-column-test.true c.record_length-length.ensures c.if-length-eq0.false).column
 
 pub overflow_add-from : goal.overflow_add-from
-overflow_add-from c = let q = (walk_more c.requires c.loop-column.invariant c.loop-column-test.true c.record_length-length.ensures c.if-length-eq0.false c.payload_at.result c.payload_at.ensures.0 c.in-Done.is c.payload_at.ensures.1).prefix.inside in search rules
+overflow_add-from c = let q = (walk_more c.requires c.loop-column.invariant c.loop-column-test.true c.record_length-length.ensures c.if-length-eq0.false c.payload_at.result c.payload_at.ensures.0 c.in_ok-n.was c.payload_at.ensures.1).prefix.inside in search rules
 
 pub loop-column-preserved : goal.loop-column-preserved
-loop-column-preserved c = rw c.after_column-at.ensures (walk_more c.requires c.loop-column.invariant c.loop-column-test.true c.record_length-length.ensures c.if-length-eq0.false c.payload_at.result c.payload_at.ensures.0 c.in-Done.is c.payload_at.ensures.1)
+loop-column-preserved c = rw c.after_column-at.ensures (walk_more c.requires c.loop-column.invariant c.loop-column-test.true c.record_length-length.ensures c.if-length-eq0.false c.payload_at.result c.payload_at.ensures.0 c.in_ok-n.was c.payload_at.ensures.1)
 
 pub returns-then-from-values : goal.returns-then-from-values
 returns-then-from-values c =

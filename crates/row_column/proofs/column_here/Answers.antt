@@ -1,8 +1,8 @@
 use mathlib.Core.Path.{refl}
 use Rattle.row_column.proofs.column_here.Goals as goal
 
-pub returns-in-Refused : goal.returns-in-Refused
-returns-in-Refused c = (refl, rw (← c.record_at.ensures, c.in-Refused.is))
+pub returns-in-Err : goal.returns-in-Err
+returns-in-Err c = (refl, rw (← c.record_at.ensures, c.in-Err.is))
 
-pub returns-in-Column : goal.returns-in-Column
-returns-in-Column c = (refl, rw (← c.record_at.ensures, c.in-Column.is))
+pub returns-in-Ok : goal.returns-in-Ok
+returns-in-Ok c = (refl, rw (← c.record_at.ensures, c.in-Ok.is))

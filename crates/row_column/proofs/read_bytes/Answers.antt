@@ -13,11 +13,11 @@ from_bytes-requires c =
     let n : length (take (a.end - a.start) (drop a.start a.row.now)) ≡ a.end - a.start = length-take-le (a.end - a.start) (drop a.start a.row.now) (rw length-drop (omega arith)) in
     (p.0, λ f. n ∙ p.1.1.1 f)
 
-pub returns-in-Value : goal.returns-in-Value
-returns-in-Value c =
+pub returns-in-Some : goal.returns-in-Some
+returns-in-Some c =
     let a = c.args in
     let n : length (take (a.end - a.start) (drop a.start a.row.now)) ≡ a.end - a.start = length-take-le (a.end - a.start) (drop a.start a.row.now) (rw length-drop (omega arith)) in
-    (rw (← c.from_bytes.ensures, c.in-Value.is), rw (← c.from_bytes.ensures, c.in-Value.is) at (slot-within (length a.row.now) a.start (take (a.end - a.start) (drop a.start a.row.now)) (rw n (omega arith)) a.ty))
+    (rw (← c.from_bytes.ensures, c.in-Some.is), rw (← c.from_bytes.ensures, c.in-Some.is) at (slot-within (length a.row.now) a.start (take (a.end - a.start) (drop a.start a.row.now)) (rw n (omega arith)) a.ty))
 
-pub returns-in-NoValue : goal.returns-in-NoValue
-returns-in-NoValue c = (rw (← c.from_bytes.ensures, c.in-NoValue.is), tt)
+pub returns-in-None : goal.returns-in-None
+returns-in-None c = (rw (← c.from_bytes.ensures, c.in-None.is), tt)

@@ -6,20 +6,22 @@ use lib.ListN.{length}
 use Rattle.row_decode.proofs.Walk.{read_walked}
 use Rattle.error.specs.Answer.{unchanged_both}
 use Rattle.datatype.specs.Check.{types_in}
+use Rattle.error.proofs.Results.{handed_on}
 use Rattle.row_decode.proofs.decode_row.Goals as goal
 
 pub decode_values-requires : goal.decode_values-requires
-decode_values-requires c = framed c.requires (sym c.check_frame.ensures ∙ c.in-Good.is)
+decode_values-requires c = framed c.requires (sym c.check_frame.ensures ∙ c.in_ok-packed.was)
 
-pub returns-in-Refused : goal.returns-in-Refused
-returns-in-Refused c =
-    let a = c.args in
+pub returns-in_err-packed : goal.returns-in_err-packed
+returns-in_err-packed c =
+    rw (handed_on c.from_residual.result c.from_residual.ensures)
+    (let a = c.args in
     frame_refused (types_in a.schema.now) a.row.now
     c.requires.layout (unchanged_both a.out.now a.counts.now) _
-    (sym c.check_frame.ensures ∙ c.in-Refused.is)
+    (sym c.check_frame.ensures ∙ c.in_err-packed.was))
 
-pub returns-in-Good : goal.returns-in-Good
-returns-in-Good c =
+pub returns : goal.returns
+returns c =
     let a = c.args in
     let ts = types_in a.schema.now in
     let known = c.requires.layout in
@@ -27,4 +29,4 @@ returns-in-Good c =
     ∙ ap (hand_out a.layout.is_long a.out.now a.counts.now a.row.now) (read_walked a.layout.is_long _ ts (is_wanted a.wanted.now) a.row.now known)
     ∙ frame-good ts a.row.now known (unchanged_both a.out.now a.counts.now)
     (λ p. hand_out a.layout.is_long a.out.now a.counts.now a.row.now (read_from (offset_width a.layout.is_long) p ts (is_wanted a.wanted.now) a.row.now 0
-    (length ts))) (sym c.check_frame.ensures ∙ c.in-Good.is)
+    (length ts))) (sym c.check_frame.ensures ∙ c.in_ok-packed.was)

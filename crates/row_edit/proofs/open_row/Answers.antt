@@ -17,14 +17,14 @@ slice_bounds-check_sound-end c = sym (length-take-le _ _ c.if-buf-n.false)
 pub returns-then-layout-column : goal.returns-then-layout-column
 returns-then-layout-column c =
     let a = c.args in
-    open_none a.layout.is_long (types_in a.schema.now) a.buf.now a.n a.column c.if-buf-n.false (sym c.check_sound.ensures ∙ c.in-Sound.is) (omega (arith, columns-all c.requires, c.if-layout-column.true))
+    open_none a.layout.is_long (types_in a.schema.now) a.buf.now a.n a.column c.if-buf-n.false (sym c.check_sound.ensures ∙ c.in-Some.is) (omega (arith, columns-all c.requires, c.if-layout-column.true))
 
-pub returns-in-NotSound : goal.returns-in-NotSound
-returns-in-NotSound c =
+pub returns-in-None : goal.returns-in-None
+returns-in-None c =
     let a = c.args in
-    open_unsound a.layout.is_long (types_in a.schema.now) a.buf.now a.n a.column c.if-buf-n.false (sym c.check_sound.ensures ∙ c.in-NotSound.is)
+    open_unsound a.layout.is_long (types_in a.schema.now) a.buf.now a.n a.column c.if-buf-n.false (sym c.check_sound.ensures ∙ c.in-None.is)
 
 pub returns-else-layout-column : goal.returns-else-layout-column
 returns-else-layout-column c =
     let a = c.args in
-    open_good a.layout.is_long (types_in a.schema.now) a.buf.now a.n a.column c.if-buf-n.false (sym c.check_sound.ensures ∙ c.in-Sound.is) (omega (arith, columns-all c.requires, c.if-layout-column.false))
+    open_good a.layout.is_long (types_in a.schema.now) a.buf.now a.n a.column c.if-buf-n.false (sym c.check_sound.ensures ∙ c.in-Some.is) (omega (arith, columns-all c.requires, c.if-layout-column.false))

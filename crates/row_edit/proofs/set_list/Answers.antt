@@ -5,17 +5,19 @@ use Rattle.value_list.specs.Lists.{checked}
 use Rattle.value_list.proofs.Sole.{refused-list}
 use Rattle.row_edit.specs.Edit.{written}
 use Rattle.row_edit.proofs.Opening.{given-none}
+use Rattle.error.proofs.Results.{handed_on}
 use Rattle.row_edit.proofs.set_list.Goals as goal
 
 pub set_record-requires : goal.set_record-requires
-set_record-requires c = (c.requires, sym c.check_values.ensures ∙ c.in-Good.is)
+set_record-requires c = (c.requires, sym c.check_values.ensures ∙ c.in_ok-check_values.was)
 
-pub returns-in-Refused : goal.returns-in-Refused
-returns-in-Refused c =
-    let a = c.args in
+pub returns-in_err-check_values : goal.returns-in_err-check_values
+returns-in_err-check_values c =
+    rw (handed_on c.from_residual.result c.from_residual.ensures)
+    (let a = c.args in
     let ts = types_in a.schema.now in
     let n = length a.area.now in
-    ap (written a.layout.is_long ts a.packed a.buf.now a.n a.column) (sym (given-none a.layout.is_long (type_at ts a.column) a.column a.values.now a.area.now (refused-list a.layout.is_long n a.values.now (checked a.layout.is_long 1 n a.values.now) _ (sym c.check_values.ensures ∙ c.in-Refused.is))))
+    ap (written a.layout.is_long ts a.packed a.buf.now a.n a.column) (sym (given-none a.layout.is_long (type_at ts a.column) a.column a.values.now a.area.now (refused-list a.layout.is_long n a.values.now (checked a.layout.is_long 1 n a.values.now) _ (sym c.check_values.ensures ∙ c.in_err-check_values.was)))))
 
-pub returns-in-Good : goal.returns-in-Good
-returns-in-Good c = c.set_record.ensures
+pub returns : goal.returns
+returns c = c.set_record.ensures

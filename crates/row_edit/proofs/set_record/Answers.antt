@@ -4,6 +4,7 @@ use Rattle.datatype.specs.Check.{type_at, types_in}
 use Rattle.value_list.proofs.Sole.{sole_there, sole_value, sole_good}
 use Rattle.row_edit.specs.Edit.{written}
 use Rattle.row_edit.proofs.Opening.{given-one}
+use Rattle.error.proofs.Results.{handed_on}
 use Rattle.row_edit.proofs.set_record.Goals as goal
 
 pub value_record_at-requires : goal.value_record_at-requires
@@ -13,12 +14,13 @@ value_record_at-requires c =
 pub set_column-requires : goal.set_column-requires
 set_column-requires c = c.requires.0
 
-pub returns-in-Refused : goal.returns-in-Refused
-returns-in-Refused c =
-    absurd (sole_good c.args.layout.is_long (length c.args.area.now) c.args.values.now (sym c.requires.1) _ (sym c.value_record_at.ensures ∙ c.in-Refused.is))
+pub returns-in_err-v : goal.returns-in_err-v
+returns-in_err-v c =
+    rw (handed_on c.from_residual.result c.from_residual.ensures)
+    (absurd (sole_good c.args.layout.is_long (length c.args.area.now) c.args.values.now (sym c.requires.1) _ (sym c.value_record_at.ensures ∙ c.in_err-v.was)))
 
-pub returns-in-Value : goal.returns-in-Value
-returns-in-Value c =
+pub returns : goal.returns
+returns c =
     let a = c.args in
     let ts = types_in a.schema.now in
-    c.set_column.ensures ∙ ap (written a.layout.is_long ts a.packed a.buf.now a.n a.column) (sym (given-one a.layout.is_long (type_at ts a.column) a.column a.values.now a.area.now (sole_value a.layout.is_long (length a.area.now) a.values.now (sym c.requires.1) _ _ (sym c.value_record_at.ensures ∙ c.in-Value.is))))
+    c.set_column.ensures ∙ ap (written a.layout.is_long ts a.packed a.buf.now a.n a.column) (sym (given-one a.layout.is_long (type_at ts a.column) a.column a.values.now a.area.now (sole_value a.layout.is_long (length a.area.now) a.values.now (sym c.requires.1) _ _ (sym c.value_record_at.ensures ∙ c.in_ok-v.was))))

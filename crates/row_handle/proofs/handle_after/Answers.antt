@@ -1,4 +1,4 @@
 use Rattle.row_handle.proofs.handle_after.Goals as goal
 
-pub returns-in-Done : goal.returns-in-Done
-returns-in-Done c = rw (c.in-Done.is, c.geometry_of.ensures, c.is_packed.ensures)
+pub returns-in-Ok : goal.returns-in-Ok
+returns-in-Ok c = rw (c.in-Ok.is, c.geometry_of.ensures, c.is_packed.ensures)

@@ -7,19 +7,19 @@ use Rattle.row_handle.proofs.Handling.{handled-good}
 use Rattle.row_handle.proofs.with_null.Goals as goal
 
 pub null_checked-answer-requires : goal.null_checked-answer-requires
-null_checked-answer-requires c = accepted _ c.args.schema.now (sym c.check_schema.ensures.0 ∙ c.in-Good.is) (rw c.in-Good.is at c.check_schema.ensures.1).bounded
+null_checked-answer-requires c = accepted _ c.args.schema.now (sym c.check_schema.ensures.0 ∙ c.in-Ok.is) (rw c.in-Ok.is at c.check_schema.ensures.1).bounded
 
-pub returns-in-Refused : goal.returns-in-Refused
-returns-in-Refused c =
+pub returns-in-Err : goal.returns-in-Err
+returns-in-Err c =
     let a = c.args in
     let sort = sort_in a.buf.now a.handle.length in
-    ap (handled sort a.schema.now a.handle) (on_refused sort (schema_of sort a.schema.now) _ _ (sym (rw c.sort_in-is_long.ensures at c.check_schema.ensures.0) ∙ c.in-Refused.is))
+    ap (handled sort a.schema.now a.handle) (on_refused sort (schema_of sort a.schema.now) _ _ (sym (rw c.sort_in-is_long.ensures at c.check_schema.ensures.0) ∙ c.in-Err.is))
 
-pub returns-in-Good : goal.returns-in-Good
-returns-in-Good c =
+pub returns-in-Ok : goal.returns-in-Ok
+returns-in-Ok c =
     let a = c.args in
     let schema = a.schema.now in
     let sort = sort_in a.buf.now a.handle.length in
-    let good = sym (rw c.sort_in-is_long.ensures at c.check_schema.ensures.0) ∙ c.in-Good.is in
+    let good = sym (rw c.sort_in-is_long.ensures at c.check_schema.ensures.0) ∙ c.in-Ok.is in
     let long = sort-is sort schema good in
-    handled-good sort schema a.handle long (accepted sort schema good (rw c.in-Good.is at c.check_schema.ensures.1).bounded) (rw long at c.null_checked-answer.ensures ∙ on_good sort schema good _ _) c.handle_after-handle.ensures
+    handled-good sort schema a.handle long (accepted sort schema good (rw c.in-Ok.is at c.check_schema.ensures.1).bounded) (rw long at c.null_checked-answer.ensures ∙ on_good sort schema good _ _) c.handle_after-handle.ensures

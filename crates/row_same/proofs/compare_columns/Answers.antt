@@ -1,12 +1,13 @@
+use Rattle.std.specs.Prelude.{Ok}
 use native.Mathlib.Omega.{arith}
 use mathlib.Core.Path.{sym, ap, ◌∙◌}
-use Rattle.error.specs.declared.Flag.TheVariants.{Is}
 use Rattle.datatype.proofs.Again.{ahead-few, ahead_passable, ahead_step, step_column}
 use Rattle.row_column.proofs.Reach.{reach-next}
 use Rattle.row_sound.proofs.ByKind.{recorded}
 use Rattle.row_reads.proofs.Reading.{ahead_walk}
 use Rattle.row_same.proofs.Comparing.{compare_start, compare_end}
 use Rattle.row_same.proofs.Comparing.{compare_bad, compare_other, compare_more, compare_beside, compare_stored}
+use Rattle.error.proofs.Results.{handed_on}
 use Rattle.row_same.proofs.compare_columns.Goals as goal
 
 pub loop-at-init : goal.loop-at-init
@@ -31,10 +32,11 @@ compare_column-requires c =
     let r = recorded w h in
     (r, (reach-next p.0 w h r.is, reach-next p.1.0 w h r.is))
 
-pub returns-in-Refused : goal.returns-in-Refused
-returns-in-Refused c =
-    compare_bad c.loop-at.invariant c.loop-at-test.true
-    (sym c.compare_column.ensures ∙ c.in-Refused.is)
+pub returns-in_err-same : goal.returns-in_err-same
+returns-in_err-same c =
+    rw (handed_on c.from_residual.result c.from_residual.ensures)
+    (compare_bad c.loop-at.invariant c.loop-at-test.true
+    (sym c.compare_column.ensures ∙ c.in_err-same.was))
 
 pub check_columns-requires : goal.check_columns-requires
 check_columns-requires c =
@@ -45,10 +47,10 @@ check_columns-requires c =
 
 pub returns-then-not-same : goal.returns-then-not-same
 returns-then-not-same c =
-    let other = ap Is (c.if-not-same.true) in
+    let other = ap Ok (c.if-not-same.true) in
     c.check_columns.ensures
     ∙ compare_other c.loop-at.invariant c.loop-at-test.true c.next_column-step.ensures.0
-    (sym c.compare_column.ensures ∙ c.in-Is.is ∙ other)
+    (sym c.compare_column.ensures ∙ c.in_ok-same.was ∙ other)
 
 pub loop-at-smaller-else-not-same : goal.loop-at-smaller-else-not-same
 loop-at-smaller-else-not-same c =
@@ -59,9 +61,9 @@ loop-at-smaller-else-not-same c =
 pub loop-at-preserved-else-not-same : goal.loop-at-preserved-else-not-same
 loop-at-preserved-else-not-same c =
     let y = c.next_column-step.ensures in
-    let same = ap Is (c.if-not-same.false) in
+    let same = ap Ok (c.if-not-same.false) in
     compare_more c.loop-at.invariant c.loop-at-test.true y.0 y.1
-    (sym c.compare_column.ensures ∙ c.in-Is.is ∙ same)
+    (sym c.compare_column.ensures ∙ c.in_ok-same.was ∙ same)
 
 pub loop-at-smaller : goal.loop-at-smaller
 loop-at-smaller c =

@@ -4,6 +4,7 @@ use Rattle.datatype.proofs.Again.{ahead-start}
 use Rattle.row_same.specs.InnerWalk.{walked_all}
 use Rattle.row_reads.proofs.Reading.{ahead_walk}
 use Rattle.row_same.proofs.Compared.{first_refused, all_read}
+use Rattle.error.proofs.Results.{handed_on}
 use Rattle.row_same.proofs.compare_read.Goals as goal
 
 pub check_columns-requires : goal.check_columns-requires
@@ -16,15 +17,16 @@ compare_second-requires c =
     let a = c.args in
     let said = rw c.new.ensures at c.check_columns.ensures in
     let all = all_read (walked_all (types_in a.schema.now) a.layout a.a.now a.p)
-    (sym said ∙ c.in-Is.is) in
+    (sym said ∙ c.in_ok-check_columns.was) in
     (c.requires.0, (c.requires.1, all))
 
-pub returns-in-Refused : goal.returns-in-Refused
-returns-in-Refused c =
-    let a = c.args in
+pub returns-in_err-check_columns : goal.returns-in_err-check_columns
+returns-in_err-check_columns c =
+    rw (handed_on c.from_residual.result c.from_residual.ensures)
+    (let a = c.args in
     let said = rw c.new.ensures at c.check_columns.ensures in
     rw (first_refused (walked_all (types_in a.schema.now) a.layout a.a.now a.p)
-    (sym said ∙ c.in-Refused.is))
+    (sym said ∙ c.in_err-check_columns.was)))
 
-pub returns-in-Is : goal.returns-in-Is
-returns-in-Is c = c.compare_second.ensures
+pub returns : goal.returns
+returns c = c.compare_second.ensures

@@ -1,10 +1,10 @@
 use Rattle.row_sound.specs.InnerWalk.{walked_sound}
 use Rattle.row_sound.proofs.column_sound.Goals as goal
 
-pub returns-in-Refused : goal.returns-in-Refused
+pub returns-in-Err : goal.returns-in-Err
 unfolding walked_sound
-returns-in-Refused c = rw (← c.read_column.ensures.0, c.in-Refused.is)
+returns-in-Err c = rw (← c.read_column.ensures.0, c.in-Err.is)
 
-pub returns-in-Value : goal.returns-in-Value
+pub returns-in-Ok : goal.returns-in-Ok
 unfolding walked_sound
-returns-in-Value c = rw (← c.read_column.ensures.0, c.in-Value.is, c.requires.1)
+returns-in-Ok c = rw (← c.read_column.ensures.0, c.in-Ok.is, c.requires.1)

@@ -3,8 +3,8 @@ use Rattle.signed.proofs.Casts.{passed}
 use mir.Syntax.{w64}
 use Rattle.row_sound.proofs.time_sound.Goals as goal
 
-pub returns-in-Micros : goal.returns-in-Micros
-returns-in-Micros c = rw (← passed w64 (search rules) c.read_i64.ensures, ← c.time_of.ensures, c.in-Micros.is)
+pub returns-in-Some : goal.returns-in-Some
+returns-in-Some c = rw (← passed w64 (search rules) c.read_i64.ensures, ← c.time_of.ensures, c.in-Some.is)
 
-pub returns-in-OutOfRange : goal.returns-in-OutOfRange
-returns-in-OutOfRange c = rw (← passed w64 (search rules) c.read_i64.ensures, ← c.time_of.ensures, c.in-OutOfRange.is)
+pub returns-in-None : goal.returns-in-None
+returns-in-None c = rw (← passed w64 (search rules) c.read_i64.ensures, ← c.time_of.ensures, c.in-None.is)

@@ -22,20 +22,20 @@ pub overflow_cast-result : goal.overflow_cast-result
 overflow_cast-result c =
     let a = c.args in
     let part = take (a.end - a.start) (drop a.start a.row.now) in
-    let said = sym c.check_within.ensures ∙ c.in-Valid.is in
+    let said = sym c.check_within.ensures ∙ c.in-Some.is in
     record {
       fits = omega (arith, check_le a.by_points a.n part said, part_length a.row.now a.start a.end c.requires.0 c.requires.1.0, limit_le a.is_long, c.requires.1);
     }
 
-pub returns-in-Invalid : goal.returns-in-Invalid
-returns-in-Invalid c =
+pub returns-in-None : goal.returns-in-None
+returns-in-None c =
     let a = c.args in
     let part = take (a.end - a.start) (drop a.start a.row.now) in
-    rw (← told_false (fits_text a.by_points a.n part) (points part) (sym c.check_within.ensures ∙ c.in-Invalid.is))
+    rw (← told_false (fits_text a.by_points a.n part) (points part) (sym c.check_within.ensures ∙ c.in-None.is))
 
-pub returns-in-Valid : goal.returns-in-Valid
-returns-in-Valid c =
+pub returns-in-Some : goal.returns-in-Some
+returns-in-Some c =
     let a = c.args in
     let part = take (a.end - a.start) (drop a.start a.row.now) in
-    let said = sym c.check_within.ensures ∙ c.in-Valid.is in
+    let said = sym c.check_within.ensures ∙ c.in-Some.is in
     rw (check_fits a.by_points a.n part said, ← check_points a.by_points a.n part said, c.write_range.ensures.0, c.write_range.ensures.1, part_length a.row.now a.start a.end c.requires.0 c.requires.1.0)
