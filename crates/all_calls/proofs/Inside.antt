@@ -9,9 +9,7 @@ use native.Mathlib.Omega.{arith}
 use lib.ListN.{length, get_or}
 use Rattle.laws.proofs.Bytes.{AllBytes}
 use Rattle.error.specs.declared.Refusal.{Refusal}
-
 use Rattle.error.specs.Answer.{Counted, unchanged_both}
-
 use Rattle.row_format.specs.Places.{varlens, minimum, offset_width}
 use Rattle.row_format.specs.Header.{is_long}
 use Rattle.row_format.proofs.Sorts.{limit_le}
@@ -23,7 +21,6 @@ use Rattle.value.specs.declared.DataValue.TheVariants.{Null}
 use Rattle.value.specs.Ranges.{range_of}
 use Rattle.value_list.specs.Lists.{Values, list_of}
 use Rattle.stored_form.specs.Points.{points_in}
-
 use Rattle.row_column.specs.Frame.{frame_of}
 use Rattle.row_column.specs.Column.{column_value}
 use Rattle.row_column.proofs.Framing.{fine}

@@ -14,9 +14,7 @@ use lib.Seq.{sets, length-sets, drop-set-lt}
 use Rattle.laws.proofs.Truths.{by_cond}
 use Rattle.error.specs.declared.Refusal.{Refusal}
 use Rattle.error.specs.declared.Refusal.TheVariants.{RowLimit, NoRoom}
-
 use Rattle.error.specs.Answer.{Outcome, unchanged, placed, Counted, unchanged_both, placed_both}
-
 use Rattle.row_format.specs.Places.{offset_width, row_limit}
 use Rattle.row_format.specs.Header.{is_long, sort_in}
 use Rattle.row_format.specs.Row.{packed_marks, built_row}
@@ -26,7 +24,6 @@ use Rattle.datatype.specs.Schema.{schema_of}
 use Rattle.datatype.specs.Check.{type_at, types_in}
 use Rattle.value_list.specs.Lists.{Values, checked, list_of}
 use Rattle.stored_form.specs.Points.{points_in}
-
 use Rattle.row_column.specs.Frame.{frame_of}
 use Rattle.row_decode.specs.Read.{is_wanted, wanted_value, on_column, read_from, hand_out, read_call}
 use Rattle.row_column.specs.Column.{column_value}

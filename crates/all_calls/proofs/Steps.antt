@@ -11,7 +11,6 @@ use Rattle.datatype.specs.Schema.{Parsed, schema_of}
 use Rattle.datatype.specs.Check.{types_in}
 use Rattle.datatype.specs.InnerCheck.{checked_schema}
 use Rattle.datatype.proofs.Accept.{on_good}
-
 use Rattle.row_column.specs.Frame.{on_frame}
 
 pub by_result : {A B : Type 0} (P : B → Type 0) (q : Result A) {bad : Refusal → B} {f : A → B}

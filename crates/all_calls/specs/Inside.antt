@@ -3,7 +3,6 @@
 use Rattle.std.specs.Prelude.{ℕ, ◌+◌, ◌≤◌, ◌<◌, List, ◌≡◌, length, get_or, take, Ok}
 use Rattle.std.specs.Int.{w8}
 use Rattle.std.proofs.Common.{Fits}
-
 use Rattle.row_format.specs.Header.{is_long}
 use Rattle.value.specs.declared.DataValue.{DataValue}
 use Rattle.value.specs.declared.DataValue.TheVariants.{Null}

@@ -4,7 +4,6 @@ use Rattle.error.specs.Result.{Result}
 use Rattle.std.specs.Prelude.{ℕ, Bool, List, [], ◌≡◌, length, drop, Err, Ok}
 use Rattle.std.proofs.Math.Option.{Option, none, some}
 use Rattle.error.specs.declared.Refusal.{Refusal}
-
 use Rattle.error.specs.Answer.{Outcome, Counted}
 use Rattle.datatype.specs.Check.{types_in}
 use Rattle.row_decode.specs.Read.{read_call}

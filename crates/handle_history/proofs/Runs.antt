@@ -9,7 +9,6 @@ use native.Mathlib.Omega.{arith}
 use lib.ListN.{length, replicate}
 use lib.Seq.{sets, length-take-le}
 use Rattle.error.specs.declared.Refusal.{Refusal}
-
 use Rattle.error.specs.Answer.{Outcome}
 use Rattle.error.specs.Result.{on_result, Result}
 use Rattle.row_format.specs.Places.{offset_width}

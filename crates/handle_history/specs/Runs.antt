@@ -3,7 +3,6 @@
 use Rattle.error.specs.Result.{Result}
 use Rattle.std.specs.Prelude.{ℕ, Bool, true, false, cond, List, [], ◌∷◌, map, ◌↔◌, ◌≡◌, length, replicate, Err, Ok}
 use Rattle.std.proofs.Math.Option.{none}
-
 use Rattle.error.specs.Answer.{placed_both}
 use Rattle.row_format.specs.Places.{offset_width}
 use Rattle.row_format.specs.Table.{Cell}

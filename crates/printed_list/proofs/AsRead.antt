@@ -10,7 +10,6 @@ use lib.ListN.{length}
 use lib.Seq.{sets}
 use Rattle.error.specs.declared.Refusal.{Refusal}
 use Rattle.error.specs.declared.Refusal.TheVariants.{NoRoom, Unprintable}
-
 use Rattle.error.specs.Refusal.{number_of}
 use Rattle.error.specs.Result.{Result, on_result}
 use Rattle.error.specs.Answer.{Counted, unchanged_both}
@@ -19,7 +18,6 @@ use Rattle.row_format.specs.Header.{is_long}
 use Rattle.datatype.specs.Schema.{schema_of}
 use Rattle.value_list.specs.Lists.{Values, list_of}
 use Rattle.stored_form.specs.Points.{points_in}
-
 use Rattle.row_column.specs.Frame.{frame_of, on_frame}
 use Rattle.row_decode.specs.Read.{read_from, hand_out, read_call}
 use Rattle.occupation.specs.Occupation.{Occupation, columns, occupation_of, has_unprintable, printable}

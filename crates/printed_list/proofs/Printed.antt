@@ -8,7 +8,6 @@ use lib.Seq.{sets}
 use borrow.Author.Tests.{le-ltb}
 use lib.ListN.{length}
 use Rattle.laws.specs.Bytes.{concat}
-
 use Rattle.error.specs.Answer.{placed}
 use Rattle.occupation.specs.Occupation.{Occupation}
 use Rattle.occupation.specs.Order.{precedes}

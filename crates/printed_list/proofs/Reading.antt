@@ -29,10 +29,8 @@ use Rattle.row_layout.specs.Range.{varlen_range}
 use Rattle.datatype.specs.Types.{size_of, shape_of}
 use Rattle.value.specs.declared.DataValue.{DataValue}
 use Rattle.value.specs.declared.DataValue.TheVariants as D
-
 use Rattle.stored_form.specs.Read.{value_if, whole}
 use Rattle.calendar.proofs.Since.{since_lt}
-
 use Rattle.row_format.specs.Header.{column_count, varlen_field, is_packed, is_long}
 use Rattle.row_column.specs.Frame.{frame_with, on_frame}
 use Rattle.row_column.specs.Column.{slot_value, read_bytes, varlen_value, column_with}

@@ -3,7 +3,6 @@
 use Rattle.std.specs.Prelude.{ℕ, ◌≡◌, ◌↔◌, List, [], ◌∷◌, Err}
 use Rattle.error.specs.declared.Refusal.{Refusal}
 use Rattle.error.specs.Refusal.{number_of}
-
 use Rattle.error.specs.Answer.{unchanged_both}
 use Rattle.row_decode.specs.Read.{read_call}
 use Rattle.occupation.specs.Occupation.{occupation_in}

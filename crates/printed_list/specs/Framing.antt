@@ -1,7 +1,6 @@
 -- FORMAT 10.1. 02, request 2: rows that were put in a list, "each after its length in two bytes little-endian", are its
 -- rows, and a list that is whole has no byte that is not of its rows.
 use Rattle.std.specs.Prelude.{ℕ, ◌≤◌, ◌<◌, ◌≡◌, List, length, Ok}
-
 use Rattle.row_list.specs.Rows.{list_limit, rows_of}
 use Rattle.row_list.specs.Framed.{framed}
 use Rattle.printed_list.specs.Sorted.{Every}

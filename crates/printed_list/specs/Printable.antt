@@ -1,7 +1,6 @@
 -- FORMAT 10.2. What is known of an occupation that was read and not refused.
 use Rattle.std.specs.Prelude.{ℕ, ◌≤◌, ◌<◌, ◌≡◌, true, false, List, length, Ok}
 use Rattle.std.proofs.Math.Option.{Option, none, some}
-
 use Rattle.text.specs.Rfc3629.{is_text}
 use Rattle.occupation.specs.Occupation.{Occupation, has_unprintable, occupation_in}
 

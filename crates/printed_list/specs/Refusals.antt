@@ -4,7 +4,6 @@ use Rattle.std.specs.Prelude.{ℕ, ◌≤◌, ◌≡◌, List, Err}
 use Rattle.error.specs.declared.Refusal.{Refusal}
 use Rattle.error.specs.declared.Refusal.TheVariants.{RowTooShort, WrongColumnCount, WrongVarlenCount}
 use Rattle.error.specs.declared.Refusal.TheVariants.{BadRange, NoValue, BadList, Unprintable}
-
 use Rattle.occupation_list.specs.Print.{occupations_of}
 
 pub data OfList : Refusal → Type 0 where

@@ -2,7 +2,6 @@
 -- quotes, 19 for each moment, three bars and a line feed. So the program, with 65,536 bytes of output, never meets 14.
 use Rattle.std.specs.Prelude.{ℕ, ◌≤◌, ◌≡◌, List, length, Ok}
 use Rattle.std.proofs.lemmas.List.Edits.{sets}
-
 use Rattle.occupation.specs.Occupation.{Occupation}
 use Rattle.occupation_list.specs.Print.{occupations_of, lines_of, print_call, report, report_call}
 
