@@ -42,7 +42,7 @@ module _ (w : ℕ) (ts : List DataType) (area r : List ℕ) where
       back_at (suc i) vs k (omega arith)
       ∙ ap (λ (j : ℕ). value_back w ts j (get_or vs k Null) (text_of area (get_or vs k Null)) r) next
 
--- ---- a build that answered Done
+-- ---- a build that answered Ok
 
 module _ {sort : Bool} {schema list area out : List ℕ} {n : ℕ} {after : List ℕ}
     (b : Built sort schema list area out n after) where

@@ -60,7 +60,7 @@ all_wanted wanted i [] h = refl
 all_wanted wanted i (n ∷ ns) h =
     rw (h i (omega arith)) (ap (λ (xs : List ℕ). n ∷ xs) (all_wanted wanted (suc i) ns (λ j l. h j (omega arith))))
 
--- ---- a build that answered Done
+-- ---- a build that answered Ok
 
 module _ {sort : Bool} {schema list area out : List ℕ} {n : ℕ} {after : List ℕ}
     (b : Built sort schema list area out n after) (given : length b.given ≡ length b.columns)

@@ -1,4 +1,4 @@
--- A read of all columns that answered Done: the values of the columns, and the list that it left.
+-- A read of all columns that answered Ok: the values of the columns, and the list that it left.
 use Rattle.std.specs.Prelude.{Err, Ok}
 use Prim.Native.Nat.{ℕ, zero, suc, ◌+◌, ◌<◌}
 use mathlib.Core.Path.{◌≡◌, refl, sym, ap, ap₂, ◌∙◌, subst}

@@ -1,4 +1,4 @@
--- Where a build answers Done, a read of its row answers with the values it was given, for the columns that are wanted.
+-- Where a build answers Ok, a read of its row answers with the values it was given, for the columns that are wanted.
 use Rattle.std.specs.Prelude.{Ok}
 use Prim.Native.Nat.{ℕ, ◌^◌, ◌≤◌, ◌<◌}
 use mathlib.Core.Path.{◌≡◌, ap, ◌∙◌}

@@ -10,7 +10,7 @@ use Rattle.datatype.specs.Types.{alignment_of, is_varlen, shape_of}
 use Rattle.datatype.specs.Check.{type_at}
 use Rattle.row_build.specs.Built.{Built}
 
--- a build that answered Done: each part of its row stands where the layout says
+-- a build that answered Ok: each part of its row stands where the layout says
 abbrev pub BuiltWritten : {sort : Bool} {schema list area out : List ℕ} {n : ℕ} {after : List ℕ}
     (b : Built sort schema list area out n after) → Type 0
 BuiltWritten {sort = sort} {n = n} {after = after} b =

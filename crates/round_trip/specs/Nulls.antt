@@ -6,7 +6,7 @@ use Rattle.record_slot.specs.Stored.{is_null}
 use Rattle.row_build.specs.Built.{Built}
 use Rattle.round_trip.specs.ReadBack.{row, given_value}
 
--- a build that answered Done: whether null was given for a column; "9 against the header's count" past the last one
+-- a build that answered Ok: whether null was given for a column; "9 against the header's count" past the last one
 pub record NullsBack {sort : Bool} {schema list area out : List ℕ} {n : ℕ} {after : List ℕ}
     (b : Built sort schema list area out n after) : Type 0 where
   pub flag : (i : ℕ) → i < length b.columns → null_flag (row b) i ≡ Ok (is_null (given_value b i))

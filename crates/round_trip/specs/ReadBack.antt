@@ -45,7 +45,7 @@ abbrev pub wanted_points : (ℕ → Bool) → ℕ → List ℕ → List ℕ
 wanted_points wanted i [] = []
 wanted_points wanted i (n ∷ ns) = cond (wanted i) n 0 ∷ wanted_points wanted (suc i) ns
 
--- ---- a build that answered Done
+-- ---- a build that answered Ok
 
 module _ {sort : Bool} {schema list area out : List ℕ} {n : ℕ} {after : List ℕ}
     (b : Built sort schema list area out n after) where

@@ -53,7 +53,7 @@ module _ (schema r : List ℕ) (i : ℕ) where
       → (text_call schema r i ≡ Err (WrongKind i) → ⊥)
       → AsRead
 
--- ---- a build that answered Done
+-- ---- a build that answered Ok
 
 module _ {sort : Bool} {schema list area out : List ℕ} {n : ℕ} {after : List ℕ}
     (b : Built sort schema list area out n after) where

@@ -1,4 +1,4 @@
--- What a build that answers Done has done, and which lists build equal rows.
+-- What a build that answers Ok has done, and which lists build equal rows.
 use Rattle.std.specs.Prelude.{Err, Ok}
 use Prim.Native.Nat.{ℕ, ◌≤◌}
 use mathlib.Core.Path.{◌≡◌, refl, sym, ap, ◌∙◌, subst}
