@@ -1,16 +1,7 @@
 use Rattle.bit_utils.proofs.Comparing.{same_whole, same_none, same-part}
 use Rattle.laws.proofs.Bytes.{all-below}
-use lib.Seq.{length-take-le}
-use native.Mathlib.Omega.{arith}
-use Prim.Native.Nat.{◌/◌}
 use mathlib.Core.Path.{sym, ◌∙◌}
 use Rattle.bit_utils.proofs.same_bits.Goals as goal
-
-pub slice_bounds-same_bytes-end : goal.slice_bounds-same_bytes-end
-slice_bounds-same_bytes-end c = let a = c.args in sym (length-take-le (a.n / 8) a.a.now (omega arith))
-
-pub slice_bounds-same_bytes-end-2 : goal.slice_bounds-same_bytes-end-2
-slice_bounds-same_bytes-end-2 c = let a = c.args in sym (length-take-le (a.n / 8) a.b.now (omega arith))
 
 pub returns-then-used-eq0 : goal.returns-then-used-eq0
 returns-then-used-eq0 c =
