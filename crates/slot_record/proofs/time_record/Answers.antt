@@ -11,7 +11,7 @@ pub returns-in-Micros : goal.returns-in-Micros
 returns-in-Micros c = λ k.
     let bs = c.args.bytes.now in
     let read = ap time_of (sym (passed w64 (search rules) (c.read_i64.ensures ∙ ap (to_z w64) (slot-taken 8 bs c.requires.0)))) ∙ sym c.time_of.ensures ∙ c.in-Micros.is in
-    let bits = handed w64 (of_z w64) c.in-Micros.micros (search rules) c.cast_unsigned_64.ensures in
+    let bits = handed w64 (of_z w64) c.in-Micros.micros (search rules) c.cast_unsigned.ensures in
     rw (read, c.write_64.ensures.0, c.write_64.ensures.1, bits)
 
 pub returns-in-OutOfRange : goal.returns-in-OutOfRange
