@@ -143,10 +143,10 @@ fn same_value(ty: DataType, a: DataValue, x: &[u8], b: DataValue, y: &[u8]) -> b
         return false;
     }
     if kind == value_kinds::REAL {
-        return float::same_f32(real(a), real(b));
+        return float::same_value(real(a), real(b));
     }
     if kind == value_kinds::DOUBLE_PRECISION {
-        return float::same_f64(word(a), word(b));
+        return float::same_value(word(a), word(b));
     }
     if kind == value_kinds::BIT {
         return bit_utils::same_bits(x, y, n);
