@@ -15,7 +15,7 @@ fn bytes_at<const N: usize>(s: &[u8], at: usize) -> [u8; N]
     *s[at..at + N].as_array().unwrap()
 }
 
-// A function for each type: a trait over the six would need six impls, each with the line that stands in its function.
+// A function for each type, to read and to write: a trait would need six impls, each with the lines that stand here.
 pub fn read_u16(s: &[u8], at: usize) -> u16
     requires { at + 2 ≤ length s.now }
     ensures { result ≡ from_le (take 2 (drop at s.now)) }
@@ -126,6 +126,7 @@ pub fn move_within(s: &mut [u8], from: usize, to: usize, n: usize)
     s.copy_within(from..from + n, to);
 }
 
+// `==`, with a contract in the word that the clauses of rows cite.
 pub fn same_bytes(a: &[u8], b: &[u8]) -> bool
     ensures { result ≡ same_bytes a.now b.now }
 {
