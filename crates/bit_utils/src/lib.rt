@@ -11,7 +11,7 @@ pub fn byte_count(n: usize) -> usize
     requires { n ≤ 65535 }
     ensures { result ≡ bytes_for n }
 {
-    (n + 7) / 8
+    n.div_ceil(8)
 }
 
 // The first k bits of a byte, the others zero.
@@ -19,11 +19,7 @@ fn high_bits(b: u8, k: usize) -> u8
     requires { k < 8 }
     ensures { result ≡ pack_byte 8 (take k (byte_bits b)) }
 {
-    if k == 0 {
-        return 0;
-    }
-    let spare = 8 - k;
-    (b >> spare) << spare
+    b & !(0xFF >> k)
 }
 
 // The bytes at `at` that n bits fill, the bits past the first n set to zero.
@@ -46,11 +42,6 @@ pub fn same_bits(a: &[u8], b: &[u8], n: usize) -> bool
 {
     let last = n / 8;
     let used = n % 8;
-    if endian::same_bytes(&a[..last], &b[..last]) {
-        if used == 0 {
-            return true;
-        }
-        return high_bits(a[last], used) == high_bits(b[last], used);
-    }
-    false
+    endian::same_bytes(&a[..last], &b[..last])
+        && (used == 0 || high_bits(a[last], used) == high_bits(b[last], used))
 }

@@ -48,7 +48,7 @@ fn time_record(i: usize, bytes: &[u8], out: &mut [u8], at: usize) -> error::Resu
 {
     match temporal::time_of(endian::read_i64(bytes, 0)) {
         Some(micros) => Ok((
-            record_encode::write_64(out, at, value_kinds::TIME, signed::cast_unsigned_64(micros)),
+            record_encode::write_64(out, at, value_kinds::TIME, micros.cast_unsigned()),
             0,
         )),
         None => Err(Refusal::NoValue(i)),

@@ -38,7 +38,7 @@ pub fn is_timestamp(micros: i64) -> bool
 fn low_32(q: i64) -> u32
     ensures { result ≡ mod_z q (2 ^ 32) }
 {
-    (signed::cast_unsigned_64(q) % 0x1_0000_0000) as u32
+    (q.cast_unsigned() % 0x1_0000_0000) as u32
 }
 
 // The count is split as the Rust does it: the seconds keep their low 32 bits.

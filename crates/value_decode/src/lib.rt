@@ -35,13 +35,13 @@ fn negated(high: u64, low: u64, scale: u8) -> NumericValue
             };
         }
         return NumericValue {
-            high: signed::cast_signed_64(0xFFFF_FFFF_FFFF_FFFF - (high - 1)),
+            high: (0xFFFF_FFFF_FFFF_FFFF - (high - 1)).cast_signed(),
             low: 0,
             scale,
         };
     }
     NumericValue {
-        high: signed::cast_signed_64(0xFFFF_FFFF_FFFF_FFFF - high),
+        high: (0xFFFF_FFFF_FFFF_FFFF - high).cast_signed(),
         low: 0xFFFF_FFFF_FFFF_FFFF - (low - 1),
         scale,
     }
@@ -55,7 +55,7 @@ fn numeric_from(negative: bool, high: u64, low: u64, scale: u8) -> NumericValue
         return negated(high, low, scale);
     }
     NumericValue {
-        high: signed::cast_signed_64(high),
+        high: high.cast_signed(),
         low,
         scale,
     }

@@ -25,7 +25,7 @@ pub struct Halves {
 fn magnitude(high: i64, low: u64) -> Halves
     ensures { halves result.high result.low ≡ sizeOfNumber high low }
 {
-    let bits = signed::cast_unsigned_64(high);
+    let bits = high.cast_unsigned();
     if bits < 0x8000_0000_0000_0000 {
         return Halves { high: bits, low };
     }

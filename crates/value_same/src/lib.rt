@@ -25,19 +25,19 @@ fn word(v: DataValue) -> u64
 {
     match v {
         DataValue::Null => 0,
-        DataValue::SmallInt(x) => signed::cast_unsigned_16(x) as u64,
-        DataValue::Int(x) => signed::cast_unsigned_32(x) as u64,
-        DataValue::BigInt(x) => signed::cast_unsigned_64(x),
+        DataValue::SmallInt(x) => x.cast_unsigned() as u64,
+        DataValue::Int(x) => x.cast_unsigned() as u64,
+        DataValue::BigInt(x) => x.cast_unsigned(),
         DataValue::Real(x) => x as u64,
         DataValue::DoublePrecision(x) => x,
         DataValue::Numeric(x) => x.low,
         DataValue::Bool(b) => b as u64,
         DataValue::Char(_) => 0,
         DataValue::Varchar(_) => 0,
-        DataValue::Date(x) => signed::cast_unsigned_32(x) as u64,
-        DataValue::Time(x) => signed::cast_unsigned_64(x),
+        DataValue::Date(x) => x.cast_unsigned() as u64,
+        DataValue::Time(x) => x.cast_unsigned(),
         DataValue::Bit(_) => 0,
-        DataValue::Timestamp(x) => signed::cast_unsigned_64(x),
+        DataValue::Timestamp(x) => x.cast_unsigned(),
     }
 }
 
@@ -51,7 +51,7 @@ fn upper(v: DataValue) -> u64
         DataValue::BigInt(_) => 0,
         DataValue::Real(_) => 0,
         DataValue::DoublePrecision(_) => 0,
-        DataValue::Numeric(x) => signed::cast_unsigned_64(x.high),
+        DataValue::Numeric(x) => x.high.cast_unsigned(),
         DataValue::Bool(_) => 0,
         DataValue::Char(_) => 0,
         DataValue::Varchar(_) => 0,
@@ -143,10 +143,10 @@ fn same_value(ty: DataType, a: DataValue, x: &[u8], b: DataValue, y: &[u8]) -> b
         return false;
     }
     if kind == value_kinds::REAL {
-        return float::same_f32(real(a), real(b));
+        return float::same_value(real(a), real(b));
     }
     if kind == value_kinds::DOUBLE_PRECISION {
-        return float::same_f64(word(a), word(b));
+        return float::same_value(word(a), word(b));
     }
     if kind == value_kinds::BIT {
         return bit_utils::same_bits(x, y, n);

@@ -1,21 +1,10 @@
-use borrow.Author.Rules.{rules}
-use mathlib.Core.Path.{refl, sym, ◌∙◌}
-use native.Mathlib.Nat.{add-zero, sub-zero}
+use mathlib.Core.Path.{◌∙◌}
 use lib.ListN.{length-set}
-use Rattle.laws.proofs.Stores.{filled, filled_all}
+use Rattle.laws.proofs.Stores.{filled}
 use Rattle.endian.proofs.fill.Goals as goal
-
-pub loop-i-init : goal.loop-i-init
-loop-i-init c = (refl, (search rules, rw (add-zero, sub-zero)))
 
 pub loop-i-preserved : goal.loop-i-preserved
 loop-i-preserved c =
     let a = c.args in
     let l = c.loop-i in
-    (simp length-set l.invariant.0, (search rules, filled l.s a.at a.n l.i a.b (search rules) ∙ l.invariant.1.1))
-
-pub returns : goal.returns
-returns c =
-    let a = c.args in
-    let l = c.loop-i in
-    sym (filled_all l.s a.at a.n l.i a.b (search rules)) ∙ l.invariant.1.1
+    (simp length-set l.invariant.0, filled l.s a.at a.n l.i a.b c.loop-i-test.true ∙ l.invariant.1)

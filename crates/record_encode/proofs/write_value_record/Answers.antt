@@ -51,13 +51,13 @@ pub returns-in-Null : goal.returns-in-Null
 returns-in-Null c = rw c.in-Null.is c.write_null.ensures
 
 pub returns-in-SmallInt : goal.returns-in-SmallInt
-returns-in-SmallInt c = rw c.in-SmallInt.is (rw (handed w16 (of_z w16) c.in-SmallInt.x (search rules) c.cast_unsigned_16.ensures) at c.write_16.ensures)
+returns-in-SmallInt c = rw c.in-SmallInt.is (rw (handed w16 (of_z w16) c.in-SmallInt.x (search rules) c.cast_unsigned.ensures) at c.write_16.ensures)
 
 pub returns-in-Int : goal.returns-in-Int
-returns-in-Int c = rw c.in-Int.is (rw (handed w32 (of_z w32) c.in-Int.x (search rules) c.cast_unsigned_32.ensures) at c.write_32.ensures)
+returns-in-Int c = rw c.in-Int.is (rw (handed w32 (of_z w32) c.in-Int.x (search rules) c.cast_unsigned-in-Int.ensures) at c.write_32.ensures)
 
 pub returns-in-BigInt : goal.returns-in-BigInt
-returns-in-BigInt c = rw c.in-BigInt.is (rw (handed w64 (of_z w64) c.in-BigInt.x (search rules) c.cast_unsigned_64.ensures) at c.write_64.ensures)
+returns-in-BigInt c = rw c.in-BigInt.is (rw (handed w64 (of_z w64) c.in-BigInt.x (search rules) c.cast_unsigned-in-BigInt.ensures) at c.write_64.ensures)
 
 pub returns-in-Real : goal.returns-in-Real
 returns-in-Real c = rw c.in-Real.is c.write_32-in-Real.ensures
@@ -78,13 +78,13 @@ pub returns-in-Varchar : goal.returns-in-Varchar
 returns-in-Varchar c = rw c.in-Varchar.is c.write_range-in-Varchar.ensures
 
 pub returns-in-Date : goal.returns-in-Date
-returns-in-Date c = rw c.in-Date.is (rw (handed w32 (of_z w32) c.in-Date.x (search rules) c.cast_unsigned_32-in-Date.ensures) at c.write_32-in-Date.ensures)
+returns-in-Date c = rw c.in-Date.is (rw (handed w32 (of_z w32) c.in-Date.x (search rules) c.cast_unsigned-in-Date.ensures) at c.write_32-in-Date.ensures)
 
 pub returns-in-Time : goal.returns-in-Time
-returns-in-Time c = rw c.in-Time.is (rw (handed w64 (of_z w64) c.in-Time.x (search rules) c.cast_unsigned_64-in-Time.ensures) at c.write_64-in-Time.ensures)
+returns-in-Time c = rw c.in-Time.is (rw (handed w64 (of_z w64) c.in-Time.x (search rules) c.cast_unsigned-in-Time.ensures) at c.write_64-in-Time.ensures)
 
 pub returns-in-Bit : goal.returns-in-Bit
 returns-in-Bit c = rw c.in-Bit.is c.write_range-in-Bit.ensures
 
 pub returns-in-Timestamp : goal.returns-in-Timestamp
-returns-in-Timestamp c = rw c.in-Timestamp.is (rw (handed w64 (of_z w64) c.in-Timestamp.x (search rules) c.cast_unsigned_64-in-Timestamp.ensures) at c.write_64-in-Timestamp.ensures)
+returns-in-Timestamp c = rw c.in-Timestamp.is (rw (handed w64 (of_z w64) c.in-Timestamp.x (search rules) c.cast_unsigned-in-Timestamp.ensures) at c.write_64-in-Timestamp.ensures)

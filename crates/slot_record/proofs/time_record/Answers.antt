@@ -11,7 +11,7 @@ pub returns-in-Some : goal.returns-in-Some
 returns-in-Some c = λ k.
     let bs = c.args.bytes.now in
     let read = ap time_of (sym (passed w64 (search rules) (c.read_i64.ensures ∙ ap (to_z w64) (slot-taken 8 bs c.requires.0)))) ∙ sym c.time_of.ensures ∙ c.in-Some.is in
-    let bits = handed w64 (of_z w64) c.in-Some.micros (search rules) c.cast_unsigned_64.ensures in
+    let bits = handed w64 (of_z w64) c.in-Some.micros (search rules) c.cast_unsigned.ensures in
     rw (read, c.write_64.ensures.0, c.write_64.ensures.1, bits)
 
 pub returns-in-None : goal.returns-in-None

@@ -9,7 +9,7 @@ returns-then-high-eq0 c = let a = c.args in no_number a.high a.low a.scale c.if-
 
 pub returns-then-low-eq0 : goal.returns-then-low-eq0
 returns-then-low-eq0 c =
-    let a = c.args in without_low a.high a.low _ a.scale c.requires c.if-low-eq0.true c.if-high-eq0.false (passed w64 (search rules) c.cast_signed_64.ensures)
+    let a = c.args in without_low a.high a.low _ a.scale c.requires c.if-low-eq0.true c.if-high-eq0.false (passed w64 (search rules) c.cast_signed.ensures)
 
 pub returns : goal.returns
-returns c = let a = c.args in with_low a.high a.low _ a.scale c.requires (search rules) c.if-low-eq0.false (passed w64 (search rules) c.cast_signed_64-2.ensures)
+returns c = let a = c.args in with_low a.high a.low _ a.scale c.requires (search rules) c.if-low-eq0.false (passed w64 (search rules) c.cast_signed-2.ensures)

@@ -24,7 +24,7 @@ returns-in-DoublePrecision c = rw c.in-DoublePrecision.is
 
 pub returns-in-Numeric : goal.returns-in-Numeric
 returns-in-Numeric c =
-    rw c.in-Numeric.is (signed_word w64 8 refl c.in-Numeric.x.high (search rules) c.cast_unsigned_64.ensures)
+    rw c.in-Numeric.is (signed_word w64 8 refl c.in-Numeric.x.high (search rules) c.cast_unsigned.ensures)
 
 pub returns-in-Bool : goal.returns-in-Bool
 returns-in-Bool c = rw c.in-Bool.is

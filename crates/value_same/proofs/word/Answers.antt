@@ -10,15 +10,15 @@ returns-in-Null c = rw c.in-Null.is
 
 pub returns-in-SmallInt : goal.returns-in-SmallInt
 returns-in-SmallInt c =
-    rw c.in-SmallInt.is (signed_word w16 2 refl c.in-SmallInt.x (search rules) c.cast_unsigned_16.ensures)
+    rw c.in-SmallInt.is (signed_word w16 2 refl c.in-SmallInt.x (search rules) c.cast_unsigned.ensures)
 
 pub returns-in-Int : goal.returns-in-Int
 returns-in-Int c =
-    rw c.in-Int.is (signed_word w32 4 refl c.in-Int.x (search rules) c.cast_unsigned_32.ensures)
+    rw c.in-Int.is (signed_word w32 4 refl c.in-Int.x (search rules) c.cast_unsigned-in-Int.ensures)
 
 pub returns-in-BigInt : goal.returns-in-BigInt
 returns-in-BigInt c =
-    rw c.in-BigInt.is (signed_word w64 8 refl c.in-BigInt.x (search rules) c.cast_unsigned_64.ensures)
+    rw c.in-BigInt.is (signed_word w64 8 refl c.in-BigInt.x (search rules) c.cast_unsigned-in-BigInt.ensures)
 
 pub returns-in-Real : goal.returns-in-Real
 returns-in-Real c = rw c.in-Real.is (unsigned_word w32 4 refl c.in-Real.x (search rules))
@@ -40,15 +40,15 @@ returns-in-Varchar c = rw c.in-Varchar.is
 
 pub returns-in-Date : goal.returns-in-Date
 returns-in-Date c =
-    rw c.in-Date.is (signed_word w32 4 refl c.in-Date.x (search rules) c.cast_unsigned_32-in-Date.ensures)
+    rw c.in-Date.is (signed_word w32 4 refl c.in-Date.x (search rules) c.cast_unsigned-in-Date.ensures)
 
 pub returns-in-Time : goal.returns-in-Time
 returns-in-Time c =
-    rw c.in-Time.is (signed_word w64 8 refl c.in-Time.x (search rules) c.cast_unsigned_64-in-Time.ensures)
+    rw c.in-Time.is (signed_word w64 8 refl c.in-Time.x (search rules) c.cast_unsigned-in-Time.ensures)
 
 pub returns-in-Bit : goal.returns-in-Bit
 returns-in-Bit c = rw c.in-Bit.is
 
 pub returns-in-Timestamp : goal.returns-in-Timestamp
 returns-in-Timestamp c =
-    rw c.in-Timestamp.is (signed_word w64 8 refl c.in-Timestamp.x (search rules) c.cast_unsigned_64-in-Timestamp.ensures)
+    rw c.in-Timestamp.is (signed_word w64 8 refl c.in-Timestamp.x (search rules) c.cast_unsigned-in-Timestamp.ensures)

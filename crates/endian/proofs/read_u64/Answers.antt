@@ -1,8 +1,0 @@
-use native.Mathlib.Omega.{arith}
-use Rattle.laws.proofs.Bytes.{from-add}
-use Rattle.endian.proofs.read_u64.Goals as goal
-
-pub returns : goal.returns
-returns c =
-    let a = c.args in
-    omega (arith, from-add 4 4 a.at a.s.now (omega arith))
