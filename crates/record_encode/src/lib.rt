@@ -128,19 +128,9 @@ pub fn write_value_record(out: &mut [u8], at: usize, is_long: bool, v: DataValue
 {
     match v {
         DataValue::Null => write_null(out, at),
-        DataValue::SmallInt(x) => write_16(
-            out,
-            at,
-            value_kinds::SMALL_INT,
-            x.cast_unsigned(),
-        ),
+        DataValue::SmallInt(x) => write_16(out, at, value_kinds::SMALL_INT, x.cast_unsigned()),
         DataValue::Int(x) => write_32(out, at, value_kinds::INT, x.cast_unsigned()),
-        DataValue::BigInt(x) => write_64(
-            out,
-            at,
-            value_kinds::BIG_INT,
-            x.cast_unsigned(),
-        ),
+        DataValue::BigInt(x) => write_64(out, at, value_kinds::BIG_INT, x.cast_unsigned()),
         DataValue::Real(x) => write_32(out, at, value_kinds::REAL, x),
         DataValue::DoublePrecision(x) => write_64(out, at, value_kinds::DOUBLE_PRECISION, x),
         DataValue::Numeric(n) => write_numeric(out, at, n),
@@ -150,11 +140,6 @@ pub fn write_value_record(out: &mut [u8], at: usize, is_long: bool, v: DataValue
         DataValue::Date(x) => write_32(out, at, value_kinds::DATE, x.cast_unsigned()),
         DataValue::Time(x) => write_64(out, at, value_kinds::TIME, x.cast_unsigned()),
         DataValue::Bit(r) => write_range(out, at, is_long, value_kinds::BIT, r),
-        DataValue::Timestamp(x) => write_64(
-            out,
-            at,
-            value_kinds::TIMESTAMP,
-            x.cast_unsigned(),
-        ),
+        DataValue::Timestamp(x) => write_64(out, at, value_kinds::TIMESTAMP, x.cast_unsigned()),
     }
 }
