@@ -7,10 +7,6 @@ use lib.Arith.{mod-mul}
 use lib.ListN.{length}
 use Rattle.numeric.specs.Decimal.{halves, digits, denote}
 
--- two halves of which the upper is 0
-pub no_high : (high low : ℕ) → high ≡ 0 → low ≡ halves high low
-no_high high low h = omega arith
-
 -- the halves of a number in halves
 module _ (high low : ℕ) (l : low < 2 ^ 64) where
   pub upper_half : halves high low / 2 ^ 64 ≡ high
@@ -18,20 +14,6 @@ module _ (high low : ℕ) (l : low < 2 ^ 64) where
 
   pub lower_half : halves high low % 2 ^ 64 ≡ low
   lower_half = omega arith
-
--- the order of two numbers in halves, of which the second is given whole
-module _ (high low x : ℕ) where
-  pub high-below : low < 2 ^ 64 → high < x / 2 ^ 64 → halves high low < x
-  high-below l h = omega arith
-
-  pub high_above : x / 2 ^ 64 < high → x ≤ halves high low
-  high_above h = omega arith
-
-  pub same-high : high ≡ x / 2 ^ 64 → low < x % 2 ^ 64 → halves high low < x
-  same-high e h = omega arith
-
-  pub same-high-le : high ≡ x / 2 ^ 64 → x % 2 ^ 64 ≤ low → x ≤ halves high low
-  same-high-le e h = omega arith
 
 -- ---- a division in two steps of 32 bits
 

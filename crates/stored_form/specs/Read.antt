@@ -1,6 +1,6 @@
 -- FORMAT 5.2. 01, "Stored forms": "Reading follows `from_bytes`". What a column's bytes, which stand at `start` of a
 -- row, read as: the text area of the value is the row.
-use Rattle.std.specs.Prelude.{ℕ, Bool, cond, List, eqb, length, get_or, take, drop}
+use Rattle.std.specs.Prelude.{ℕ, Bool, cond, List, eqb, length, get_or, take, drop, Option, None, Some}
 use Rattle.std.specs.Int.{w16, w32, w64}
 use Rattle.std.proofs.Common.{to_z}
 use Rattle.laws.specs.Bytes.{from_le}
@@ -10,9 +10,6 @@ use Rattle.temporal.specs.declared.TimeOfDay.{TimeOfDay}
 use Rattle.temporal.specs.declared.TimeOfDay.TheVariants.{Micros, OutOfRange}
 use Rattle.temporal.specs.Ranges.{is_date, is_timestamp}
 use Rattle.temporal.specs.Time.{time_of}
-use Rattle.numeric.specs.declared.Decoded.{Decoded}
-use Rattle.numeric.specs.declared.Decoded.TheVariants as Bcd
-use Rattle.numeric.specs.Decimal.{halves}
 use Rattle.numeric.specs.Packed.{decode_bcd}
 use Rattle.datatype.specs.declared.DataType.{DataType}
 use Rattle.datatype.specs.declared.DataType.TheVariants as T
@@ -34,9 +31,9 @@ abbrev pub twos_complement : List ℕ → NumericValue
 twos_complement bs =
     record { high = to_z w64 (from_le (take 8 (drop 8 bs))); low = from_le (take 8 bs); scale = get_or bs 16 0 }
 
-abbrev pub decoded : ℕ → List ℕ → Decoded → SlotRead
-decoded s bs (Bcd.Value negative high low) = Value (D.Numeric (numeric_of negative (halves high low) s))
-decoded s bs Bcd.Broken = value_if (eqb (length bs) 17) (D.Numeric (twos_complement bs))
+abbrev pub decoded : ℕ → List ℕ → Option (Bool × ℕ) → SlotRead
+decoded s bs (Some r) = Value (D.Numeric (numeric_of r.0 r.1 s))
+decoded s bs None = value_if (eqb (length bs) 17) (D.Numeric (twos_complement bs))
 
 abbrev pub timed : TimeOfDay → SlotRead
 timed (Micros z) = Value (D.Time z)

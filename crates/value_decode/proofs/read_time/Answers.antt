@@ -12,7 +12,3 @@ use Rattle.value_decode.proofs.read_time.Goals as goal
 pub returns-in-Micros : goal.returns-in-Micros
 returns-in-Micros c =
     rw (← passed w64 (search rules) (c.read_i64.ensures ∙ ap (to_z w64) (slot-taken 8 c.args.bytes.now c.requires)), ← c.time_of.ensures, c.in-Micros.is) (ap (λ (z : ℤ). Value (Time z)) (passed w64 {r = c.in-Micros.micros} (search rules) refl))
-
-pub returns-in-OutOfRange : goal.returns-in-OutOfRange
-returns-in-OutOfRange c =
-    rw (← passed w64 (search rules) (c.read_i64.ensures ∙ ap (to_z w64) (slot-taken 8 c.args.bytes.now c.requires)), ← c.time_of.ensures, c.in-OutOfRange.is)
