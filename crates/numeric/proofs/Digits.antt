@@ -5,9 +5,12 @@ use native.Mathlib.Nat.{add-mul, mul_assoc, mul_comm, pow-suc, one-le-pow, mod-l
 use native.Mathlib.Omega.{arith}
 use lib.Arith.{mod-mul}
 use lib.ListN.{length}
-use Rattle.numeric.specs.Decimal.{halves, digits, denote}
+use Rattle.numeric.specs.Decimal.{digits, denote}
 
--- the halves of a number in halves
+-- a number in two halves of 64 bits, and its halves
+abbrev pub halves : ℕ → ℕ → ℕ
+halves high low = high * 2 ^ 64 + low
+
 module _ (high low : ℕ) (l : low < 2 ^ 64) where
   pub upper_half : halves high low / 2 ^ 64 ≡ high
   upper_half = omega arith

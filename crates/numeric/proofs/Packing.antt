@@ -174,17 +174,17 @@ module _ {all s : List ℕ} {i n : ℕ} (f : Filling all s i n) where
   pub fill_length : length s ≡ length all
   fill_length = sym (length-sets s 0 (hundreds i n)) ∙ ap length f.stored
 
-  pub fill_end : n ≤ 0 → s ≡ all
-  fill_end h =
-      let z : n ≡ 0 = omega arith in
+  -- no digit is left, or no place
+  pub fill_end : n ≡ 0 → s ≡ all
+  fill_end z =
       let e : hundreds i n ≡ take i s = ap (hundreds i) z ∙ hundreds-zero i ∙ sym f.fresh.zeros in
       sym (sets_self s 0 i (omega (arith, f.fresh.inside))) ∙ ap (sets s 0) (sym e) ∙ f.stored
 
-  -- a digit is left only where there is room for it
-  pub fill_room : 0 < n → 0 < i
-  fill_room h = cases 0 i (λ k. k) (λ k. let z : i ≡ 0 = omega arith in let r : n < 100 ^ 0 = rw z at f.fresh.room in absurd (omega arith))
+  pub fill_full : i ≤ 0 → s ≡ all
+  unfolding hundreds
+  fill_full h = let z : i ≡ 0 = omega arith in rw z at f.stored
 
-  -- and more than 64 bits only where there is room for eight digits
+  -- more than 64 bits are left only where there is room for eight digits
   pub fill_long : 2 ^ 64 ≤ n → 4 ≤ i
   fill_long h =
       cases i 4

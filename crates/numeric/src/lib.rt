@@ -8,7 +8,7 @@ ghost use Rattle.numeric.specs.Packed.{pairs, nibbles, sign_nibble, encode_bcd, 
 ghost use Rattle.numeric.specs.InnerPacked.{two_digits, hundreds, Fresh};
 
 // n divided by d, and the rest.
-// Stays: in 64-bit divisions, for u128 by 10 ^ k is a call that the archive has not.
+// Stays: by 64-bit divisions, for one of u128 is a call (tried: 5 times as long).
 fn divided_by(n: u128, d: u64) -> (u128, u64)
     requires { (1 ≤ d) × (d ≤ 2 ^ 32) }
     ensures { (result.0 ≡ n / d) × (result.1 ≡ n % d) }
@@ -49,11 +49,12 @@ fn put_pairs(s: &mut [u8], end: usize, n: u64)
     ensures { s.new ≡ sets s.old 0 (hundreds end n) }
 {
     let mut rest = n;
-    let mut i = end;
-    while 0 < rest {
-        i -= 1;
+    for i in (0..end).rev() {
+        if rest == 0 {
+            return;
+        }
         s[i] = two_digits(rest % 100);
-        rest = rest / 100;
+        rest /= 100;
     }
 }
 
@@ -67,7 +68,8 @@ pub fn digits_of(n: u128) -> [u8; 20]
     d[19] = (nine % 10 * 16) as u8;
     put_eight(&mut d, 15, nine / 10);
     let mut i: usize = 15;
-    while 0xFFFF_FFFF_FFFF_FFFF < rest {
+    // Stays: it ends by the number that is left, and a `for` over places would need a second test.
+    while rest > u64::MAX as u128 {
         let (quotient, eight) = divided_by(rest, 100_000_000);
         i -= 4;
         put_eight(&mut d, i, eight);

@@ -2,8 +2,7 @@ use Prim.Native.Nat.{ℕ, ◌/◌, ◌%◌, ◌^◌}
 use mathlib.Core.Path.{◌≡◌}
 use native.Mathlib.Nat.{mod-lt}
 use native.Mathlib.Omega.{arith}
-use Rattle.numeric.specs.Decimal.{halves}
-use Rattle.numeric.proofs.Digits.{upper, halves_divided, upper_part, lower-part}
+use Rattle.numeric.proofs.Digits.{halves, upper, halves_divided, upper_part, lower-part}
 use Rattle.numeric.proofs.divided_by.Goals as goal
 
 pub overflow_mul-a : goal.overflow_mul-a
