@@ -5,33 +5,18 @@ use native.Mathlib.Nat.{add-mul, mul_assoc, mul_comm, pow-suc, one-le-pow, mod-l
 use native.Mathlib.Omega.{arith}
 use lib.Arith.{mod-mul}
 use lib.ListN.{length}
-use Rattle.numeric.specs.Decimal.{halves, digits, denote}
+use Rattle.numeric.specs.Decimal.{digits, denote}
 
--- two halves of which the upper is 0
-pub no_high : (high low : ℕ) → high ≡ 0 → low ≡ halves high low
-no_high high low h = omega arith
+-- a number in two halves of 64 bits, and its halves
+abbrev pub halves : ℕ → ℕ → ℕ
+halves high low = high * 2 ^ 64 + low
 
--- the halves of a number in halves
 module _ (high low : ℕ) (l : low < 2 ^ 64) where
   pub upper_half : halves high low / 2 ^ 64 ≡ high
   upper_half = omega arith
 
   pub lower_half : halves high low % 2 ^ 64 ≡ low
   lower_half = omega arith
-
--- the order of two numbers in halves, of which the second is given whole
-module _ (high low x : ℕ) where
-  pub high-below : low < 2 ^ 64 → high < x / 2 ^ 64 → halves high low < x
-  high-below l h = omega arith
-
-  pub high_above : x / 2 ^ 64 < high → x ≤ halves high low
-  high_above h = omega arith
-
-  pub same-high : high ≡ x / 2 ^ 64 → low < x % 2 ^ 64 → halves high low < x
-  same-high e h = omega arith
-
-  pub same-high-le : high ≡ x / 2 ^ 64 → x % 2 ^ 64 ≤ low → x ≤ halves high low
-  same-high-le e h = omega arith
 
 -- ---- a division in two steps of 32 bits
 

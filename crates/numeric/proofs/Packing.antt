@@ -3,15 +3,16 @@ use Prim.Native.Nat.{ℕ, zero, suc, ◌+◌, ◌*◌, ◌-◌, ◌/◌, ◌%◌
 use mathlib.Core.Path.{◌≡◌, refl, sym, ap, ◌∙◌}
 use mathlib.Core.Bool.{Bool}
 use mathlib.Core.List.{List, [], ◌∷◌, ◌++◌, append-nil, append_assoc}
-use native.Mathlib.Nat.{zero-add, suc-add, add_comm, zero-div, div-eq_of_lt, mul_comm, pow-suc, one-le-pow, pow-le-pow_right, lt_of_lt_of_le, mul-le-mul_right, div-div-eq-div-mul, div-lt_iff_lt-mul}
+use native.Mathlib.Nat.{zero-add, suc-add, add_comm, zero-div, div-eq_of_lt, mul_comm, pow-suc, one-le-pow, pow-le-pow_right, lt_of_lt_of_le, div-div-eq-div-mul, div-lt_iff_lt-mul}
 use native.Mathlib.Omega.{arith}
 use lib.Dec.{lit≤}
-use lib.ListN.{length, get_or, set, take, replicate, length-append, length-replicate, get_or-append}
+use lib.ListN.{length, get_or, set, take, drop, replicate, length-append, length-replicate}
+use borrow.Rule.Slice.PartMut.{put_mid}
 use lib.Pow.{pow-add}
-use lib.Seq.{sets, length-sets, get_or_at, get_or-append-add, take-take, take_at, length-take-le}
+use lib.Seq.{sets, drop-drop, length-sets, get_or_at, take-take, take_at, drop_at, length-take-le}
 use Rattle.laws.proofs.Truths.{cases}
-use Rattle.laws.proofs.Stores.{sets-start, sets_then, sets_comm, sets_self, sets-splice}
-use Rattle.numeric.specs.Decimal.{halves, digits}
+use Rattle.laws.proofs.Stores.{sets-append, sets-start, sets_then, sets_comm, sets_self, sets-splice}
+use Rattle.numeric.specs.Decimal.{digits}
 use Rattle.numeric.specs.Packed.{pairs, front_size, sign_nibble, encode_bcd}
 use Rattle.numeric.specs.InnerPacked.{two_digits, hundreds, Fresh}
 use Rattle.numeric.proofs.Digits.{length_digits}
@@ -109,24 +110,35 @@ module _ (p x : ℕ) (h : x < 10 ^ p) where
       (ap pairs (sym (append_assoc (replicate (front_size p) 0) (digits p x) (sign_nibble negative ∷ [])) ∙ ap (λ (l : List ℕ). l ++ (sign_nibble negative ∷ [])) (fronted (front_size p) refl))
       ∙ pairs-odd (p / 2) x (sign_nibble negative ∷ []))
 
-  -- byte by byte out of the 39 digits
-  module _ (few : p ≤ 38) (negative : Bool) where
-    abbrev y : ℕ
-    y = x / 10
+-- ---- the packed form out of the 39 digits
 
-    pub digits_at : (j : ℕ) → j < p / 2 → get_or (pairs (digits 39 x)) (19 - p / 2 + j) 0 ≡ get_or (encode_bcd p negative x) j 0
-    digits_at j k =
-        let n : 19 - p / 2 + p / 2 ≡ 19 = omega arith in
-        let cut : hundreds 19 y ≡ hundreds (19 - p / 2) (y / 100 ^ (p / 2)) ++ hundreds (p / 2) y = ap (λ (m : ℕ). hundreds m y) (sym n) ∙ hundreds-split (19 - p / 2) (p / 2) y in
-        let at : get_or (hundreds 19 y) (19 - p / 2 + j) 0 ≡ get_or (hundreds (p / 2) y) j 0
-        = ap (λ (l : List ℕ). get_or l (19 - p / 2 + j) 0) cut ∙ rw length-hundreds at (get_or-append-add (hundreds (19 - p / 2) (y / 100 ^ (p / 2))) (hundreds (p / 2) y) j 0) in
-        rw (pairs-digits x, encode_pairs negative)
-        (get_or-append (hundreds 19 y) _ 0 (19 - p / 2 + j) (rw length-hundreds (omega arith)) ∙ at ∙ sym (get_or-append (hundreds (p / 2) y) _ 0 j (rw length-hundreds k)))
+-- the last 2 k digits but one
+digits_cut : (k x : ℕ) → k ≤ 19 → take (19 - (19 - k)) (drop (19 - k) (pairs (digits 39 x))) ≡ hundreds k (x / 10)
+digits_cut k x h =
+    let y : ℕ = x / 10 in
+    let n : 19 - k + k ≡ 19 = omega arith in
+    let m : 19 - (19 - k) ≡ k = omega arith in
+    let front : List ℕ = hundreds (19 - k) (y / 100 ^ k) in
+    let cut : hundreds 19 y ≡ front ++ hundreds k y = ap (λ (i : ℕ). hundreds i y) (sym n) ∙ hundreds-split (19 - k) k y in
+    rw (m, pairs-digits x, cut, append_assoc, drop_at front _ (19 - k) (length-hundreds _ _), take_at (hundreds k y) _ k (length-hundreds k y))
 
-    pub digits_last : get_or (pairs (digits 39 x)) 19 0 + sign_nibble negative ≡ get_or (encode_bcd p negative x) (p / 2) 0
-    digits_last =
-        rw (pairs-digits x, encode_pairs negative, get_or_at (hundreds 19 y) (x % 10 * 16) [] 0 19 (length-hundreds 19 y))
-        (sym (get_or_at (hundreds (p / 2) y) (x % 10 * 16 + sign_nibble negative) [] 0 (p / 2) (length-hundreds (p / 2) y)))
+last_of : (x : ℕ) → get_or (pairs (digits 39 x)) 19 0 ≡ x % 10 * 16
+last_of x = rw (pairs-digits x) (get_or_at (hundreds 19 (x / 10)) (x % 10 * 16) [] 0 19 (length-hundreds 19 (x / 10)))
+
+-- a part of s that was written
+put_sets : (s xs : List ℕ) (at : ℕ) → at + length xs ≤ length s → put_mid at (length xs) s xs ≡ sets s at xs
+put_sets s xs at h = rw (drop-drop (length xs) at s) (sym (sets-splice s at xs h))
+
+pub packed_from : (p x : ℕ) → x < 10 ^ p → p ≤ 38 → (negative : Bool) (s : List ℕ) (at : ℕ) → at + (p + 2) / 2 ≤ length s
+    → set (put_mid at (at + p / 2 - at) s (take (19 - (19 - p / 2)) (drop (19 - p / 2) (pairs (digits 39 x))))) (at + p / 2) (get_or (pairs (digits 39 x)) 19 0 + sign_nibble negative)
+    ≡ sets s at (encode_bcd p negative x)
+packed_from p x h few negative s at room =
+    let k : ℕ = p / 2 in
+    let xs : List ℕ = hundreds k (x / 10) in
+    let e : at + k - at ≡ k = omega arith in
+    let n : length xs ≡ k = length-hundreds k (x / 10) in
+    let put : put_mid at k s xs ≡ sets s at xs = rw n at (put_sets s xs at (rw n (omega arith))) in
+    rw (e, digits_cut k x (omega arith), put, last_of x, encode_pairs p x h negative, sets-append, n)
 
 pub last_digit : (x : ℕ) → get_or (pairs (digits 39 x)) 19 0 ≤ 144
 last_digit x = rw (pairs-digits x, get_or_at (hundreds 19 (x / 10)) (x % 10 * 16) [] 0 19 (length-hundreds 19 (x / 10))) (omega arith)
@@ -162,17 +174,17 @@ module _ {all s : List ℕ} {i n : ℕ} (f : Filling all s i n) where
   pub fill_length : length s ≡ length all
   fill_length = sym (length-sets s 0 (hundreds i n)) ∙ ap length f.stored
 
-  pub fill_end : n ≤ 0 → s ≡ all
-  fill_end h =
-      let z : n ≡ 0 = omega arith in
+  -- no digit is left, or no place
+  pub fill_end : n ≡ 0 → s ≡ all
+  fill_end z =
       let e : hundreds i n ≡ take i s = ap (hundreds i) z ∙ hundreds-zero i ∙ sym f.fresh.zeros in
       sym (sets_self s 0 i (omega (arith, f.fresh.inside))) ∙ ap (sets s 0) (sym e) ∙ f.stored
 
-  -- a digit is left only where there is room for it
-  pub fill_room : 0 < n → 0 < i
-  fill_room h = cases 0 i (λ k. k) (λ k. let z : i ≡ 0 = omega arith in let r : n < 100 ^ 0 = rw z at f.fresh.room in absurd (omega arith))
+  pub fill_full : i ≤ 0 → s ≡ all
+  unfolding hundreds
+  fill_full h = let z : i ≡ 0 = omega arith in rw z at f.stored
 
-  -- and more than 64 bits only where there is room for eight digits
+  -- more than 64 bits are left only where there is room for eight digits
   pub fill_long : 2 ^ 64 ≤ n → 4 ≤ i
   fill_long h =
       cases i 4
@@ -190,14 +202,8 @@ module _ {all s : List ℕ} {i n : ℕ} (f : Filling all s i n) where
       rw (e, d) at (fill_more 1 h)
 
 -- what 128 bits hold has at most 39 digits
-pub halves-room : (high low : ℕ) → high < 2 ^ 64 → low < 2 ^ 64 → halves high low / 10 < 100 ^ 19
-halves-room high low h l =
-    let a : halves high low < suc high * 2 ^ 64 = omega arith in
-    let b : suc high * 2 ^ 64 ≤ 2 ^ 64 * 2 ^ 64 = mul-le-mul_right (2 ^ 64) h in
-    (div-lt_iff_lt-mul {k = 10} {x = halves high low} {y = 100 ^ 19} (lit≤ tt)).1 (lt_of_lt_of_le (lt_of_lt_of_le a b) (lit≤ tt))
-
-pub half_room : (low : ℕ) → low < 2 ^ 64 → low / 10 < 100 ^ 19
-half_room low l = rw zero-add at (halves-room 0 low (lit≤ tt) l)
+pub wide-room : (n : ℕ) → n < 2 ^ 128 → n / 10 < 100 ^ 19
+wide-room n h = (div-lt_iff_lt-mul {k = 10} {x = n} {y = 100 ^ 19} (lit≤ tt)).1 (lt_of_lt_of_le h (lit≤ tt))
 
 -- twenty zeros, of which the last has the last digit
 pub fill_start : (x : ℕ) → x / 10 < 100 ^ 19 → Filling (pairs (digits 39 x)) (set (replicate 20 0) 19 (x % 10 * 16)) 19 (x / 10)

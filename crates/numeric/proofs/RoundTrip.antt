@@ -9,8 +9,7 @@ use lib.ListN.{length, get_or, take, drop, replicate, length-append, length-repl
 use lib.Seq.{get_or_at, take-append_seam, drop-append_seam}
 use borrow.Author.Tests.{le-leb}
 use Rattle.laws.proofs.Bytes.{Below}
-use Rattle.numeric.specs.declared.Decoded.TheVariants.{Value}
-use Rattle.numeric.specs.declared.Magnitude.TheVariants.{Number}
+use Rattle.std.specs.Prelude.{Some}
 use Rattle.numeric.specs.Decimal.{digits}
 use Rattle.numeric.specs.Packed.{pairs, nibbles, front_size, sign_nibble, encode_bcd, all_digits, signed, decode_bcd}
 use Rattle.numeric.proofs.Digits.{length_digits, denote-digits}
@@ -76,11 +75,11 @@ module _ (p : ℕ) (negative : Bool) (x : ℕ) where
       let d : drop (front_size p) packed ≡ digits p x ++ (sign_nibble negative ∷ []) = rw length_front at (drop-append_seam front (digits p x ++ (sign_nibble negative ∷ []))) in
       ap (take p) d ∙ rw (length_digits p x) at (take-append_seam (digits p x) (sign_nibble negative ∷ []))
 
-sign_read : (negative : Bool) (high low : ℕ) → signed (sign_nibble negative) (Number high low) ≡ Value negative high low
-sign_read true high low = refl
-sign_read false high low = refl
+sign_read : (negative : Bool) (x : ℕ) → signed (sign_nibble negative) (Some x) ≡ Some (negative, x)
+sign_read true x = refl
+sign_read false x = refl
 
 -- a number of at most p digits, packed with its sign, is read back
-pub decode_encode : (p : ℕ) (negative : Bool) (x : ℕ) → x < 10 ^ p → decode_bcd p (encode_bcd p negative x) ≡ Value negative (x / 2 ^ 64) (x % 2 ^ 64)
+pub decode_encode : (p : ℕ) (negative : Bool) (x : ℕ) → x < 10 ^ p → decode_bcd p (encode_bcd p negative x) ≡ Some (negative, x)
 decode_encode p negative x h =
-    rw (read-nibbles p negative x, read_sign p negative x, read-digits p negative x, all_digits_lem p x, denote-digits p x, mod-eq_of_lt h) (sign_read negative (x / 2 ^ 64) (x % 2 ^ 64))
+    rw (read-nibbles p negative x, read_sign p negative x, read-digits p negative x, all_digits_lem p x, denote-digits p x, mod-eq_of_lt h) (sign_read negative x)

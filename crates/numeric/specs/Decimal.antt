@@ -2,10 +2,6 @@
 -- front when precision is even, then C or D; D only below zero".
 use Rattle.std.specs.Prelude.{ℕ, zero, suc, ◌+◌, ◌*◌, ◌/◌, ◌%◌, ◌^◌, List, [], ◌∷◌, length}
 
--- a number in two halves of 64 bits
-abbrev pub halves : ℕ → ℕ → ℕ
-halves high low = high * 2 ^ 64 + low
-
 -- the low n decimal digits of x, the highest first
 unfoldable pub digits : ℕ → ℕ → List ℕ
 digits zero x = []

@@ -1,10 +1,6 @@
 -- FORMAT 5.1, 5.2. 01, "Stored forms": "Numeric and Decimal: digits of the unscaled number, one a nibble, a zero nibble
 -- in front when precision is even, then C or D; D only below zero".
-use Rattle.std.specs.Prelude.{ℕ, ◌+◌, ◌*◌, ◌/◌, ◌%◌, ◌^◌, Bool, true, false, cond, ◌&&◌, List, [], ◌∷◌, ◌++◌, eqb, leb, length, get_or, take, drop, replicate}
-use Rattle.numeric.specs.declared.Magnitude.{Magnitude}
-use Rattle.numeric.specs.declared.Magnitude.TheVariants as M
-use Rattle.numeric.specs.declared.Decoded.{Decoded}
-use Rattle.numeric.specs.declared.Decoded.TheVariants as D
+use Rattle.std.specs.Prelude.{ℕ, ◌+◌, ◌*◌, ◌/◌, ◌%◌, Bool, true, false, cond, ◌&&◌, List, [], ◌∷◌, ◌++◌, eqb, leb, length, get_or, take, drop, replicate, Option, None, Some}
 use Rattle.numeric.specs.Decimal.{digits, denote}
 
 -- nibbles two a byte, the first in the upper half, and the nibbles of bytes
@@ -37,14 +33,14 @@ abbrev pub all_digits : List ℕ → Bool
 all_digits [] = true
 all_digits (d ∷ ds) = leb d 9 && all_digits ds
 
-abbrev pub magnitude_of : List ℕ → Magnitude
-magnitude_of ds = cond (all_digits ds) (M.Number (denote ds / 2 ^ 64) (denote ds % 2 ^ 64)) M.Broken
+abbrev pub magnitude_of : List ℕ → Option ℕ
+magnitude_of ds = cond (all_digits ds) (Some (denote ds)) None
 
-abbrev pub signed : ℕ → Magnitude → Decoded
-signed s (M.Number high low) =
-    cond (eqb s 0xC) (D.Value false high low) (cond (eqb s 0xD) (D.Value true high low) D.Broken)
-signed s M.Broken = D.Broken
+-- whether it is negative, and its magnitude
+abbrev pub signed : ℕ → Option ℕ → Option (Bool × ℕ)
+signed s (Some m) = cond (eqb s 0xC) (Some (false, m)) (cond (eqb s 0xD) (Some (true, m)) None)
+signed s None = None
 
-abbrev pub decode_bcd : ℕ → List ℕ → Decoded
+abbrev pub decode_bcd : ℕ → List ℕ → Option (Bool × ℕ)
 decode_bcd p bs =
     signed (get_or (nibbles bs) (front_size p + p) 0) (magnitude_of (take p (drop (front_size p) (nibbles bs))))

@@ -106,9 +106,7 @@ fn number_suits(values: &[u8], body: usize, n: usize) -> bool
     ensures { result ≡ number_suits n (numeric_at values.now body) }
 {
     value_encode::fits_number(
-        endian::read_i64(values, body + 8),
-        endian::read_u64(values, body),
-        values[body + 16],
+        value_list::numeric_at(values, body),
         n % 256,
         (n / 256) as u8,
     )
@@ -261,13 +259,8 @@ fn write_number(out: &mut [u8], slot: usize, p: usize, values: &[u8], body: usiz
     ensures { out.new
         ≡ sets out.old slot (number_stored p (numeric_at values.now body)) }
 {
-    value_encode::write_number(
-        out,
-        slot,
-        endian::read_i64(values, body + 8),
-        endian::read_u64(values, body),
-        p,
-    );
+    let n = value_list::numeric_at(values, body);
+    value_encode::write_number(out, slot, n.high, n.low, p);
 }
 
 // The n bits whose range stands at a place of the list.

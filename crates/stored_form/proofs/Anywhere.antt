@@ -8,13 +8,12 @@ use lib.Dec.{eqb}
 use lib.ListN.{length}
 use mir.Syntax.{w32, w64}
 use mir.Val.{to_z}
+use Rattle.std.specs.Prelude.{Option, None, Some}
 use Rattle.laws.specs.Bytes.{from_le}
 use Rattle.text.specs.Rfc3629.{is_text}
 use Rattle.text_limit.specs.Limit.{fits_text}
 use Rattle.temporal.specs.Ranges.{is_date, is_timestamp}
 use Rattle.temporal.specs.Time.{time_of}
-use Rattle.numeric.specs.declared.Decoded.{Decoded}
-use Rattle.numeric.specs.declared.Decoded.TheVariants as Bcd
 use Rattle.numeric.specs.Packed.{decode_bcd}
 use Rattle.datatype.specs.declared.DataType.{DataType}
 use Rattle.datatype.specs.declared.DataType.TheVariants as T
@@ -41,9 +40,9 @@ module _ (a b : ℕ) (bs : List ℕ) where
   by_both true x y x' y' p q = p
   by_both false x y x' y' p q = q
 
-  both_number : (s : ℕ) (d : Decoded) → Both (decoded s bs d) (decoded s bs d)
-  both_number s (Bcd.Value negative high low) = alike refl
-  both_number s Bcd.Broken = by_both (eqb (length bs) 17) (Some (D.Numeric (twos_complement bs))) None (Some (D.Numeric (twos_complement bs))) None (alike refl) tt
+  both_number : (s : ℕ) (d : Option (Bool × ℕ)) → Both (decoded s bs d) (decoded s bs d)
+  both_number s (Some r) = alike refl
+  both_number s None = by_both (eqb (length bs) 17) (Some (D.Numeric (twos_complement bs))) None (Some (D.Numeric (twos_complement bs))) None (alike refl) tt
 
   both_time : (d : Option ℤ) → Both (timed d) (timed d)
   both_time (Some z) = alike refl

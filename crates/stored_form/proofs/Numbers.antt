@@ -1,5 +1,5 @@
 -- Numbers written and read back.
-use Prim.Native.Nat.{ℕ, zero, suc, ◌+◌, ◌*◌, ◌-◌, ◌/◌, ◌%◌, ◌^◌, ◌≤◌, ◌<◌}
+use Prim.Native.Nat.{ℕ, zero, suc, ◌+◌, ◌*◌, ◌-◌, ◌/◌, ◌^◌, ◌≤◌, ◌<◌}
 use mathlib.Core.Path.{◌≡◌, refl, ap, ◌∙◌}
 use mathlib.Core.Bool.{Bool, true, false, cond}
 use native.Mathlib.Omega.{arith}
@@ -11,7 +11,6 @@ use mir.Val.{bits, Fits, SFits, to_z, of_z}
 use mir.ValLaws.{to_z-of_z, of_z_fits}
 use Rattle.laws.specs.Bytes.{to_le, from_le}
 use Rattle.laws.proofs.Bytes.{from_to}
-use Rattle.numeric.specs.Decimal.{halves}
 use Rattle.numeric.proofs.Digits.{upper_half, lower_half}
 use Rattle.value.specs.declared.NumericValue.{NumericValue}
 use Rattle.stored_form.specs.Number.{is_negative, magnitude, numeric_of}
@@ -50,12 +49,8 @@ halves-back (negsuc h) low s l =
     let m : ℕ = 2 ^ 64 - 1 - low in
     rw (less h low l, upper_half h m (other h low l), lower_half h m (other h low l), twice h low l)
 
-pub number_back : (n : NumericValue) (s : ℕ) → n.low < 2 ^ 64 → n.scale ≡ s
-    → (let m = magnitude n.high n.low in numeric_of (is_negative n.high) (halves (m / 2 ^ 64) (m % 2 ^ 64)) s) ≡ n
-number_back n s l e =
-    let m : ℕ = magnitude n.high n.low in
-    let whole : halves (m / 2 ^ 64) (m % 2 ^ 64) ≡ m = omega arith in
-    ap (λ (k : ℕ). numeric_of (is_negative n.high) k s) whole ∙ rw (← e) (halves-back n.high n.low n.scale l)
+pub number_back : (n : NumericValue) (s : ℕ) → n.low < 2 ^ 64 → n.scale ≡ s → numeric_of (is_negative n.high) (magnitude n.high n.low) s ≡ n
+number_back n s l e = rw (← e) (halves-back n.high n.low n.scale l)
 
 -- its upper half is a machine's number if that of the magnitude can be signed
 pub number_fits : (negative : Bool) (m s : ℕ) → m / 2 ^ 64 < 2 ^ 63 → SFits w64 (numeric_of negative m s).high

@@ -9,13 +9,12 @@ use lib.Dec.{eqb}
 use lib.ListN.{length}
 use mir.Syntax.{w32, w64}
 use mir.Val.{to_z}
+use Rattle.std.specs.Prelude.{Option, None, Some}
 use Rattle.laws.specs.Bytes.{from_le}
 use Rattle.text.specs.Rfc3629.{is_text}
 use Rattle.text_limit.specs.Limit.{fits_text}
 use Rattle.temporal.specs.Ranges.{is_date, is_timestamp}
 use Rattle.temporal.specs.Time.{time_of}
-use Rattle.numeric.specs.declared.Decoded.{Decoded}
-use Rattle.numeric.specs.declared.Decoded.TheVariants as Bcd
 use Rattle.numeric.specs.Packed.{decode_bcd}
 use Rattle.datatype.specs.declared.DataType.{DataType}
 use Rattle.datatype.specs.declared.DataType.TheVariants as T
@@ -35,9 +34,9 @@ if_texts : (b t : Bool) (v : DataValue) → is_text_value v ≡ b → Texts b (v
 if_texts b true v e = e
 if_texts b false v e = tt
 
-digits-texts : (s : ℕ) (bs : List ℕ) (d : Decoded) → Texts false (decoded s bs d)
-digits-texts s bs (Bcd.Value negative high low) = refl
-digits-texts s bs Bcd.Broken = if_texts false (eqb (length bs) 17) _ refl
+digits-texts : (s : ℕ) (bs : List ℕ) (d : Option (Bool × ℕ)) → Texts false (decoded s bs d)
+digits-texts s bs (Some r) = refl
+digits-texts s bs None = if_texts false (eqb (length bs) 17) _ refl
 
 time-texts : (t : Option ℤ) → Texts false (timed t)
 time-texts (Some z) = refl

@@ -8,14 +8,13 @@ use lib.Dec.{eqb}
 use lib.ListN.{length}
 use mir.Syntax.{w32, w64}
 use mir.Val.{to_z}
+use Rattle.std.specs.Prelude.{Bool, Option, None, Some}
 use Rattle.laws.specs.Bytes.{from_le}
 use Rattle.laws.proofs.Truths.{by_cond}
 use Rattle.text.specs.Rfc3629.{is_text}
 use Rattle.text_limit.specs.Limit.{fits_text}
 use Rattle.temporal.specs.Ranges.{is_date, is_timestamp}
 use Rattle.temporal.specs.Time.{time_of}
-use Rattle.numeric.specs.declared.Decoded.{Decoded}
-use Rattle.numeric.specs.declared.Decoded.TheVariants as Bcd
 use Rattle.numeric.specs.Packed.{decode_bcd}
 use Rattle.datatype.specs.declared.DataType.{DataType}
 use Rattle.datatype.specs.declared.DataType.TheVariants as T
@@ -31,9 +30,9 @@ OfRange P None = Unit {0}
 
 -- it has none, or the whole of the column's bytes
 module _ (P : TextRange → Type 0) (none : P no_text) where
-  of_number : (s : ℕ) (bs : List ℕ) (d : Decoded) → OfRange P (decoded s bs d)
-  of_number s bs (Bcd.Value negative high low) = none
-  of_number s bs Bcd.Broken = by_cond (OfRange P) (eqb (length bs) 17) (Some (D.Numeric (twos_complement bs))) None (λ e. none) (λ e. tt)
+  of_number : (s : ℕ) (bs : List ℕ) (d : Option (Bool × ℕ)) → OfRange P (decoded s bs d)
+  of_number s bs (Some r) = none
+  of_number s bs None = by_cond (OfRange P) (eqb (length bs) 17) (Some (D.Numeric (twos_complement bs))) None (λ e. none) (λ e. tt)
 
   of_time : (d : Option ℤ) → OfRange P (timed d)
   of_time (Some z) = none

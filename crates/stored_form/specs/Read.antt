@@ -8,9 +8,6 @@ use Rattle.text.specs.Rfc3629.{is_text}
 use Rattle.text_limit.specs.Limit.{fits_text}
 use Rattle.temporal.specs.Ranges.{is_date, is_timestamp}
 use Rattle.temporal.specs.Time.{time_of}
-use Rattle.numeric.specs.declared.Decoded.{Decoded}
-use Rattle.numeric.specs.declared.Decoded.TheVariants as Bcd
-use Rattle.numeric.specs.Decimal.{halves}
 use Rattle.numeric.specs.Packed.{decode_bcd}
 use Rattle.datatype.specs.declared.DataType.{DataType}
 use Rattle.datatype.specs.declared.DataType.TheVariants as T
@@ -30,9 +27,9 @@ abbrev pub twos_complement : List ℕ → NumericValue
 twos_complement bs =
     record { high = to_z w64 (from_le (take 8 (drop 8 bs))); low = from_le (take 8 bs); scale = get_or bs 16 0 }
 
-abbrev pub decoded : ℕ → List ℕ → Decoded → Option DataValue
-decoded s bs (Bcd.Value negative high low) = Some (D.Numeric (numeric_of negative (halves high low) s))
-decoded s bs Bcd.Broken = value_if (eqb (length bs) 17) (D.Numeric (twos_complement bs))
+abbrev pub decoded : ℕ → List ℕ → Option (Bool × ℕ) → Option DataValue
+decoded s bs (Some r) = Some (D.Numeric (numeric_of r.0 r.1 s))
+decoded s bs None = value_if (eqb (length bs) 17) (D.Numeric (twos_complement bs))
 
 abbrev pub timed : Option ℤ → Option DataValue
 timed (Some z) = Some (D.Time z)

@@ -10,7 +10,6 @@ ghost use Rattle.text.specs.Rfc3629.{is_text};
 ghost use Rattle.text_limit.specs.Limit.{fits_text};
 ghost use Rattle.temporal.specs.Ranges.{is_date, is_timestamp};
 ghost use Rattle.temporal.specs.Time.{time_of};
-ghost use Rattle.numeric.specs.Decimal.{halves};
 ghost use Rattle.numeric.specs.Packed.{decode_bcd};
 ghost use Rattle.datatype.specs.Types.{size_of, is_varlen, precision_of};
 ghost use Rattle.value.specs.declared.DataValue.TheVariants.{Bool as BoolValue, Char as CharValue, Varchar as VarcharValue, Date as DateValue, Timestamp as TimestampValue, Numeric as NumericNumber};
@@ -18,44 +17,22 @@ ghost use Rattle.stored_form.specs.Number.{numeric_of};
 ghost use Rattle.stored_form.specs.Read.{value_if, twos_complement, decoded, timed, whole, read_slot};
 
 use datatype::DataType;
-use numeric::Decoded;
 use value::{DataValue, NumericValue, TextRange};
 
-// The number below zero of a magnitude: the complement of one less.
-fn negated(high: u64, low: u64, scale: u8) -> NumericValue
-    requires { high < 2 ^ 63 }
-    ensures { result ≡ numeric_of true (halves high low) scale }
+// The halves of a number, in two's complement.
+fn numeric_from(negative: bool, magnitude: u128, scale: u8) -> NumericValue
+    requires { magnitude < 2 ^ 127 }
+    ensures { result ≡ numeric_of negative magnitude scale }
 {
-    if low == 0 {
-        if high == 0 {
-            return NumericValue {
-                high: 0,
-                low: 0,
-                scale,
-            };
-        }
-        return NumericValue {
-            high: (0xFFFF_FFFF_FFFF_FFFF - (high - 1)).cast_signed(),
-            low: 0,
-            scale,
-        };
-    }
+    let bits = if negative {
+        magnitude.wrapping_neg()
+    } else {
+        magnitude
+    };
+    let upper = (bits / 0x1_0000_0000_0000_0000) as u64;
+    let low = (bits % 0x1_0000_0000_0000_0000) as u64;
     NumericValue {
-        high: (0xFFFF_FFFF_FFFF_FFFF - high).cast_signed(),
-        low: 0xFFFF_FFFF_FFFF_FFFF - (low - 1),
-        scale,
-    }
-}
-
-fn numeric_from(negative: bool, high: u64, low: u64, scale: u8) -> NumericValue
-    requires { high < 2 ^ 63 }
-    ensures { result ≡ numeric_of negative (halves high low) scale }
-{
-    if negative {
-        return negated(high, low, scale);
-    }
-    NumericValue {
-        high: high.cast_signed(),
+        high: upper.cast_signed(),
         low,
         scale,
     }
@@ -80,10 +57,10 @@ fn read_numeric(bytes: &[u8], p: usize, scale: u8) -> Option<DataValue>
     ensures { result ≡ decoded scale bytes.now (decode_bcd p bytes.now) }
 {
     match numeric::decode_numeric_bcd(bytes, p) {
-        Decoded::Value(negative, high, low) => {
-            Some(DataValue::Numeric(numeric_from(negative, high, low, scale)))
+        Some((negative, magnitude)) => {
+            Some(DataValue::Numeric(numeric_from(negative, magnitude, scale)))
         }
-        Decoded::Broken => from_twos_complement(bytes),
+        None => from_twos_complement(bytes),
     }
 }
 

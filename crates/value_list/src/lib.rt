@@ -66,7 +66,8 @@ fn record_size(list: &[u8], at: usize) -> usize
     1 + body
 }
 
-fn numeric_at(list: &[u8], at: usize) -> NumericValue
+// A number: its halves, and its scale.
+pub fn numeric_at(list: &[u8], at: usize) -> NumericValue
     requires { at + 17 ≤ length list.now }
     ensures { result ≡ numeric_at list.now at }
 {

@@ -1,6 +1,6 @@
 -- A value read from a slot stands in its row, as `same_content` requires, and fits a record.
 use Rattle.std.specs.Prelude.{None, Option, Some}
-use Prim.Native.Nat.{ℕ, zero, suc, ◌+◌, ◌/◌, ◌%◌, ◌^◌, ◌≤◌, ◌<◌}
+use Prim.Native.Nat.{ℕ, zero, suc, ◌+◌, ◌/◌, ◌^◌, ◌≤◌, ◌<◌}
 use mathlib.Core.Path.{◌≡◌, refl, subst}
 use mathlib.Core.Bool.{Bool, true, false, cond}
 use mathlib.Core.List.{List}
@@ -14,6 +14,7 @@ use mir.Syntax.{Width, w8, w16, w32, w64}
 use mir.Val.{bits, Fits, SFits, to_z}
 use mir.ValLaws.{to_z-Fits}
 use borrow.Author.Tests.{le-leb, leb-false, eq-eqb, eqb-true, eqb-false}
+use Rattle.std.specs.Prelude.{Option, None, Some}
 use Rattle.laws.specs.Bytes.{from_le}
 use Rattle.laws.proofs.Bytes.{AllBytes, from-part}
 use Rattle.laws.proofs.Truths.{by_cond}
@@ -23,9 +24,6 @@ use Rattle.temporal.specs.Ranges.{is_date, is_timestamp}
 use Rattle.temporal.specs.Time.{mod_z, time_of}
 use Rattle.temporal.proofs.Counts.{count-signed}
 use Rattle.bit_utils.specs.Bits.{bytes_for}
-use Rattle.numeric.specs.declared.Decoded.{Decoded}
-use Rattle.numeric.specs.declared.Decoded.TheVariants as Bcd
-use Rattle.numeric.specs.Decimal.{halves}
 use Rattle.numeric.specs.Packed.{decode_bcd}
 use Rattle.numeric.proofs.Bounds.{by_number}
 use Rattle.datatype.specs.declared.DataType.{DataType}
@@ -53,10 +51,10 @@ module _ (P : DataValue → Type 0) where
   if_holds true v e = e
   if_holds false v e = tt
 
-  numeric_holds : (s : ℕ) (bs : List ℕ) (d : Decoded) → ((m : NumericValue) → P (D.Numeric m))
+  numeric_holds : (s : ℕ) (bs : List ℕ) (d : Option (Bool × ℕ)) → ((m : NumericValue) → P (D.Numeric m))
       → Holds P (decoded s bs d)
-  numeric_holds s bs (Bcd.Value negative high low) e = e (numeric_of negative (halves high low) s)
-  numeric_holds s bs Bcd.Broken e =
+  numeric_holds s bs (Some r) e = e (numeric_of r.0 r.1 s)
+  numeric_holds s bs None e =
       if_holds (eqb (length bs) 17) (D.Numeric (twos_complement bs)) (e (twos_complement bs))
 
   time-holds : (d : Option ℤ) → ((z : ℤ) → P (D.Time z)) → Holds P (timed d)
@@ -176,8 +174,7 @@ module _ (start : ℕ) (bs : List ℕ) (a : AllBytes bs) where
   numeric_sized p s h k =
       by_number (λ d. Holds Sized (decoded s bs d)) p bs h
       (if_holds Sized (eqb (length bs) 17) (D.Numeric (twos_complement bs)) twos_sized)
-      (λ negative x l. let whole : halves (x / 2 ^ 64) (x % 2 ^ 64) ≡ x = omega arith in
-      rw whole (number_sized negative x s l k))
+      (λ negative x l. number_sized negative x s l k)
 
   slot-sized : (t : DataType) → (is_varlen t ≡ false → length bs ≡ size_of t) → start + length bs ≤ 1048576
       → precision_of t ≤ 38 → scale_of t < 256 → Holds Sized (read_slot t start bs)

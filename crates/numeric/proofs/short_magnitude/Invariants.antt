@@ -1,11 +1,5 @@
-use Prim.Native.Nat.{◌-◌}
-use lib.ListN.{take, drop}
-use Rattle.numeric.specs.Packed.{nibbles}
-use Rattle.numeric.proofs.Reading.{Reading}
+use Rattle.numeric.proofs.Reading.{Window}
 use Rattle.numeric.proofs.short_magnitude.Given as goal
 
 abbrev pub invariant-loop-k : goal.invariant-loop-k
-invariant-loop-k l = Reading (take l.p (drop l.front (nibbles l.bytes))) l.n l.k
-
-abbrev pub decreases-loop-k : goal.decreases-loop-k
-decreases-loop-k l = l.p - l.k
+invariant-loop-k l = Window l.bytes l.from l.to l.n l.k
