@@ -13,13 +13,8 @@ fn at_most(found: TextCheck, n: usize) -> TextCheck
     ensures { result ≡ limited n found }
 {
     match found {
-        TextCheck::Invalid => TextCheck::Invalid,
-        TextCheck::Valid(points) => {
-            if points <= n {
-                return TextCheck::Valid(points);
-            }
-            TextCheck::Invalid
-        }
+        TextCheck::Valid(points) if points <= n => TextCheck::Valid(points),
+        _ => TextCheck::Invalid,
     }
 }
 
@@ -27,13 +22,13 @@ fn at_most(found: TextCheck, n: usize) -> TextCheck
 pub fn check_within(s: &[u8], by_points: bool, n: usize) -> TextCheck
     ensures { result ≡ check_within by_points n s.now }
 {
-    if n < s.len() {
-        if by_points {
-            return at_most(text::check(s), n);
-        }
-        return TextCheck::Invalid;
+    if n >= s.len() {
+        text::check(s)
+    } else if by_points {
+        at_most(text::check(s), n)
+    } else {
+        TextCheck::Invalid
     }
-    text::check(s)
 }
 
 // Whether it is a text of at most n code points.
@@ -51,10 +46,8 @@ pub fn is_within(s: &[u8], by_points: bool, n: usize) -> bool
     ensures { result ≡ fits_text by_points n s.now }
 {
     if s.len() <= n {
-        return text::is_valid(s);
+        text::is_valid(s)
+    } else {
+        by_points && points_within(s, n)
     }
-    if by_points {
-        return points_within(s, n);
-    }
-    false
 }
