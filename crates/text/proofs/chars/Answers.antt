@@ -22,6 +22,6 @@ returns-then-not-is_char g c =
 
 pub returns : goal.returns
 returns g c =
-    let y = chunks_of c.requires.inside c.as_chunks.ensures.front in
     let n : c.loop-n.n ≡ length c.as_chunks.result.0.now = omega arith in
+    let y = chunks_of c.requires.inside c.as_chunks.ensures.front in
     run_end _ _ _ (omega arith) c.requires.inside y (rw n at c.loop-n.invariant) refl
