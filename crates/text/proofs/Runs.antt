@@ -102,14 +102,6 @@ module _ {s : List ℕ} {first : ℕ} where
   pub ascii-none : first ≤ length s → Ascii s first first
   ascii-none h = record { from = omega arith; inside = h; each = λ i l m. absurd (omega arith) }
 
-  pub ascii_more : {i : ℕ} → Ascii s first i → is_ascii s i ≡ true → i < length s → Ascii s first (i + 1)
-  ascii_more {i} a e h =
-      record {
-        from = let l = a.from in omega arith;
-        inside = omega arith;
-        each = λ j l m. cases j i (λ n. a.each j l n) (λ n. let o : j ≡ i = omega arith in rw o e);
-      }
-
   -- a run that begins at i or before it
   pub ascii_join : {i from to last : ℕ} → Ascii s first i → Each (is_ascii s) from to → from ≤ i → i ≤ last → last ≤ to
       → last ≤ length s → Ascii s first last
