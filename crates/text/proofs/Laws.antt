@@ -1,10 +1,13 @@
 -- Laws on numbers that may not be there, and on runs of numbers. None of them is about text.
-use Prim.Native.Nat.{ℕ, ◌+◌, ◌≤◌}
+use Prim.Native.Nat.{ℕ, ◌+◌, ◌-◌, ◌<◌, ◌≤◌}
 use mathlib.Core.Path.{◌≡◌, refl, sym, ◌∙◌}
 use mathlib.Core.Bool.{Bool, true, ◌&&◌}
 use mathlib.Core.Logic.{◌↔◌}
 use mathlib.Core.Option.{none, some}
+use mathlib.Core.List.{List}
 use native.Mathlib.Omega.{arith}
+use lib.ListN.{length, get_or, take, drop, length-drop}
+use Rattle.std.proofs.lemmas.List.{length-take-le, get_or-take, get_or-drop}
 use Rattle.laws.proofs.Truths.{and_left, and_right, cases}
 use Rattle.text.specs.InnerEach.{Each}
 
@@ -32,3 +35,18 @@ module _ {p : ℕ → Bool} {first end : ℕ} where
 
   pub each_join : {from to last : ℕ} → Each p first end → Each p from to → from ≤ end → last ≤ to → Each p first last
   each_join f g h k i l m = cases i end (λ n. f i l n) (λ n. g i (omega arith) (omega arith))
+
+-- the n bytes from first on
+module _ (s : List ℕ) (first n : ℕ) (h : first + n ≤ length s) where
+  abbrev pub part : List ℕ
+  part = take (first + n - first) (drop first s)
+
+  pub length-part : length part ≡ n
+  length-part =
+      let l = length-drop first s in
+      length-take-le (first + n - first) (drop first s) (omega arith) ∙ omega arith
+
+  pub part_at : (i : ℕ) → i < length part → get_or part i 0 ≡ get_or s (first + i) 0
+  part_at i k =
+      let l = length-part in
+      get_or-take (first + n - first) (drop first s) i 0 (omega arith) ∙ get_or-drop first s i 0

@@ -5,3 +5,4 @@ pub mod Characters
 pub mod Forms
 pub mod Points
 mod Runs
+mod Chunks

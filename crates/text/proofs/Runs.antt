@@ -1,6 +1,6 @@
 -- Runs of characters of one form, and what they come to.
 use Rattle.std.specs.Prelude.{None, Some}
-use Prim.Native.Nat.{ℕ, zero, suc, ◌+◌, ◌-◌, ◌*◌, ◌/◌, ◌≤◌, ◌<◌}
+use Prim.Native.Nat.{ℕ, zero, suc, ◌+◌, ◌-◌, ◌*◌, ◌≤◌, ◌<◌}
 use mathlib.Core.Path.{◌≡◌, refl, sym, ap, subst, ◌∙◌}
 use mathlib.Core.Bool.{Bool, true, false, false≢true}
 use mathlib.Core.List.{List, [], ◌∷◌}
@@ -42,21 +42,6 @@ module _ (s : List ℕ) where
   pub bytes_1 : (i : ℕ) → i < length s → take 1 (drop i s) ≡ get_or s i 0 ∷ []
   bytes_1 i h = byte 0 i h
 
-  pub bytes_2 : (i : ℕ) → i + 2 ≤ length s → take 2 (drop i s) ≡ get_or s i 0 ∷ get_or s (i + 1) 0 ∷ []
-  bytes_2 i h = byte 1 i (omega arith) ∙ rw (bytes_1 (i + 1) (omega arith))
-
-  pub bytes_3 : (i : ℕ) → i + 3 ≤ length s → take 3 (drop i s) ≡ get_or s i 0 ∷ get_or s (i + 1) 0 ∷ get_or s (i + 2) 0 ∷ []
-  bytes_3 i h =
-      let e : i + 1 + 1 ≡ i + 2 = omega arith in
-      byte 2 i (omega arith) ∙ rw (bytes_2 (i + 1) (omega arith), e)
-
-  pub bytes_4 : (i : ℕ) → i + 4 ≤ length s
-      → take 4 (drop i s) ≡ get_or s i 0 ∷ get_or s (i + 1) 0 ∷ get_or s (i + 2) 0 ∷ get_or s (i + 3) 0 ∷ []
-  bytes_4 i h =
-      let e : i + 1 + 1 ≡ i + 2 = omega arith in
-      let f : i + 1 + 2 ≡ i + 3 = omega arith in
-      byte 3 i (omega arith) ∙ rw (bytes_3 (i + 1) (omega arith), e, f)
-
   -- where too few bytes are left
   short : (k i : ℕ) → length s < i + k → i ≤ length s → is_one (utf8 k) (take k (drop i s)) ≡ false
   short k i h g =
@@ -96,7 +81,7 @@ module _ {k : ℕ} {s : List ℕ} {first : ℕ} where
         says = sym (plus-zero (code_points (drop first s)));
       }
 
-  more : {i : ℕ} → Going k s first i → is_one (utf8 k) (take k (drop i s)) ≡ true → i + k ≤ length s
+  pub more : {i : ℕ} → Going k s first i → is_one (utf8 k) (take k (drop i s)) ≡ true → i + k ≤ length s
       → Going k s first (i + k)
   more {i} g e h =
       let r = g.count in
@@ -107,14 +92,6 @@ module _ {k : ℕ} {s : List ℕ} {first : ℕ} where
         says = g.says ∙ ap (plus r) (one_more s k i e) ∙ plus-plus r 1 (code_points (drop (i + k) s));
       }
 
-  -- t tests the bytes at i, which are c
-  module _ {i : ℕ} {c : List ℕ} {t : Bool} (g : Going k s first i) (e : take k (drop i s) ≡ c) (f : t ≡ is_one (utf8 k) c) where
-    pub run_more : t ≡ true → i + k ≤ length s → Going k s first (i + k)
-    run_more q = more g (rw e (sym f ∙ q))
-
-    pub run-over : t ≡ false → Run k s first i
-    run-over q = record { going = g; over = rw e (sym f ∙ q) }
-
   -- too few bytes are left
   pub run_short : {i : ℕ} → Going k s first i → length s < i + k → Run k s first i
   run_short {i} g h = record { going = g; over = short s k i h g.inside }
@@ -124,14 +101,6 @@ module _ {k : ℕ} {s : List ℕ} {first : ℕ} where
 module _ {s : List ℕ} {first : ℕ} where
   pub ascii-none : first ≤ length s → Ascii s first first
   ascii-none h = record { from = omega arith; inside = h; each = λ i l m. absurd (omega arith) }
-
-  pub ascii_more : {i : ℕ} → Ascii s first i → is_ascii s i ≡ true → i < length s → Ascii s first (i + 1)
-  ascii_more {i} a e h =
-      record {
-        from = let l = a.from in omega arith;
-        inside = omega arith;
-        each = λ j l m. cases j i (λ n. a.each j l n) (λ n. let o : j ≡ i = omega arith in rw o e);
-      }
 
   -- a run that begins at i or before it
   pub ascii_join : {i from to last : ℕ} → Ascii s first i → Each (is_ascii s) from to → from ≤ i → i ≤ last → last ≤ to
@@ -223,62 +192,55 @@ module _ {s : List ℕ} where
       sym (ap check_of q)
 
   -- a turn of the check: the forms in their order, each up to where it is over
-  module _ {i n one two : ℕ} (g : Reached s i n) (r1 : Run 1 s i one) (r2 : Run 2 s one two) where
-    pub two_reached : Reached s two (n + (one - i + (two - one) / 2))
+  module _ {i n one : ℕ} (twos : ℕ) (g : Reached s i n) (r1 : Run 1 s i one) (r2 : Run 2 s one (one + 2 * twos)) where
+    pub two_reached : Reached s (one + 2 * twos) (n + (one - i + twos))
     two_reached =
         let p = r1.going.place in
         let q = r2.going.place in
-        let e : n + (one - i) + (two - one) / 2 ≡ n + (one - i + (two - one) / 2) = omega arith in
+        let e : n + (one - i) + twos ≡ n + (one - i + twos) = omega arith in
         let k = reached_run 1 (one - i) g r1 (omega arith) (omega arith) in
-        rw e at (reached_run 2 ((two - one) / 2) k r2 (omega arith) (omega arith))
+        rw e at (reached_run 2 twos k r2 (omega arith) (omega arith))
 
-    two_past : i ≤ two
-    two_past = let p = r1.going.place in let q = r2.going.place in omega arith
+    two_past : i ≤ one + 2 * twos
+    two_past = let p = r1.going.place in omega arith
 
-    pub two_less : (two ≡ i → ⊥) → length s - two < length s - i
+    pub two_less : (one + 2 * twos ≡ i → ⊥) → length s - (one + 2 * twos) < length s - i
     two_less e = let p = two_past in let q = r2.going.inside in omega arith
 
     -- the forms at i, where they are over there
-    over_1 : two ≡ i → is_one utf8_1 (take 1 (drop i s)) ≡ false
+    over_1 : one + 2 * twos ≡ i → is_one utf8_1 (take 1 (drop i s)) ≡ false
     over_1 e =
         let p = r1.going.place in
-        let q = r2.going.place in
         let f : one ≡ i = omega arith in
         rw f at r1.over
 
-    over_2 : two ≡ i → is_one utf8_2 (take 2 (drop i s)) ≡ false
+    over_2 : one + 2 * twos ≡ i → is_one utf8_2 (take 2 (drop i s)) ≡ false
     over_2 e = rw e at r2.over
 
-    pub stuck_low : leb 0xE0 (get_or s two 0) ≡ false → two ≡ i → i < length s → None ≡ check_of (code_points s)
+    pub stuck_low : leb 0xE0 (get_or s (one + 2 * twos) 0) ≡ false → one + 2 * twos ≡ i → i < length s
+        → None ≡ check_of (code_points s)
     stuck_low l e h =
-        let m : get_or s i 0 < 0xE0 = rw e at (leb-false 0xE0 (get_or s two 0) l) in
+        let m : get_or s i 0 < 0xE0 = rw e at (leb-false 0xE0 (get_or s (one + 2 * twos) 0) l) in
         invalid g h (over_1 e) (over_2 e) (low s utf8_3 0xE0 2 i refl refl m) (low s utf8_4 0xE0 3 i refl refl m)
 
-    module _ {three four : ℕ} (r3 : Run 3 s two three) (r4 : Run 4 s three four) where
-      pub four_reached : Reached s four (n + (one - i + (two - one) / 2) + ((three - two) / 3 + (four - three) / 4))
+    module _ (threes fours : ℕ) (r3 : Run 3 s (one + 2 * twos) (one + 2 * twos + 3 * threes))
+        (r4 : Run 4 s (one + 2 * twos + 3 * threes) (one + 2 * twos + 3 * threes + 4 * fours)) where
+      pub four_reached : Reached s (one + 2 * twos + 3 * threes + 4 * fours) (n + (one - i + twos) + (threes + fours))
       four_reached =
-          let m = n + (one - i + (two - one) / 2) in
+          let m = n + (one - i + twos) in
           let p = r3.going.place in
           let q = r4.going.place in
-          let e : m + (three - two) / 3 + (four - three) / 4 ≡ m + ((three - two) / 3 + (four - three) / 4) =
-          omega arith in
-          let k = reached_run 3 ((three - two) / 3) two_reached r3 (omega arith) (omega arith) in
-          rw e at (reached_run 4 ((four - three) / 4) k r4 (omega arith) (omega arith))
+          let e : m + threes + fours ≡ m + (threes + fours) = omega arith in
+          let k = reached_run 3 threes two_reached r3 (omega arith) (omega arith) in
+          rw e at (reached_run 4 fours k r4 (omega arith) (omega arith))
 
-      pub four_less : (four ≡ i → ⊥) → length s - four < length s - i
-      four_less e =
-          let p = two_past in
-          let q = r3.going.place in
-          let t = r4.going.place in
-          let u = r4.going.inside in
-          omega arith
+      pub four_less : (one + 2 * twos + 3 * threes + 4 * fours ≡ i → ⊥)
+          → length s - (one + 2 * twos + 3 * threes + 4 * fours) < length s - i
+      four_less e = let p = two_past in let u = r4.going.inside in omega arith
 
-      pub stuck : four ≡ i → i < length s → None ≡ check_of (code_points s)
+      pub stuck : one + 2 * twos + 3 * threes + 4 * fours ≡ i → i < length s → None ≡ check_of (code_points s)
       stuck e h =
-          let p = r1.going.place in
-          let q = r2.going.place in
-          let t = r3.going.place in
-          let u = r4.going.place in
-          let f : two ≡ i = omega arith in
-          let three-over : three ≡ i = omega arith in
+          let p = two_past in
+          let f : one + 2 * twos ≡ i = omega arith in
+          let three-over : one + 2 * twos + 3 * threes ≡ i = omega arith in
           invalid g h (over_1 f) (over_2 f) (rw three-over at r3.over) (rw e at r4.over)

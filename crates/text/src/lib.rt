@@ -1,13 +1,13 @@
 // Whether bytes are UTF-8 text, as RFC 3629 defines it, and of how many code points.
 //
 // The check goes through the forms of a character in the order of the RFC's grammar, UTF8-1 to UTF8-4, takes as many
-// characters of each as stand there, and begins anew. utf8_1 to utf8_4 are the lines of the grammar, past_ones to
-// past_fours take the characters. What is done for many bytes at once is all of UTF8-1, which is ASCII.
+// characters of each as stand there, and begins anew. utf8_1 to utf8_4 are the lines of the grammar, past_ones and
+// chars take the characters. What is done for many bytes at once is all of UTF8-1, which is ASCII.
 #![tactic(auto)]
 
-ghost use Rattle.std.specs.Prelude.{◌≡◌, true, [], ◌∷◌, ◌↔◌, ◌+◌, ◌<◌, ◌≤◌, leb, length, get_or};
+ghost use Rattle.std.specs.Prelude.{◌≡◌, true, [], ◌∷◌, ◌↔◌, ◌+◌, ◌*◌, ◌<◌, ◌≤◌, leb, length, get_or};
 ghost use Rattle.text.specs.Rfc3629.{◌to◌, within, utf8_tail, utf8_1, utf8_2, utf8_3, utf8_4, code_points, is_text};
-ghost use Rattle.text.specs.Characters.{is_of, is_one};
+ghost use Rattle.text.specs.Characters.{is_one, utf8};
 ghost use Rattle.text.specs.Check.{check_of, points};
 ghost use Rattle.text.specs.InnerEach.{Each};
 ghost use Rattle.text.specs.InnerRuns.{is_ascii, Ascii, AsciiUpTo, Run};
@@ -17,10 +17,7 @@ ghost use Rattle.text.specs.InnerTails.{tails_of};
 pub fn is_valid(s: &[u8]) -> bool
     ensures { result ≡ is_text s.now }
 {
-    match check(s) {
-        Some(_) => true,
-        None => false,
-    }
+    check(s).is_some()
 }
 
 // Whether the bytes are valid text, and of how many code points. A text of ASCII alone is told first.
@@ -43,15 +40,19 @@ fn check_from(s: &[u8], first: usize) -> Option<usize>
 {
     let mut i = first;
     let mut count = first;
+    // Stays: a turn goes on by what it took, which no range or iterator knows.
     while i < s.len() {
         let one = past_ones(s, i);
-        let two = past_twos(s, one);
+        let twos = chars::<2>(s, one);
+        let two = one + 2 * twos;
         let mut end = two;
-        count += (one - i) + (two - one) / 2;
+        count += (one - i) + twos;
         if is_high(s, two) {
-            let three = past_threes(s, two);
-            end = past_fours(s, three);
-            count += (three - two) / 3 + (end - three) / 4;
+            let threes = chars::<3>(s, two);
+            let three = two + 3 * threes;
+            let fours = chars::<4>(s, three);
+            end = three + 4 * fours;
+            count += threes + fours;
         }
         if end == i {
             return None;
@@ -61,77 +62,77 @@ fn check_from(s: &[u8], first: usize) -> Option<usize>
     Some(count)
 }
 
+// Whether the bytes are one character, of the form that has as many.
+fn is_char(c: &[u8]) -> bool
+    ensures { result ≡ is_one (utf8 (length c.now)) c.now }
+{
+    match *c {
+        [a] => utf8_1(a),
+        [a, b] => utf8_2(a, b),
+        [a, b, c] => utf8_3(a, b, c),
+        [a, b, c, d] => utf8_4(a, b, c, d),
+        _ => false,
+    }
+}
+
 // UTF8-1 = %x00-7F
 fn utf8_1(a: u8) -> bool
     ensures { result ≡ is_one utf8_1 (a ∷ []) }
 {
-    within(0x00, 0x7F, a)
+    a.is_ascii()
 }
 
 // UTF8-2 = %xC2-DF UTF8-tail
 fn utf8_2(a: u8, b: u8) -> bool
     ensures { result ≡ is_one utf8_2 (a ∷ b ∷ []) }
 {
-    within(0xC2, 0xDF, a) && is_tail(b)
+    matches!((a, b), (0xC2..=0xDF, 0x80..=0xBF))
 }
 
 // UTF8-3 = %xE0 %xA0-BF UTF8-tail / %xE1-EC 2( UTF8-tail ) /
 //          %xED %x80-9F UTF8-tail / %xEE-EF 2( UTF8-tail )
-// The first byte tells the alternative.
+// Stays: as patterns of a match, 0xE0 and 0xED are asked before the ranges, which takes 10 to 18 percent longer.
 fn utf8_3(a: u8, b: u8, c: u8) -> bool
     ensures { result ≡ is_one utf8_3 (a ∷ b ∷ c ∷ []) }
 {
     if within(0xE0, 0xE0, a) {
-        return within(0xA0, 0xBF, b) && is_tail(c);
+        within(0xA0, 0xBF, b) && is_tail(c)
+    } else if within(0xE1, 0xEC, a) {
+        is_tail(b) && is_tail(c)
+    } else if within(0xED, 0xED, a) {
+        within(0x80, 0x9F, b) && is_tail(c)
+    } else {
+        within(0xEE, 0xEF, a) && is_tail(b) && is_tail(c)
     }
-    if within(0xE1, 0xEC, a) {
-        return are_tails(b, c);
-    }
-    if within(0xED, 0xED, a) {
-        return within(0x80, 0x9F, b) && is_tail(c);
-    }
-    if within(0xEE, 0xEF, a) {
-        return are_tails(b, c);
-    }
-    false
 }
 
 // UTF8-4 = %xF0 %x90-BF 2( UTF8-tail ) / %xF1-F3 3( UTF8-tail ) /
 //          %xF4 %x80-8F 2( UTF8-tail )
+// Stays: as patterns of a match, 0xF4 is asked before 0xF0, which takes up to 30 percent longer.
 fn utf8_4(a: u8, b: u8, c: u8, d: u8) -> bool
     ensures { result ≡ is_one utf8_4 (a ∷ b ∷ c ∷ d ∷ []) }
 {
     if within(0xF0, 0xF0, a) {
-        return within(0x90, 0xBF, b) && are_tails(c, d);
+        within(0x90, 0xBF, b) && is_tail(c) && is_tail(d)
+    } else if within(0xF1, 0xF3, a) {
+        is_tail(b) && is_tail(c) && is_tail(d)
+    } else {
+        within(0xF4, 0xF4, a) && within(0x80, 0x8F, b) && is_tail(c) && is_tail(d)
     }
-    if within(0xF1, 0xF3, a) {
-        return is_tail(b) && are_tails(c, d);
-    }
-    if within(0xF4, 0xF4, a) {
-        return within(0x80, 0x8F, b) && are_tails(c, d);
-    }
-    false
-}
-
-// 2( UTF8-tail )
-fn are_tails(a: u8, b: u8) -> bool
-    ensures { result ≡ is_of (utf8_tail ∷ utf8_tail ∷ []) (a ∷ b ∷ []) }
-{
-    is_tail(a) && is_tail(b)
 }
 
 // UTF8-tail = %x80-BF
 fn is_tail(b: u8) -> bool
     ensures { result ≡ within utf8_tail b }
 {
-    within(0x80, 0xBF, b)
+    matches!(b, 0x80..=0xBF)
 }
 
 // %xLO-HI: whether b is a byte from lo to hi.
 fn within(lo: u8, hi: u8, b: u8) -> bool
     ensures { result ≡ within (lo to hi) b }
 {
-    (lo <= b) & (b <= hi)
+    (lo..=hi).contains(&b)
 }
 
 // The end of the characters UTF8-1 that stand from first on. Most runs are short, so the first 8 bytes are asked one by
@@ -152,49 +153,19 @@ fn past_ones(s: &[u8], first: usize) -> usize
     ascii_bytes(s, far, n)
 }
 
-// The end of the characters UTF8-2 that stand from first on.
-fn past_twos(s: &[u8], first: usize) -> usize
-    requires { first ≤ length s.now }
-    ensures { Run 2 s.now first result }
+// How many characters UTF8-N stand from first on.
+fn chars<const N: usize>(s: &[u8], first: usize) -> usize
+    requires inside { first ≤ length s.now }
+    requires form { (0 < N) × (N ≤ 4) }
+    ensures { Run N s.now first (first + N * result) }
 {
-    let mut i = first;
-    while 2 <= s.len() - i {
-        if !utf8_2(s[i], s[i + 1]) {
-            return i;
+    let (chunks, _) = s[first..].as_chunks::<N>();
+    for (n, c) in chunks.iter().enumerate() {
+        if !is_char(c) {
+            return n;
         }
-        i += 2;
     }
-    i
-}
-
-// The end of the characters UTF8-3 that stand from first on.
-fn past_threes(s: &[u8], first: usize) -> usize
-    requires { first ≤ length s.now }
-    ensures { Run 3 s.now first result }
-{
-    let mut i = first;
-    while 3 <= s.len() - i {
-        if !utf8_3(s[i], s[i + 1], s[i + 2]) {
-            return i;
-        }
-        i += 3;
-    }
-    i
-}
-
-// The end of the characters UTF8-4 that stand from first on.
-fn past_fours(s: &[u8], first: usize) -> usize
-    requires { first ≤ length s.now }
-    ensures { Run 4 s.now first result }
-{
-    let mut i = first;
-    while 4 <= s.len() - i {
-        if !utf8_4(s[i], s[i + 1], s[i + 2], s[i + 3]) {
-            return i;
-        }
-        i += 4;
-    }
-    i
+    chunks.len()
 }
 
 // Whether there is a byte at i that is 0xE0 or above, as those are that UTF8-3 and UTF8-4 begin with. Most are not, and
@@ -202,10 +173,7 @@ fn past_fours(s: &[u8], first: usize) -> usize
 fn is_high(s: &[u8], i: usize) -> bool
     ensures { result ≡ leb 0xE0 (get_or s.now i 0) }
 {
-    if i < s.len() {
-        return 0xE0 <= s[i];
-    }
-    false
+    i < s.len() && 0xE0 <= s[i]
 }
 
 // A number of first bytes that are ASCII: all of them in a text of ASCII alone that has 4 bytes or more. A text that
@@ -214,22 +182,17 @@ fn ascii_lead(s: &[u8]) -> usize
     ensures { Ascii s.now 0 result }
 {
     let n = s.len();
-    if n < 4 {
-        return 0;
+    if n < 4 || !utf8_1(s[0]) {
+        0
+    } else if n < 8 {
+        block_lead(s, 4)
+    } else if n < 16 {
+        block_lead(s, 8)
+    } else if n < 128 {
+        block_lead(s, 16)
+    } else {
+        block_lead(s, 128)
     }
-    if !utf8_1(s[0]) {
-        return 0;
-    }
-    if n < 8 {
-        return block_lead(s, 4);
-    }
-    if n < 16 {
-        return block_lead(s, 8);
-    }
-    if n < 128 {
-        return block_lead(s, 16);
-    }
-    block_lead(s, 128)
 }
 
 // The same, by blocks of m. The last block ends where the text does, and may overlap the one before it.
@@ -239,12 +202,11 @@ fn block_lead(s: &[u8], m: usize) -> usize
 {
     let n = s.len();
     let i = ascii_blocks(s, 0, m);
-    if n - i <= m {
-        if ascii(s, n - m, m) {
-            return n;
-        }
+    if n - i <= m && ascii(s, n - m, m) {
+        n
+    } else {
+        i
     }
-    i
 }
 
 // The end of the blocks of m bytes that are ASCII, from first on, where more than m bytes are left.
@@ -254,6 +216,7 @@ fn ascii_blocks(s: &[u8], first: usize, m: usize) -> usize
 {
     let n = s.len();
     let mut i = first;
+    // Stays: chunks_exact gives the last block too, and a for over it loses the place where it stops.
     while m < n - i {
         if !ascii(s, i, m) {
             return i;
@@ -269,10 +232,8 @@ fn ascii(s: &[u8], first: usize, n: usize) -> bool
     ensures { (result ≡ true) ↔ Each (is_ascii s.now) first (first + n) }
 {
     let mut ok = true;
-    let mut k = 0;
-    while k < n {
-        ok = ok & utf8_1(s[first + k]);
-        k += 1;
+    for b in &s[first..first + n] {
+        ok &= utf8_1(*b);
     }
     ok
 }
@@ -282,14 +243,12 @@ fn ascii_bytes(s: &[u8], first: usize, end: usize) -> usize
     requires { (first ≤ end) × (end ≤ length s.now) }
     ensures { AsciiUpTo s.now first end result }
 {
-    let mut i = first;
-    while i < end {
+    for i in first..end {
         if !utf8_1(s[i]) {
             return i;
         }
-        i += 1;
     }
-    i
+    end
 }
 
 // The number of code points of a text: as many as bytes that are no tails. A text of fewer than 8 bytes has a loop of
@@ -304,6 +263,7 @@ pub fn count_points(s: &[u8]) -> usize
     }
     let mut i = 0;
     let mut count = 0;
+    // Stays: as_chunks divides by 112 to find the rest, which takes 10 to 30 percent longer for 8 to 100 bytes.
     while 112 <= n - i {
         count += tails(s, i, 112);
         i += 112;
@@ -317,10 +277,8 @@ fn tails(s: &[u8], first: usize, n: usize) -> usize
     ensures { result ≡ tails_of s.now first n }
 {
     let mut count = 0u8;
-    let mut k = 0;
-    while k < n {
-        count += is_tail(s[first + k]) as u8;
-        k += 1;
+    for b in &s[first..first + n] {
+        count += is_tail(*b) as u8;
     }
     count as usize
 }

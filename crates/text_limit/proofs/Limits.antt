@@ -1,7 +1,7 @@
 -- What fits: by the bytes where they are at most n, else by the code points.
 use Rattle.std.specs.Prelude.{None, Option, Some}
 use Prim.Native.Nat.{ℕ, ◌≤◌, ◌<◌}
-use mathlib.Core.Path.{◌≡◌, refl, ap, ◌∙◌}
+use mathlib.Core.Path.{◌≡◌, refl}
 use mathlib.Core.Bool.{Bool, true, false, cond}
 use mathlib.Core.List.{List}
 use native.Mathlib.Omega.{arith}
@@ -13,7 +13,7 @@ use Rattle.text.specs.Rfc3629.{code_points, is_text}
 use Rattle.text.specs.Check.{check_of, points}
 use Rattle.text.proofs.Points.{valid_check, invalid_check, points-some, points-le}
 use Rattle.text_limit.specs.Limit.{size_by, fits_text}
-use Rattle.text_limit.specs.InnerCheck.{check_within, limited}
+use Rattle.text_limit.specs.InnerCheck.{check_within}
 
 -- no text has more code points than bytes
 pub size-le : (p : Bool) (x : List ℕ) → is_text x ≡ true → size_by p x ≤ length x
@@ -52,15 +52,8 @@ by_text false k c f g = g refl
 pub checked : (x : List ℕ) → check_of (code_points x) ≡ cond (is_text x) (Some (points x)) None
 checked x = by_text (is_text x) (points x) (check_of (code_points x)) (valid_check x) (invalid_check x)
 
-limit : (t : Bool) (k n : ℕ) → limited n (cond t (Some k) None) ≡ cond (cond t (leb k n) false) (Some k) None
-limit true k n = refl
-limit false k n = refl
-
 pub few-checked : (p : Bool) (n : ℕ) (x : List ℕ) → length x ≤ n → check_of (code_points x) ≡ check_within p n x
 few-checked p n x h = rw (few_bytes p n x h) (checked x)
-
-pub points-checked : (n : ℕ) (x : List ℕ) → limited n (check_of (code_points x)) ≡ check_within true n x
-points-checked n x = ap (limited n) (checked x) ∙ limit (is_text x) (points x) n
 
 -- what it says of a test
 pub told_false : (t : Bool) (k : ℕ) → cond t (Some k) None ≡ None → false ≡ t

@@ -1,4 +1,4 @@
-use Prim.Native.Nat.{◌≤◌, ◌-◌, ◌+◌}
+use Prim.Native.Nat.{◌+◌}
 use mathlib.Core.Bool.{true}
 use mathlib.Core.Logic.{◌↔◌}
 use mathlib.Core.Path.{◌≡◌}
@@ -6,8 +6,5 @@ use Rattle.text.specs.InnerEach.{Each}
 use Rattle.text.specs.InnerRuns.{is_ascii}
 use Rattle.text.proofs.ascii.Given as goal
 
-abbrev pub invariant-loop-k : goal.invariant-loop-k
-invariant-loop-k l = (l.k ≤ l.n) × ((l.ok ≡ true) ↔ Each (is_ascii l.s) l.first (l.first + l.k))
-
-abbrev pub decreases-loop-k : goal.decreases-loop-k
-decreases-loop-k l = l.n - l.k
+abbrev pub invariant-loop-b : goal.invariant-loop-b
+invariant-loop-b l = (l.ok ≡ true) ↔ Each (is_ascii l.s) l.first (l.first + l.b-index)
