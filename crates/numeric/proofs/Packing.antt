@@ -28,9 +28,6 @@ pub length_encode : (p : ℕ) (negative : Bool) (x : ℕ) → length (encode_bcd
 unfolding encode_bcd
 length_encode p negative x = rw (length_pairs, length-append, length-append, length_digits, length-replicate) (omega arith)
 
-pub length_thirty_nine : (x : ℕ) → length (pairs (digits 39 x)) ≡ 20
-length_thirty_nine x = length_pairs (digits 39 x) ∙ rw length_digits
-
 pub length-hundreds : (n x : ℕ) → length (hundreds n x) ≡ n
 unfolding hundreds
 length-hundreds zero x = refl
@@ -170,9 +167,6 @@ module _ {all s : List ℕ} {i n : ℕ} (f : Filling all s i n) where
             ∙ sets_then s 0 m (hundreds m (n / 100 ^ k)) (hundreds k n) l refl (rw zero-add)
             ∙ ap (sets s 0) (sym (hundreds-split m k n)) ∙ ap (λ (j : ℕ). sets s 0 (hundreds j n)) e ∙ f.stored;
       }
-
-  pub fill_length : length s ≡ length all
-  fill_length = sym (length-sets s 0 (hundreds i n)) ∙ ap length f.stored
 
   -- no digit is left, or no place
   pub fill_end : n ≡ 0 → s ≡ all
