@@ -15,7 +15,7 @@ fn bytes_at<const N: usize>(s: &[u8], at: usize) -> [u8; N]
     *s[at..at + N].as_array().unwrap()
 }
 
-// A function for each type, to read and to write: a trait would need six impls, each with the lines that stand here.
+// Stays (to write_i64): a trait for these twelve would need six impls, each with the lines that stand here.
 pub fn read_u16(s: &[u8], at: usize) -> u16
     requires { at + 2 ≤ length s.now }
     ensures { result ≡ from_le (take 2 (drop at s.now)) }
@@ -108,7 +108,7 @@ pub fn copy(s: &mut [u8], at: usize, src: &[u8])
     s[at..at + src.len()].copy_from_slice(src);
 }
 
-// A loop: std's `fill` stores the last byte by itself (tried: half as slow again on a few bytes).
+// Stays: std's `fill` stores the last byte by itself, and takes half as long again for a few bytes.
 pub fn fill(s: &mut [u8], at: usize, n: usize, b: u8)
     requires { at + n ≤ length s.old }
     ensures { s.new ≡ sets s.old at (replicate n b) }
@@ -126,7 +126,7 @@ pub fn move_within(s: &mut [u8], from: usize, to: usize, n: usize)
     s.copy_within(from..from + n, to);
 }
 
-// `==`, with a contract in the word that the clauses of rows cite.
+// Stays: `==` with a contract in the word that the clauses of rows cite.
 pub fn same_bytes(a: &[u8], b: &[u8]) -> bool
     ensures { result ≡ same_bytes a.now b.now }
 {

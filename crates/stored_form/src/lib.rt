@@ -1,12 +1,3 @@
-// value.rs, the stored forms of values: what a slot's bytes read as. The rest of this crate are definitions and their
-// laws.
+// value.rs, the stored forms of values: what a slot's bytes read as, as definitions in specs/ and their laws in proofs/.
+// There is no code here.
 #![tactic(auto)]
-
-use value::DataValue;
-
-#[derive(Clone, Copy)]
-pub enum Option<DataValue> {
-    Value(DataValue),
-    // The bytes are no value of the type.
-    NoValue,
-}
