@@ -77,6 +77,7 @@ fn arrange_rows(list: &[u8], order: &mut [u16]) -> error::Result<(usize, usize)>
     let mut at = 0;
     let mut k = 0;
     let mut size = 0;
+    // Stays: a row's length tells where the next one starts.
     while at < list.len() {
         let n = add_row(list, at, order, k)?;
         at = row_list::row_end(list, at);
