@@ -1,7 +1,8 @@
 -- A Timestamp's microseconds counted from the year 1, and read from the 8 bytes of its stored form.
-use Rattle.std.specs.Prelude.{None, Some}
+use Rattle.std.specs.Prelude.{Option, None, Some}
+use Rattle.std.specs.Option.{SomeIff}
 use Prim.Native.Nat.{ℕ, suc, ◌+◌, ◌-◌, ◌^◌, ◌≤◌, ◌<◌}
-use mathlib.Core.Path.{◌≡◌, refl, sym, ap}
+use mathlib.Core.Path.{◌≡◌, refl, sym, ap, ◌∙◌}
 use mathlib.Core.Bool.{Bool, true, false, cond, false≢true}
 use native.Mathlib.Omega.{arith}
 use lib.Dec.{ltb}
@@ -63,7 +64,7 @@ high s h = rw (le-ltb s (2 ^ 63) h)
 pub after_1970 : (s : ℕ) → s ≤ 253402300799999999 → Some (s + 62135596800000000) ≡ moment_of (to_z w64 s)
 after_1970 s h = rw (to_z_pos w64 s (omega arith), le-leb s 253402300799999999 h)
 
-pub out_of_range : (s : ℕ) → 253402300799999999 < s → s < 18384608476909551616 → (t : Bool) → ltb s (2 ^ 63) ≡ t → None ≡ moment_of (to_z w64 s)
+out_of_range : (s : ℕ) → 253402300799999999 < s → s < 18384608476909551616 → (t : Bool) → ltb s (2 ^ 63) ≡ t → None ≡ moment_of (to_z w64 s)
 out_of_range s h l true e =
     rw (to_z_pos w64 s (ltb-true s (2 ^ 63) e), lt-leb s 253402300799999999 h)
 out_of_range s h l false e =
@@ -71,8 +72,13 @@ out_of_range s h l false e =
     let b : 62135596799999999 < 2 ^ 64 - suc s = omega arith in
     rw (high s k, lt-ltb 62135596799999999 (2 ^ 64 - suc s) b)
 
-pub before_1970 : (s : ℕ) → 18384608476909551616 ≤ s → s < 2 ^ 64 → Some (s - 18384608476909551616) ≡ moment_of (to_z w64 s)
+before_1970 : (s : ℕ) → 18384608476909551616 ≤ s → s < 2 ^ 64 → Some (s - 18384608476909551616) ≡ moment_of (to_z w64 s)
 before_1970 s h l =
     let k : 2 ^ 63 ≤ s = omega arith in
     let b : 2 ^ 64 - suc s ≤ 62135596799999999 = omega arith in
     rw (high s k, le-ltb 62135596799999999 (2 ^ 64 - suc s) b) (ap Some (omega arith))
+
+-- as `checked_sub` answers
+pub later_or_none : (s : ℕ) (r : Option ℕ) → 253402300799999999 < s → s < 2 ^ 64 → SomeIff r (18384608476909551616 ≤ s) (s - 18384608476909551616) → r ≡ moment_of (to_z w64 s)
+later_or_none s None h l n = out_of_range s h (omega (arith, n)) _ refl
+later_or_none s (Some m) h l (n, e) = ap Some e ∙ before_1970 s n l

@@ -15,12 +15,10 @@ pub fn moment_of(stored: u64) -> Option<u64>
     ensures { result ≡ moment_of (to_z w64 stored) }
 {
     if stored <= 253_402_300_799_999_999 {
-        return Some(stored + 62_135_596_800_000_000);
+        Some(stored + 62_135_596_800_000_000)
+    } else {
+        stored.checked_sub(18_384_608_476_909_551_616)
     }
-    if stored < 18_384_608_476_909_551_616 {
-        return None;
-    }
-    Some(stored - 18_384_608_476_909_551_616)
 }
 
 // In days; the last of four centuries is a day longer than the others.
@@ -29,43 +27,28 @@ const FOUR_CENTURIES: u32 = 146_097;
 // So is the last of four years, but for those that end a century.
 const FOUR_YEARS: u32 = 1461;
 
-// A year, and a day from 0 counted from its first of March: so a leap day is the last.
-#[derive(Clone, Copy)]
-struct YearDay {
-    year: u32,
-    day: u32,
-}
-
-// 0001-01-01 is 306 days after a first of March. Days are counted fourfold, so that each quotient is exact.
-fn year_day(days: u32) -> YearDay
+// A year, and a day from 0 counted from its first of March: so a leap day is the last. 0001-01-01 is 306 days after a
+// first of March. Days are counted fourfold, so that each quotient is exact.
+fn year_day(days: u32) -> (u32, u32)
     requires { days < 3652059 }
-    ensures { FromMarch days result.year result.day }
+    ensures { FromMarch days result.0 result.1 }
 {
     let quarters = (days + 306) * 4 + 3;
     let rest = quarters % FOUR_CENTURIES / 4 * 4 + 3;
-    YearDay {
-        year: quarters / FOUR_CENTURIES * 100 + rest / FOUR_YEARS,
-        day: rest % FOUR_YEARS / 4,
-    }
+    (
+        quarters / FOUR_CENTURIES * 100 + rest / FOUR_YEARS,
+        rest % FOUR_YEARS / 4,
+    )
 }
 
-// A month, January being 13, and a day of it from 0.
-#[derive(Clone, Copy)]
-struct MonthDay {
-    month: u32,
-    day: u32,
-}
-
-// From March on the months are so even that one product has the month in its high half, and the day in its low half.
-fn month_day(day: u32) -> MonthDay
+// A month, January being 13, and a day of it from 0. From March on the months are so even that one product has the
+// month in its high half, and the day in its low half.
+fn month_day(day: u32) -> (u32, u32)
     requires { day < 366 }
-    ensures { (result.month, result.day) ≡ month_from march_days 3 day }
+    ensures { result ≡ month_from march_days 3 day }
 {
     let n = day * 2141 + 197_913;
-    MonthDay {
-        month: n / 65536,
-        day: n % 65536 / 2141,
-    }
+    (n / 65536, n % 65536 / 2141)
 }
 
 // A year, a month of it and a day of that, each from 1.
@@ -81,19 +64,20 @@ fn date_of(days: u32) -> Date
     requires { days < 3652059 }
     ensures { result ≡ date_of days }
 {
-    let y = year_day(days);
-    let m = month_day(y.day);
-    if y.day < 306 {
-        return Date {
-            year: y.year,
-            month: m.month,
-            day: m.day + 1,
-        };
-    }
-    Date {
-        year: y.year + 1,
-        month: m.month - 12,
-        day: m.day + 1,
+    let (year, march_day) = year_day(days);
+    let (month, day) = month_day(march_day);
+    if march_day < 306 {
+        Date {
+            year,
+            month,
+            day: day + 1,
+        }
+    } else {
+        Date {
+            year: year + 1,
+            month: month - 12,
+            day: day + 1,
+        }
     }
 }
 
@@ -120,20 +104,19 @@ fn write_marked(out: &mut [u8], at: usize, mark: u8, n: u32)
     requires { (at + 3 ≤ length out.old) × (n < 100) }
     ensures { out.new ≡ sets out.old at (mark ∷ ascii_digits 2 n) }
 {
-    let pair = digit_pair(n);
     out[at] = mark;
-    out[at + 1] = (pair % 256) as u8;
-    out[at + 2] = (pair / 256) as u8;
+    write_pair(out, at + 1, n);
 }
 
-fn write_date(out: &mut [u8], at: usize, year: u32, month: u32, day: u32)
-    requires { (at + 10 ≤ length out.old) × ((year < 10000) × ((month < 100) × (day < 100))) }
-    ensures { out.new ≡ sets out.old at (date_text year month day) }
+fn write_date(out: &mut [u8], at: usize, date: Date)
+    requires { (at + 10 ≤ length out.old)
+        × ((date.year < 10000) × ((date.month < 100) × (date.day < 100))) }
+    ensures { out.new ≡ sets out.old at (date_text date.year date.month date.day) }
 {
-    write_pair(out, at, year / 100);
-    write_pair(out, at + 2, year % 100);
-    write_marked(out, at + 4, b'-', month);
-    write_marked(out, at + 7, b'-', day);
+    write_pair(out, at, date.year / 100);
+    write_pair(out, at + 2, date.year % 100);
+    write_marked(out, at + 4, b'-', date.month);
+    write_marked(out, at + 7, b'-', date.day);
 }
 
 // A time after a space. The remainders reuse the quotients.
@@ -155,7 +138,6 @@ pub fn write_moment(out: &mut [u8], at: usize, micros: u64)
 {
     let seconds = micros / 1_000_000;
     let days = seconds / 86_400;
-    let date = date_of(days as u32);
-    write_date(out, at, date.year, date.month, date.day);
+    write_date(out, at, date_of(days as u32));
     write_time(out, at + 10, (seconds - days * 86_400) as u32);
 }

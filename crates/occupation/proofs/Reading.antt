@@ -6,20 +6,17 @@ use mathlib.Core.Bool.{Bool, true, false, cond}
 use mathlib.Core.List.{List}
 use mathlib.Core.Option.{Option, none, some}
 use native.Mathlib.Omega.{arith}
-use lib.Dec.{eqb, ltb}
+use lib.Dec.{eqb}
 use lib.ListN.{length, take, drop, length-drop}
 use lib.Seq.{length-take-le}
-use borrow.Author.Tests.{eqb-false, ne_eqb}
 use Rattle.error.specs.declared.Refusal.TheVariants.{BadRange, NoValue}
 use Rattle.error.specs.Result.{Result}
 use Rattle.laws.specs.Bits.{bit_at}
-use Rattle.laws.proofs.Truths.{by_cond}
 use Rattle.row_format.specs.Places.{offset_width, bitmap_start}
-use Rattle.row_format.specs.Table.{range_end}
-use Rattle.laws.specs.Bytes.{from_le, entry_at}
+use Rattle.laws.specs.Bytes.{from_le}
 use Rattle.row_layout.specs.declared.VarlenRange.{VarlenRange}
 use Rattle.row_layout.specs.declared.VarlenRange.TheVariants.{Null, Bytes, Outside}
-use Rattle.row_layout.specs.Range.{varlen_range, part_of}
+use Rattle.row_layout.specs.Range.{varlen_range}
 use Rattle.row_layout.specs.InnerRange.{Inside}
 use Rattle.datatype.specs.declared.DataType.TheVariants.{Varchar}
 use Rattle.text.specs.Rfc3629.{is_text}
@@ -33,31 +30,10 @@ use Rattle.calendar.specs.InnerMoment.{moment_of}
 use lib.IntN.{ℤ}
 use mir.Syntax.{w64}
 use mir.Val.{to_z}
-use Rattle.occupation.specs.InnerFields.{SpanIn}
+use Rattle.occupation.specs.InnerFields.{TextIn}
 use Rattle.occupation.specs.InnerRead.{text_range_in, text_of_read, text_column, text_shown, moment_of_read, moment_column}
 
 -- ---- a text
-
--- no text starts at 0
-abbrev start_in : VarlenRange → ℕ
-start_in Null = 1
-start_in Outside = 1
-start_in (Bytes a e) = a
-
-abbrev Late : VarlenRange → Type 0
-Late q = start_in q ≡ 0 → ⊥
-
-part-start : (n a e : ℕ) → (a ≡ 0 → ⊥) → Late (part_of n a e)
-part-start n a e h =
-    by_cond Late (ltb e a) Outside (cond (ltb n e) Outside (Bytes a e)) (λ _ p. omega arith)
-    (λ _. by_cond Late (ltb n e) Outside (Bytes a e) (λ _ p. omega arith) (λ _. h))
-
-range-start : (k : Bool) (r : List ℕ) (i : ℕ) → Late (text_range_in k r i)
-range-start k r i =
-    let o = entry_at (offset_width k) 5 i r in
-    let part = part_of (length r) o (range_end (offset_width k) 5 2 i r) in
-    by_cond Late (eqb (bit_at i (drop bitmap_start r)) 1) Null (varlen_range (offset_width k) 5 2 i r) (λ _ p. omega arith)
-    (λ _. by_cond Late (eqb o 0) Null part (λ _ p. omega arith) (λ f. part-start (length r) o (range_end (offset_width k) 5 2 i r) (eqb-false o 0 f)))
 
 pub by_range : (k : Bool) (n i : ℕ) (r : List ℕ) → text_column k n i r ≡ text_of_read r (varlen_value (Varchar false n) i r (text_range_in k r i))
 by_range k n i r = go (eqb (bit_at i (drop bitmap_start r)) 1) (varlen_range (offset_width k) 5 2 i r)
@@ -70,7 +46,7 @@ module _ (k : Bool) (n i : ℕ) (r : List ℕ) where
   told : {q : VarlenRange} → q ≡ text_range_in k r i → text_of_read r (varlen_value (Varchar false n) i r q) ≡ text_column k n i r
   told e = ap (λ (q : VarlenRange). text_of_read r (varlen_value (Varchar false n) i r q)) e ∙ sym (by_range k n i r)
 
-  pub text-null : Null ≡ text_range_in k r i → text_shown r (Ok (record { start = 0; end = 0 })) ≡ text_column k n i r
+  pub text-null : Null ≡ text_range_in k r i → text_shown r (Ok None) ≡ text_column k n i r
   text-null e = told e
 
   pub text_outside : Outside ≡ text_range_in k r i → text_shown r (Err (BadRange i)) ≡ text_column k n i r
@@ -80,26 +56,20 @@ module _ (k : Bool) (n i : ℕ) (r : List ℕ) where
     abbrev bs : List ℕ
     bs = take (e - a) (drop a r)
 
-    pub starts_late : a ≡ 0 → ⊥
-    starts_late z = range-start k r i (sym (ap start_in q) ∙ z)
-
     size : length bs ≡ e - a
     size = let u = w.0 in let v = w.1 in length-take-le (e - a) (drop a r) (rw length-drop (omega arith))
 
     pub text-long : n < e - a → text_shown r (Err (NoValue i)) ≡ text_column k n i r
     text-long h = sym (rw (many-bytes n bs (rw size h))) ∙ told q
 
-    pub text-good : e - a ≤ n → is_text bs ≡ true → text_shown r (Ok (record { start = a; end = e })) ≡ text_column k n i r
-    text-good h t = sym (rw (few_bytes false n bs (rw size h), t, size, ne_eqb a 0 starts_late)) ∙ told q
+    pub text-good : e - a ≤ n → is_text bs ≡ true → text_shown r (Ok (Some (record { start = a; end = e }))) ≡ text_column k n i r
+    text-good h t = sym (rw (few_bytes false n bs (rw size h), t, size)) ∙ told q
 
     pub text_bad : e - a ≤ n → is_text bs ≡ false → text_shown r (Err (NoValue i)) ≡ text_column k n i r
     text_bad h t = sym (rw (few_bytes false n bs (rw size h), t)) ∙ told q
 
-    pub text_in_lem : e - a ≤ n → SpanIn (length r) n a e
-    text_in_lem h = record { rises = w.0; inside = w.1; short = h; empty = λ z. absurd (starts_late z) }
-
-pub null_in : (m n : ℕ) → SpanIn m n 0 0
-null_in m n = record { rises = omega arith; inside = omega arith; short = omega arith; empty = λ z. refl }
+    pub text_in_lem : e - a ≤ n → TextIn (length r) n (Some (record { start = a; end = e }))
+    text_in_lem h = (w, (w.0, h))
 
 -- ---- a moment
 

@@ -1,5 +1,6 @@
 -- A row read column after column is read as the definition reads it, and is read so again.
-use Rattle.std.specs.Prelude.{Err, Ok}
+use Rattle.std.specs.Prelude.{Option as Found, None, Err, Ok}
+use Rattle.std.specs.Result.{result_unwrap_or}
 use Rattle.value.specs.declared.DataValue.{DataValue}
 use Prim.Native.Nat.{ℕ, ◌-◌, ◌≤◌}
 use mathlib.Core.Path.{◌≡◌, refl, sym, ap, ◌∙◌, subst}
@@ -25,9 +26,9 @@ use Rattle.row_column.proofs.Framing.{fine, same_good}
 use Rattle.row_decode.specs.Read.{on_column, read_from}
 use Rattle.occupation.specs.declared.Fields.{Fields}
 use Rattle.occupation.specs.Occupation.{Occupation, columns, occupation_of, has_unprintable, printable, occupation_as, occupation_in}
-use Rattle.occupation.specs.InnerFields.{moment_from, fields_shown, moment_limit, SpanIn, FieldsIn, is_good}
-use Rattle.occupation.specs.InnerRead.{arrival_place, departure_place, least_length, text_range_in, text_of_read, moment_of_read, text_column, moment_column, with_platform, with_unit, with_arrival, with_departure, shown_in, moment_shown, MomentIn, span_of, count_of}
-use Rattle.occupation.proofs.Reading.{text-null, text_outside, text-long, text-good, text_bad, text_in_lem, null_in}
+use Rattle.occupation.specs.InnerFields.{spanned, moment_from, fields_shown, MomentIn, TextIn, FieldsIn, is_good}
+use Rattle.occupation.specs.InnerRead.{arrival_place, departure_place, least_length, text_range_in, text_of_read, moment_of_read, text_column, moment_column, with_platform, with_unit, with_arrival, with_departure, moment_shown, ReadMoment, span_of}
+use Rattle.occupation.proofs.Reading.{text-null, text_outside, text-long, text-good, text_bad, text_in_lem}
 
 -- ---- the columns one after the other
 
@@ -102,14 +103,14 @@ module _ (k : Bool) (n i : ℕ) (r : List ℕ) (w : Inside r (text_range_in k r 
   not_both : {A : Type 0} {e : Refusal} {t : Option (List ℕ)} → Err e ≡ text_column k n i r → text_column k n i r ≡ Ok t → A
   not_both p q = absurd (false≢true (ap is_good (p ∙ q)))
 
-  pub text_again : {t : Option (List ℕ)} → text_column k n i r ≡ Ok t → (t ≡ shown_in r (span_of (text_range_in k r i))) × SpanIn (length r) n (span_of (text_range_in k r i)).start (span_of (text_range_in k r i)).end
+  pub text_again : {t : Option (List ℕ)} → text_column k n i r ≡ Ok t → (t ≡ spanned r (span_of (text_range_in k r i))) × TextIn (length r) n (span_of (text_range_in k r i))
   text_again {t} h = go (text_range_in k r i) refl
     where
       same : {x y : Option (List ℕ)} → ◌≡◌ {A = Result (Option (List ℕ))} (Ok x) (Ok y) → y ≡ x
       same e = sym cc
 
-      go : (q : VarlenRange) → q ≡ text_range_in k r i → (t ≡ shown_in r (span_of q)) × SpanIn (length r) n (span_of q).start (span_of q).end
-      go Null e = (same (text-null k n i r e ∙ h), null_in (length r) n)
+      go : (q : VarlenRange) → q ≡ text_range_in k r i → (t ≡ spanned r (span_of q)) × TextIn (length r) n (span_of q)
+      go Null e = (same (text-null k n i r e ∙ h), (tt, tt))
       go Outside e = not_both (text_outside k n i r e) h
       go (Bytes a z) e =
           let v : Inside r (Bytes a z) = subst (Inside r) (sym e) w in
@@ -120,21 +121,22 @@ module _ (k : Bool) (n i : ℕ) (r : List ℕ) (w : Inside r (text_range_in k r 
           valid true f g = f refl
           valid false f g = g refl
 
-pub moment_again : (m : Result ℕ) {t : Option ℕ} → moment_shown m ≡ Ok t → MomentIn m → (t ≡ moment_from (count_of m)) × (count_of m ≤ moment_limit)
+abbrev pub moment_of_result : Result (Found ℕ) → Found ℕ
+moment_of_result m = result_unwrap_or m None
+
+pub moment_again : (m : Result (Found ℕ)) {t : Option ℕ} → moment_shown m ≡ Ok t → ReadMoment m → (t ≡ moment_from (moment_of_result m)) × MomentIn (moment_of_result m)
 moment_again (Ok n) h w = (sym cc, w)
 moment_again (Err e) h w = absurd (false≢true (ap is_good h))
 
-module _ (k : Bool) (r : List ℕ) (w : Inside r (text_range_in k r 0)) (w' : Inside r (text_range_in k r 1)) (a d : Result ℕ) (ea : moment_shown a ≡ moment_column 2 (arrival_place k) r) (ed : moment_shown d ≡ moment_column 3 (departure_place k) r) (wa : MomentIn a) (wd : MomentIn d)
+module _ (k : Bool) (r : List ℕ) (w : Inside r (text_range_in k r 0)) (w' : Inside r (text_range_in k r 1)) (a d : Result (Found ℕ)) (ea : moment_shown a ≡ moment_column 2 (arrival_place k) r) (ed : moment_shown d ≡ moment_column 3 (departure_place k) r) (wa : ReadMoment a) (wd : ReadMoment d)
     (h : is_good (occupation_as k r) ≡ true) where
   abbrev fields : Fields
   fields =
       record {
-        platform_start = (span_of (text_range_in k r 0)).start;
-        platform_end = (span_of (text_range_in k r 0)).end;
-        unit_start = (span_of (text_range_in k r 1)).start;
-        unit_end = (span_of (text_range_in k r 1)).end;
-        arrival = count_of a;
-        departure = count_of d;
+        platform = span_of (text_range_in k r 0);
+        unit = span_of (text_range_in k r 1);
+        arrival = moment_of_result a;
+        departure = moment_of_result d;
       }
 
   pub read_again : (Ok (fields_shown r fields) ≡ occupation_as k r) × FieldsIn (length r) fields

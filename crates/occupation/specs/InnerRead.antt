@@ -1,6 +1,6 @@
 -- For the proofs: a row read column after column.
 use Rattle.value.specs.declared.DataValue.{DataValue}
-use Rattle.std.specs.Prelude.{ℕ, ◌+◌, ◌*◌, ◌≤◌, Bool, false, cond, List, eqb, drop, Err, Ok}
+use Rattle.std.specs.Prelude.{ℕ, ◌+◌, ◌*◌, Bool, false, cond, List, eqb, drop, Option as Found, None, Some, Err, Ok}
 use Rattle.std.proofs.Math.Option.{Option}
 use Rattle.error.specs.Result.{Result, on_result}
 use Rattle.laws.specs.Bits.{bit_at}
@@ -12,7 +12,7 @@ use Rattle.datatype.specs.declared.DataType.TheVariants.{Varchar, Timestamp}
 use Rattle.row_column.specs.Column.{column_with}
 use Rattle.occupation.specs.declared.Span.{Span}
 use Rattle.occupation.specs.Occupation.{Occupation, text_in, moment_in, printable}
-use Rattle.occupation.specs.InnerFields.{spanned, moment_from, SpanIn, moment_limit}
+use Rattle.occupation.specs.InnerFields.{spanned, moment_from, TextIn, MomentIn}
 
 -- ---- the places of a row of sort k
 
@@ -67,30 +67,23 @@ with_platform k r = on_result (text_column k 16 0 r) Err (with_unit k r)
 
 -- ---- what the code hands on
 
-abbrev pub shown_in : List ℕ → Span → Option (List ℕ)
-shown_in r x = spanned r x.start x.end
-
-abbrev pub text_shown : List ℕ → Result Span → Result (Option (List ℕ))
-text_shown r (Ok x) = Ok (shown_in r x)
+abbrev pub text_shown : List ℕ → Result (Found Span) → Result (Option (List ℕ))
+text_shown r (Ok x) = Ok (spanned r x)
 text_shown r (Err e) = Err e
 
-abbrev pub moment_shown : Result ℕ → Result (Option ℕ)
-moment_shown (Ok n) = Ok (moment_from n)
+abbrev pub moment_shown : Result (Found ℕ) → Result (Option ℕ)
+moment_shown (Ok m) = Ok (moment_from m)
 moment_shown (Err e) = Err e
 
-abbrev pub TextIn : ℕ → ℕ → Result Span → Type 0
-TextIn n most (Ok x) = SpanIn n most x.start x.end
-TextIn n most (Err e) = Unit {0}
+abbrev pub ReadText : ℕ → ℕ → Result (Found Span) → Type 0
+ReadText n most (Ok x) = TextIn n most x
+ReadText n most (Err e) = Unit {0}
 
-abbrev pub MomentIn : Result ℕ → Type 0
-MomentIn (Ok n) = n ≤ moment_limit
-MomentIn (Err e) = Unit {0}
+abbrev pub ReadMoment : Result (Found ℕ) → Type 0
+ReadMoment (Ok m) = MomentIn m
+ReadMoment (Err e) = Unit {0}
 
-abbrev pub span_of : VarlenRange → Span
-span_of Null = record { start = 0; end = 0 }
-span_of Outside = record { start = 0; end = 0 }
-span_of (Bytes a e) = record { start = a; end = e }
-
-abbrev pub count_of : Result ℕ → ℕ
-count_of (Ok n) = n
-count_of (Err e) = 0
+abbrev pub span_of : VarlenRange → Found Span
+span_of Null = None
+span_of Outside = None
+span_of (Bytes a e) = Some (record { start = a; end = e })

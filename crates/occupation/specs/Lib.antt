@@ -3,4 +3,3 @@ pub mod Order
 pub mod Line
 pub mod InnerFields
 pub mod InnerRead
-pub mod InnerCompare

@@ -4,37 +4,49 @@
 #![tactic(auto)]
 
 ghost use Rattle.std.specs.Prelude.{◌≡◌, true, ◌+◌, ◌-◌, ◌≤◌, ◌<◌, length, Ok};
+ghost use Rattle.std.specs.Option.{option_copied, option_map};
 ghost use Rattle.std.proofs.lemmas.List.Edits.{sets};
 ghost use Rattle.calendar.specs.Moment.{moment_text};
 ghost use Rattle.row_layout.specs.InnerRange.{Inside};
-ghost use Rattle.occupation.specs.Occupation.{is_unprintable, printable, occupation_in};
-ghost use Rattle.occupation.specs.Order.{bytes_before, null_first, precedes};
+ghost use Rattle.occupation.specs.Occupation.{is_unprintable, has_unprintable, occupation_in};
+ghost use Rattle.occupation.specs.Order.{precedes};
 ghost use Rattle.occupation.specs.Line.{quoted, or_hyphen, line};
-ghost use Rattle.occupation.specs.InnerFields.{spanned, moment_from, fields_shown, read_shown, moment_limit, SpanIn, ShortTexts, FieldsIn, ReadIn, is_good, text_length, moment_length, line_length, text_field, moment_field};
-ghost use Rattle.occupation.specs.InnerRead.{arrival_place, least_length, text_range_in, text_column, moment_column, shown_in, text_shown, moment_shown, span_of, count_of, TextIn, MomentIn, with_platform, with_unit, with_arrival, with_departure};
-ghost use Rattle.occupation.specs.InnerCompare.{Agree, comparison};
+ghost use Rattle.occupation.specs.InnerFields.{bytes_of, spanned, moment_from, fields_shown, read_shown, Stands, Within, ShortText, MomentIn, ShortTexts, FieldsIn, ReadIn, is_good, text_length, moment_length, line_length};
+ghost use Rattle.occupation.specs.InnerRead.{arrival_place, least_length, text_range_in, text_column, moment_column, text_shown, moment_shown, span_of, ReadText, ReadMoment, with_platform};
 
 use error::Refusal;
 use row_layout::{RowLayout, VarlenRange};
-use std::cmp::Ordering;
 
-// Where the texts of a row stand in it, from 0 up to 0 for a null; and its moments, in microseconds from the year 1 on
-// and one more, so that 0 is a null.
+// Where a text stands in its row.
 #[derive(Clone, Copy)]
-pub struct Fields {
-    pub platform_start: usize,
-    pub platform_end: usize,
-    pub unit_start: usize,
-    pub unit_end: usize,
-    pub arrival: u64,
-    pub departure: u64,
+pub struct Span {
+    pub start: usize,
+    pub end: usize,
 }
 
-// A text from `start` up to `end`, a null from 0 up to 0.
+impl Span {
+    fn len(self) -> usize
+        requires { self.start ≤ self.end }
+        ensures { result ≡ self.end - self.start }
+    {
+        self.end - self.start
+    }
+
+    fn of<'r>(self, row: &'r [u8]) -> &'r [u8]
+        requires { Stands (length row.now) self }
+        ensures { result.now ≡ bytes_of row.now self }
+    {
+        &row[self.start..self.end]
+    }
+}
+
+// Where the texts of a row stand in it; and its moments, in microseconds from the year 1 on. None for a null.
 #[derive(Clone, Copy)]
-struct Span {
-    start: usize,
-    end: usize,
+pub struct Fields {
+    pub platform: Option<Span>,
+    pub unit: Option<Span>,
+    pub arrival: Option<u64>,
+    pub departure: Option<u64>,
 }
 
 // Where the slot of the arrival starts; that of the departure is behind it.
@@ -50,42 +62,41 @@ fn text_range(row: &[u8], is_long: bool, column: usize) -> VarlenRange
     ensures { (result ≡ text_range_in is_long row.now column) × Inside row.now result }
 {
     if null_bitmap::column_bit_is_set(row, column) {
-        return VarlenRange::Null;
+        VarlenRange::Null
+    } else {
+        row_layout::varlen_range(row, is_long, 5, 2, column)
     }
-    row_layout::varlen_range(row, is_long, 5, 2, column)
 }
 
 // A text of at most n bytes.
-fn read_text(row: &[u8], is_long: bool, column: usize, n: usize) -> error::Result<Span>
+fn read_text(row: &[u8], is_long: bool, column: usize, n: usize) -> error::Result<Option<Span>>
     requires { (column < 2) × (least_length is_long ≤ length row.now) }
     ensures { (text_shown row.now result ≡ text_column is_long n column row.now)
-        × TextIn (length row.now) n result }
+        × ReadText (length row.now) n result }
 {
     match text_range(row, is_long, column) {
-        VarlenRange::Null => Ok(Span { start: 0, end: 0 }),
+        VarlenRange::Null => Ok(None),
         VarlenRange::Outside => Err(Refusal::BadRange(column)),
         VarlenRange::Bytes(start, end) => {
-            if n < end - start {
-                return Err(Refusal::NoValue(column));
+            if end - start <= n && text::is_valid(&row[start..end]) {
+                Ok(Some(Span { start, end }))
+            } else {
+                Err(Refusal::NoValue(column))
             }
-            if text::is_valid(&row[start..end]) {
-                return Ok(Span { start, end });
-            }
-            Err(Refusal::NoValue(column))
         }
     }
 }
 
 // The moment whose slot starts at a byte of the row.
-fn read_moment(row: &[u8], column: usize, at: usize) -> error::Result<u64>
+fn read_moment(row: &[u8], column: usize, at: usize) -> error::Result<Option<u64>>
     requires { (column < 4) × (at + 8 ≤ length row.now) }
-    ensures { (moment_shown result ≡ moment_column column at row.now) × MomentIn result }
+    ensures { (moment_shown result ≡ moment_column column at row.now) × ReadMoment result }
 {
     if null_bitmap::column_bit_is_set(row, column) {
-        return Ok(0);
+        return Ok(None);
     }
     match calendar::moment_of(endian::read_u64(row, at)) {
-        Some(micros) => Ok(micros + 1),
+        Some(micros) => Ok(Some(micros)),
         None => Err(Refusal::NoValue(column)),
     }
 }
@@ -94,91 +105,17 @@ fn read_moment(row: &[u8], column: usize, at: usize) -> error::Result<u64>
 fn is_unprintable(text: &[u8]) -> bool
     ensures { result ≡ is_unprintable text.now }
 {
-    let mut found = false;
-    let mut i = 0;
-    while i < text.len() {
-        found = found | ((text[i] < 32) | (text[i] == b'"'));
-        i += 1;
+    text.iter().any(|b| *b < 32 || *b == b'"')
+}
+
+fn has_unprintable(row: &[u8], text: Option<Span>) -> bool
+    requires { Within (length row.now) text }
+    ensures { result ≡ has_unprintable (spanned row.now text) }
+{
+    match text {
+        Some(span) => is_unprintable(span.of(row)),
+        None => false,
     }
-    found
-}
-
-// A row whose columns were read.
-fn check_texts(row: &[u8], f: Fields) -> error::Result<Fields>
-    requires { FieldsIn (length row.now) f }
-    ensures { (read_shown row.now result ≡ printable (fields_shown row.now f))
-        × ReadIn (length row.now) result }
-{
-    let start = f.platform_start;
-    let end = f.platform_end;
-    if is_unprintable(&row[start..end]) {
-        return Err(Refusal::Unprintable(0));
-    }
-    let start = f.unit_start;
-    let end = f.unit_end;
-    if is_unprintable(&row[start..end]) {
-        return Err(Refusal::Unprintable(1));
-    }
-    Ok(f)
-}
-
-fn read_departure(
-    row: &[u8],
-    is_long: bool,
-    platform: Span,
-    unit: Span,
-    arrival: u64,
-) -> error::Result<Fields>
-    requires { (least_length is_long ≤ length row.now)
-        × (SpanIn (length row.now) 16 platform.start platform.end
-        × (SpanIn (length row.now) 64 unit.start unit.end × (arrival ≤ moment_limit))) }
-    ensures { (read_shown row.now result
-        ≡ with_departure is_long row.now (shown_in row.now platform)
-        (shown_in row.now unit) (moment_from arrival)) × ReadIn (length row.now) result }
-{
-    let departure = read_moment(row, 3, arrival_place(is_long) + 8)?;
-    let fields = Fields {
-        platform_start: platform.start,
-        platform_end: platform.end,
-        unit_start: unit.start,
-        unit_end: unit.end,
-        arrival,
-        departure,
-    };
-    check_texts(row, fields)
-}
-
-fn read_arrival(row: &[u8], is_long: bool, platform: Span, unit: Span) -> error::Result<Fields>
-    requires { (least_length is_long ≤ length row.now)
-        × (SpanIn (length row.now) 16 platform.start platform.end
-        × SpanIn (length row.now) 64 unit.start unit.end) }
-    ensures { (read_shown row.now result
-        ≡ with_arrival is_long row.now (shown_in row.now platform)
-        (shown_in row.now unit))
-        × ReadIn (length row.now) result }
-{
-    let arrival = read_moment(row, 2, arrival_place(is_long))?;
-    read_departure(row, is_long, platform, unit, arrival)
-}
-
-fn read_unit(row: &[u8], is_long: bool, platform: Span) -> error::Result<Fields>
-    requires { (least_length is_long ≤ length row.now)
-        × SpanIn (length row.now) 16 platform.start platform.end }
-    ensures { (read_shown row.now result
-        ≡ with_unit is_long row.now (shown_in row.now platform))
-        × ReadIn (length row.now) result }
-{
-    let unit = read_text(row, is_long, 1, 64)?;
-    read_arrival(row, is_long, platform, unit)
-}
-
-fn read_columns(row: &[u8], is_long: bool) -> error::Result<Fields>
-    requires { least_length is_long ≤ length row.now }
-    ensures { (read_shown row.now result ≡ with_platform is_long row.now)
-        × ReadIn (length row.now) result }
-{
-    let platform = read_text(row, is_long, 0, 16)?;
-    read_unit(row, is_long, platform)
 }
 
 // The fields of a row, or why it is not printed. The row's own mark tells its sort.
@@ -198,22 +135,36 @@ pub fn read(row: &[u8]) -> error::Result<Fields>
     read_columns(row, is_long)
 }
 
-fn span_of(range: VarlenRange) -> Span
+fn read_columns(row: &[u8], is_long: bool) -> error::Result<Fields>
+    requires { least_length is_long ≤ length row.now }
+    ensures { (read_shown row.now result ≡ with_platform is_long row.now)
+        × ReadIn (length row.now) result }
+{
+    let platform = read_text(row, is_long, 0, 16)?;
+    let unit = read_text(row, is_long, 1, 64)?;
+    let at = arrival_place(is_long);
+    let arrival = read_moment(row, 2, at)?;
+    let departure = read_moment(row, 3, at + 8)?;
+    if has_unprintable(row, platform) {
+        return Err(Refusal::Unprintable(0));
+    }
+    if has_unprintable(row, unit) {
+        return Err(Refusal::Unprintable(1));
+    }
+    Ok(Fields {
+        platform,
+        unit,
+        arrival,
+        departure,
+    })
+}
+
+fn span_of(range: VarlenRange) -> Option<Span>
     ensures { result ≡ span_of range }
 {
     match range {
-        VarlenRange::Null => Span { start: 0, end: 0 },
-        VarlenRange::Outside => Span { start: 0, end: 0 },
-        VarlenRange::Bytes(start, end) => Span { start, end },
-    }
-}
-
-fn count_of(moment: error::Result<u64>) -> u64
-    ensures { result ≡ count_of moment }
-{
-    match moment {
-        Ok(count) => count,
-        Err(_) => 0,
+        VarlenRange::Bytes(start, end) => Some(Span { start, end }),
+        VarlenRange::Null | VarlenRange::Outside => None,
     }
 }
 
@@ -224,111 +175,52 @@ pub fn fields_of(row: &[u8]) -> Fields
         × FieldsIn (length row.now) result }
 {
     let is_long = row_layout::is_long(row);
-    let platform = span_of(text_range(row, is_long, 0));
-    let unit = span_of(text_range(row, is_long, 1));
     let at = arrival_place(is_long);
     Fields {
-        platform_start: platform.start,
-        platform_end: platform.end,
-        unit_start: unit.start,
-        unit_end: unit.end,
-        arrival: count_of(read_moment(row, 2, at)),
-        departure: count_of(read_moment(row, 3, at + 8)),
+        platform: span_of(text_range(row, is_long, 0)),
+        unit: span_of(text_range(row, is_long, 1)),
+        arrival: read_moment(row, 2, at).unwrap_or(None),
+        departure: read_moment(row, 3, at + 8).unwrap_or(None),
     }
 }
 
-// How many bytes two texts have in common at their front.
-fn common_bytes(a: &[u8], b: &[u8]) -> usize
-    ensures { Agree a.now b.now result }
+fn text_of<'r>(row: &'r [u8], text: Option<Span>) -> Option<&'r [u8]>
+    requires { Within (length row.now) text }
+    ensures { option_copied result ≡ option_map (bytes_of row.now) text }
 {
-    let mut i = 0;
-    while i < a.len() {
-        if b.len() <= i {
-            return i;
-        }
-        if a[i] != b[i] {
-            return i;
-        }
-        i += 1;
+    match text {
+        Some(span) => Some(span.of(row)),
+        None => None,
     }
-    i
 }
 
-fn compare_bytes(a: &[u8], b: &[u8]) -> Ordering
-    ensures { result
-        ≡ comparison (bytes_before a.now b.now) (bytes_before b.now a.now) }
-{
-    let i = common_bytes(a, b);
-    if b.len() <= i {
-        if a.len() <= i {
-            return Ordering::Equal;
-        }
-        return Ordering::Greater;
-    }
-    if a.len() <= i {
-        return Ordering::Less;
-    }
-    if a[i] < b[i] {
-        return Ordering::Less;
-    }
-    Ordering::Greater
-}
-
-fn compare_platforms(a_row: &[u8], a: Fields, b_row: &[u8], b: Fields) -> Ordering
-    requires { FieldsIn (length a_row.now) a × FieldsIn (length b_row.now) b }
-    ensures { result
-        ≡ comparison
-        (null_first bytes_before (fields_shown a_row.now a).platform
-        (fields_shown b_row.now b).platform)
-        (null_first bytes_before (fields_shown b_row.now b).platform
-        (fields_shown a_row.now a).platform) }
-{
-    let a_start = a.platform_start;
-    let a_end = a.platform_end;
-    let b_start = b.platform_start;
-    let b_end = b.platform_end;
-    if b_start == 0 {
-        if a_start == 0 {
-            return Ordering::Equal;
-        }
-        return Ordering::Greater;
-    }
-    if a_start == 0 {
-        return Ordering::Less;
-    }
-    compare_bytes(&a_row[a_start..a_end], &b_row[b_start..b_end])
-}
-
-// Whether a is printed before b wherever they stand in the list.
+// Whether a is printed before b wherever they stand in the list: None comes first, as a null does.
 pub fn precedes(a_row: &[u8], a: Fields, b_row: &[u8], b: Fields) -> bool
     requires { FieldsIn (length a_row.now) a × FieldsIn (length b_row.now) b }
     ensures { result
         ≡ precedes (fields_shown a_row.now a) (fields_shown b_row.now b) }
 {
-    match compare_platforms(a_row, a, b_row, b) {
-        Ordering::Less => true,
-        Ordering::Greater => false,
-        Ordering::Equal => a.arrival < b.arrival,
+    let platforms = text_of(a_row, a.platform).cmp(&text_of(b_row, b.platform));
+    platforms.then(a.arrival.cmp(&b.arrival)).is_lt()
+}
+
+fn text_length(text: Option<Span>) -> usize
+    requires { ShortText 64 text }
+    ensures { result ≡ text_length text }
+{
+    match text {
+        Some(span) => span.len() + 2,
+        None => 1,
     }
 }
 
-fn text_length(start: usize, end: usize) -> usize
-    requires { (start ≤ end) × (end - start ≤ 64) }
-    ensures { result ≡ text_length start end }
+fn moment_length(moment: Option<u64>) -> usize
+    ensures { result ≡ moment_length moment }
 {
-    if start == 0 {
-        return 1;
+    match moment {
+        Some(_) => 19,
+        None => 1,
     }
-    end - start + 2
-}
-
-fn moment_length(count: u64) -> usize
-    ensures { result ≡ moment_length count }
-{
-    if count == 0 {
-        return 1;
-    }
-    19
 }
 
 // The bytes of a row's line.
@@ -336,8 +228,7 @@ pub fn line_length(f: Fields) -> usize
     requires { ShortTexts f }
     ensures { (result ≡ line_length f) × (result ≤ 126) }
 {
-    let texts = text_length(f.platform_start, f.platform_end)
-        + text_length(f.unit_start, f.unit_end);
+    let texts = text_length(f.platform) + text_length(f.unit);
     texts + moment_length(f.arrival) + moment_length(f.departure) + 4
 }
 
@@ -351,56 +242,39 @@ fn write_quoted(out: &mut [u8], at: usize, text: &[u8])
 }
 
 // A text in double quotes, or a hyphen; where it ends.
-fn write_text(out: &mut [u8], at: usize, row: &[u8], start: usize, end: usize) -> usize
-    requires { ((start ≤ end) × (end ≤ length row.now)) × (at + text_length start end ≤ length out.old) }
-    ensures { (result ≡ at + text_length start end)
-        × (out.new
-        ≡ sets out.old at (or_hyphen quoted (spanned row.now start end))) }
+fn write_text(out: &mut [u8], at: usize, row: &[u8], text: Option<Span>) -> usize
+    requires { Within (length row.now) text × (at + text_length text ≤ length out.old) }
+    ensures { (result ≡ at + text_length text)
+        × (out.new ≡ sets out.old at (or_hyphen quoted (spanned row.now text))) }
 {
-    if start == 0 {
-        out[at] = b'-';
-        return at + 1;
+    match text {
+        Some(span) => {
+            write_quoted(out, at, span.of(row));
+            at + (span.len() + 2)
+        }
+        None => {
+            out[at] = b'-';
+            at + 1
+        }
     }
-    write_quoted(out, at, &row[start..end]);
-    at + (end - start + 2)
 }
 
 // A date and a time, or a hyphen; where it ends.
-fn write_moment(out: &mut [u8], at: usize, count: u64) -> usize
-    requires { (count ≤ moment_limit) × (at + moment_length count ≤ length out.old) }
-    ensures { (result ≡ at + moment_length count)
-        × (out.new ≡ sets out.old at (or_hyphen moment_text (moment_from count))) }
+fn write_moment(out: &mut [u8], at: usize, moment: Option<u64>) -> usize
+    requires { MomentIn moment × (at + moment_length moment ≤ length out.old) }
+    ensures { (result ≡ at + moment_length moment)
+        × (out.new ≡ sets out.old at (or_hyphen moment_text (moment_from moment))) }
 {
-    if count == 0 {
-        out[at] = b'-';
-        return at + 1;
+    match moment {
+        Some(micros) => {
+            calendar::write_moment(out, at, micros);
+            at + 19
+        }
+        None => {
+            out[at] = b'-';
+            at + 1
+        }
     }
-    calendar::write_moment(out, at, count - 1);
-    at + 19
-}
-
-// A text and the bar behind it; where they end.
-fn write_text_field(out: &mut [u8], at: usize, row: &[u8], start: usize, end: usize) -> usize
-    requires { ((start ≤ end) × (end ≤ length row.now))
-        × (at + (text_length start end + 1) ≤ length out.old) }
-    ensures { (result ≡ at + (text_length start end + 1))
-        × (out.new
-        ≡ sets out.old at (text_field row.now start end)) }
-{
-    let last = write_text(out, at, row, start, end);
-    out[last] = b'|';
-    last + 1
-}
-
-// A moment and the byte behind it; where they end.
-fn write_moment_field(out: &mut [u8], at: usize, count: u64, mark: u8) -> usize
-    requires { (count ≤ moment_limit) × (at + (moment_length count + 1) ≤ length out.old) }
-    ensures { (result ≡ at + (moment_length count + 1))
-        × (out.new ≡ sets out.old at (moment_field count mark)) }
-{
-    let last = write_moment(out, at, count);
-    out[last] = mark;
-    last + 1
 }
 
 // A row's line; where it ends.
@@ -409,8 +283,13 @@ pub fn write_line(out: &mut [u8], at: usize, row: &[u8], f: Fields) -> usize
     ensures { (result ≡ at + line_length f)
         × (out.new ≡ sets out.old at (line (fields_shown row.now f))) }
 {
-    let unit = write_text_field(out, at, row, f.platform_start, f.platform_end);
-    let arrival = write_text_field(out, unit, row, f.unit_start, f.unit_end);
-    let departure = write_moment_field(out, arrival, f.arrival, b'|');
-    write_moment_field(out, departure, f.departure, b'\n')
+    let first = write_text(out, at, row, f.platform);
+    out[first] = b'|';
+    let second = write_text(out, first + 1, row, f.unit);
+    out[second] = b'|';
+    let third = write_moment(out, second + 1, f.arrival);
+    out[third] = b'|';
+    let last = write_moment(out, third + 1, f.departure);
+    out[last] = b'\n';
+    last + 1
 }

@@ -6,7 +6,8 @@ use mathlib.Core.List.{List, [], ◌∷◌, ◌++◌, map, append_assoc}
 use native.Mathlib.Numerals.{add-one}
 use native.Mathlib.Omega.{arith}
 use lib.ListN.{length, get_or, set, take, drop, length-append, length-drop}
-use lib.Seq.{sets, length-take-le, take-take, take_at}
+use lib.Seq.{sets, sets-eq, length-take-le, take-take, take_at}
+use Rattle.std.specs.List.{copy_within}
 use Rattle.laws.proofs.Truths.{same_or}
 use Rattle.laws.proofs.Stores.{sets-splice, sets_comm}
 use Rattle.laws.proofs.Lent.{drop-take}
@@ -56,6 +57,12 @@ split-inserted lt f o [] (suc r) h u v = absurd (omega arith)
 split-inserted lt f o (p ∷ ps) zero h u v = rw (v 0 (omega arith) (omega arith))
 split-inserted {A} lt f o (p ∷ ps) (suc r) h u v =
     rw (u 0 (omega arith)) (ap (λ (l : List A). f p ∷ l) (split-inserted lt f o ps r (omega arith) (λ i l. u (suc i) (omega arith)) (λ i l m. v (suc i) (omega arith) (omega arith))))
+
+-- those from p up to k stand one further on
+pub moved : (l : List ℕ) (k p : ℕ) → p ≤ k → k < length l → copy_within l p k (p + 1) ≡ sets l (p + 1) (take (k - p) (drop p l))
+moved l k p h room =
+    let n : length (take (k - p) (drop p l)) ≡ k - p = length-take-le (k - p) (drop p l) (rw length-drop (omega arith)) in
+    sym (sets-eq (take (k - p) (drop p l)) l (p + 1) (rw n (omega arith)) ∙ rw n)
 
 -- the k first of l, with x at place r
 module _ (l : List ℕ) (k r x : ℕ) (h : r ≤ k) (room : k < length l) where

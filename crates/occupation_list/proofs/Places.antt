@@ -50,6 +50,17 @@ stays_before {list} {order} t o i j h l e = precedes_ranks.behind o (occupation_
 pub search_end : {list order : List ℕ} {k low high : ℕ} (o : Occupation) → Searching (λ i. precedes o (occupation_at list (get_or order i 0))) k low high → high ≤ low → FoundPlace list order k o low
 search_end o s h = let a = s.order_of in let w = s.within in record { within = omega arith; before = s.before; behind = λ i l m. s.behind i (omega arith) m }
 
+-- ---- the first k by themselves
+
+pub placed_part : {list order : List ℕ} {k : ℕ} → Placed list order k → Placed list (take k order) (length (take k order))
+placed_part {list} {order} {k} p =
+    let n : length (take k order) ≡ k = length-take-le k order p.many in
+    record {
+      many = omega arith;
+      places = λ i h. rw (get_or-take k order i 0 (omega (arith, n))) (p.places i (omega (arith, n)));
+      rises = λ i j h l. rw (get_or-take k order i 0 (omega (arith, n)), get_or-take k order j 0 (omega (arith, n))) (p.rises i j h (omega (arith, n)));
+    }
+
 -- ---- one more
 
 module _ {list order : List ℕ} {k at : ℕ} (a : Addable list order k at) {r : ℕ} (found : FoundPlace list order k (occupation_at list at) r) where

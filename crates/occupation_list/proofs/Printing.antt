@@ -7,7 +7,7 @@ use mathlib.Core.List.{List, [], map}
 use native.Mathlib.Omega.{arith}
 use borrow.Author.Tests.{lt-ltb, le-ltb}
 use lib.ListN.{length, take}
-use lib.Seq.{sets}
+use lib.Seq.{sets, take-length}
 use Rattle.error.specs.declared.Refusal.{Refusal}
 use Rattle.error.specs.declared.Refusal.TheVariants.{NoRoom}
 use Rattle.error.specs.Answer.{unchanged, placed}
@@ -18,6 +18,7 @@ use Rattle.occupation.specs.Order.{precedes}
 use Rattle.occupation.specs.Line.{line}
 use Rattle.occupation_list.specs.Ordered.{ordered}
 use Rattle.occupation_list.specs.Print.{occupations_of, lines_of, print_call, refusal_line, report_call}
+use Rattle.occupation_list.proofs.Places.{placed_part}
 use Rattle.occupation_list.specs.InnerOrder.{lines_at, ordered_onto, ArrangedRows, ArrangedAs, LinesReady}
 
 -- ---- bytes that go to the output, with room for them or without
@@ -40,8 +41,10 @@ module _ (list order : List ℕ) (x : Result (ℕ × ℕ)) (a : ArrangedAs list 
   rows : {k n : ℕ} → x ≡ Ok (k, n) → ArrangedRows list order k n
   rows e = subst (ArrangedAs list order) e a
 
-  pub printable : {k n : ℕ} → x ≡ Ok (k, n) → LinesReady list order k n
-  printable e = (rows e).printable
+  pub printable : {k n : ℕ} → x ≡ Ok (k, n) → LinesReady list (take k order) (length (take k order)) n
+  printable {k} e =
+      let p = (rows e).printable in
+      record { all_placed = placed_part p.all_placed; long = p.long ∙ ap (λ (ps : List ℕ). length (lines_at list ps)) (sym (take-length (take k order))) }
 
   pub print_placed : (out : List ℕ) {k n : ℕ} → x ≡ Ok (k, n) → placed out (lines_at list (take k order)) ≡ print_call list out
   print_placed out e = sym (on_ordered (occupations_of list) (unchanged out) (λ os. placed out (concat (map line os))) (rows e).in_order)

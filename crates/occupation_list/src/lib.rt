@@ -29,6 +29,7 @@ fn precedes_placed(row: &[u8], f: Fields, list: &[u8], at: usize) -> bool
 }
 
 // How many of the first k places a row does not come before: by halves.
+// Stays: `partition_point` asks for a test of any number, and only the places in `order` have a row that was read.
 fn place_for(list: &[u8], order: &[u16], k: usize, row: &[u8], f: Fields) -> usize
     requires { Placed list.now order.now k × Known row.now f }
     ensures { FoundPlace list.now order.now k (fields_shown row.now f) result }
@@ -46,25 +47,13 @@ fn place_for(list: &[u8], order: &[u16], k: usize, row: &[u8], f: Fields) -> usi
     low
 }
 
-// The n places from `from` on stand one further on afterwards: the last one first.
-fn move_up(order: &mut [u16], from: usize, n: usize)
-    requires { from + 1 + n ≤ length order.old }
-    ensures { order.new
-        ≡ sets order.old (from + 1) (take n (drop from order.old)) }
-{
-    let mut i = n;
-    while 0 < i {
-        i -= 1;
-        order[from + 1 + i] = order[from + i];
-    }
-}
-
+// The place goes in at p, and those from p up to k move up.
 fn insert(order: &mut [u16], k: usize, p: usize, at: u16)
     requires { (p ≤ k) × (k < length order.old) }
     ensures { order.new
         ≡ set (sets order.old (p + 1) (take (k - p) (drop p order.old))) p at }
 {
-    move_up(order, p, k - p);
+    order.copy_within(p..k, p + 1);
     order[p] = at;
 }
 
@@ -88,6 +77,7 @@ fn arrange_rows(list: &[u8], order: &mut [u16]) -> error::Result<(usize, usize)>
     let mut at = 0;
     let mut k = 0;
     let mut size = 0;
+    // Stays: a row's length tells where the next one starts.
     while at < list.len() {
         let n = add_row(list, at, order, k)?;
         at = row_list::row_end(list, at);
@@ -114,45 +104,27 @@ fn write_row(out: &mut [u8], end: usize, list: &[u8], at: usize) -> usize
     occupation::write_line(out, end, row, occupation::fields_of(row))
 }
 
-fn write_lines(out: &mut [u8], list: &[u8], order: &[u16], k: usize)
-    requires { Placed list.now order.now k
-        × (length (lines_at list.now (take k order.now)) ≤ length out.old) }
-    ensures { out.new
-        ≡ sets out.old 0 (lines_at list.now (take k order.now)) }
+fn write_lines(out: &mut [u8], list: &[u8], order: &[u16])
+    requires { Placed list.now order.now (length order.now)
+        × (length (lines_at list.now order.now) ≤ length out.old) }
+    ensures { out.new ≡ sets out.old 0 (lines_at list.now order.now) }
 {
-    let mut i = 0;
     let mut end = 0;
-    while i < k {
-        end = write_row(out, end, list, order[i] as usize);
-        i += 1;
+    for at in order {
+        end = write_row(out, end, list, *at as usize);
     }
 }
 
 // The rows that were arranged: nothing is written where there is no room for all of their lines.
-fn print_rows(
-    list: &[u8],
-    order: &[u16],
-    k: usize,
-    size: usize,
-    out: &mut [u8],
-) -> error::Result<usize>
-    requires { LinesReady list.now order.now k size }
-    ensures { (result, out.new)
-        ≡ placed out.old (lines_at list.now (take k order.now)) }
+fn print_rows(list: &[u8], order: &[u16], size: usize, out: &mut [u8]) -> error::Result<usize>
+    requires { LinesReady list.now order.now (length order.now) size }
+    ensures { (result, out.new) ≡ placed out.old (lines_at list.now order.now) }
 {
     if out.len() < size {
         return Err(Refusal::NoRoom);
     }
-    write_lines(out, list, order, k);
+    write_lines(out, list, order);
     Ok(size)
-}
-
-fn print_with(list: &[u8], order: &mut [u16], out: &mut [u8]) -> error::Result<usize>
-    requires { length order.old ≡ row_count_limit }
-    ensures { (result, out.new) ≡ print_call list.now out.old }
-{
-    let (k, size) = arrange(list, order)?;
-    print_rows(list, order, k, size, out)
 }
 
 // A line for each row of a list, in order.
@@ -160,7 +132,8 @@ pub fn print(list: &[u8], out: &mut [u8]) -> error::Result<usize>
     ensures { (result, out.new) ≡ print_call list.now out.old }
 {
     let mut order = [0; ROW_LIMIT];
-    print_with(list, &mut order, out)
+    let (k, size) = arrange(list, &mut order)?;
+    print_rows(list, &order[..k], size, out)
 }
 
 fn decimal_length(n: usize) -> usize
@@ -182,11 +155,12 @@ fn write_decimal(out: &mut [u8], at: usize, n: usize) -> usize
 {
     if n < 10 {
         out[at] = digit(n);
-        return at + 1;
+        at + 1
+    } else {
+        out[at] = digit(n / 10);
+        out[at + 1] = digit(n);
+        at + 2
     }
-    out[at] = digit(n / 10);
-    out[at + 1] = digit(n);
-    at + 2
 }
 
 fn write_refusal(out: &mut [u8], number: usize, place: usize)
@@ -213,20 +187,13 @@ fn print_refusal(e: Refusal, out: &mut [u8]) -> error::Result<usize>
     Ok(length)
 }
 
-fn report_with(list: &[u8], order: &mut [u16], out: &mut [u8]) -> error::Result<usize>
-    requires { length order.old ≡ row_count_limit }
-    ensures { (result, out.new) ≡ report_call list.now out.old }
-{
-    match arrange(list, order) {
-        Err(e) => print_refusal(e, out),
-        Ok((k, size)) => print_rows(list, order, k, size, out),
-    }
-}
-
 // All that the program prints: the lines of a list, or the line of its refusal.
 pub fn report(list: &[u8], out: &mut [u8]) -> error::Result<usize>
     ensures { (result, out.new) ≡ report_call list.now out.old }
 {
     let mut order = [0; ROW_LIMIT];
-    report_with(list, &mut order, out)
+    match arrange(list, &mut order) {
+        Ok((k, size)) => print_rows(list, &order[..k], size, out),
+        Err(e) => print_refusal(e, out),
+    }
 }

@@ -18,14 +18,7 @@ fn read_list(input: &mut [u8]) -> usize
     if input.len() < INPUT_LIMIT {
         return 0;
     }
-    io::read_full(STDIN_FILENO, &mut input[0..INPUT_LIMIT])
-}
-
-fn write_first(out: &[u8], n: usize) {
-    if out.len() < n {
-        return;
-    }
-    io::write_all(STDOUT_FILENO, &out[0..n]);
+    io::read_full(STDIN_FILENO, &mut input[..INPUT_LIMIT])
 }
 
 // A valid list needs at most 64,512 bytes of output, so that none is refused for the room.
@@ -33,8 +26,9 @@ fn main() {
     let mut input = io::large_buffer();
     let n = read_list(&mut input);
     let mut out = io::large_buffer();
-    match occupation_list::report(&input[0..n], &mut out) {
-        Ok(size) => write_first(&out, size),
-        Err(_) => {}
+    if let Ok(size) = occupation_list::report(&input[..n], &mut out) {
+        if let Some(lines) = out.get(..size) {
+            io::write_all(STDOUT_FILENO, lines);
+        }
     }
 }

@@ -20,11 +20,9 @@ pub fn check(list: &[u8], most: usize) -> error::Result<usize>
     }
     let mut at = 0;
     let mut rows = 0;
+    // Stays: a row's length tells where the next one starts.
     while at < n {
-        if rows == most {
-            return Err(Refusal::BadList);
-        }
-        if n - at < 2 {
+        if rows == most || n - at < 2 {
             return Err(Refusal::BadList);
         }
         let end = row_end(list, at);
@@ -51,7 +49,5 @@ pub fn row_at<'l>(list: &'l [u8], at: usize) -> &'l [u8]
     requires { at + (2 + first_size (drop at list.now)) ≤ length list.now }
     ensures { result.now ≡ first_row (drop at list.now) }
 {
-    let start = at + 2;
-    let end = row_end(list, at);
-    &list[start..end]
+    &list[at + 2..row_end(list, at)]
 }

@@ -1,7 +1,7 @@
 -- Signed counts, compared and divided. A machine's number is known by its bits, so an operation on z reads `to_z w (of_z w z)`, which is z.
 use Rattle.std.specs.Prelude.{None, Some}
 use Prim.Native.Nat.{ℕ, zero, suc, ◌+◌, ◌*◌, ◌/◌, ◌%◌, ◌^◌, ◌≤◌, ◌<◌, zero-le}
-use mathlib.Core.Path.{◌≡◌, refl, ap, ◌∙◌, subst}
+use mathlib.Core.Path.{◌≡◌, refl, sym, ap, ◌∙◌, subst}
 use mathlib.Core.Bool.{true, false, false≢true}
 use native.Mathlib.Nat.{div-le_self, le_of_suc-le-suc, lt_of_le_of_lt, mod-lt}
 use native.Mathlib.Omega.{arith}
@@ -11,18 +11,30 @@ use lib.Dec.{T, leb, ltb}
 use mir.Syntax.{Width, w64}
 use mir.Val.{SFits, Fits, to_z, of_z}
 use mir.ValLaws.{to_z-of_z, to_z_pos}
-use borrow.Author.Tests.{le-leb, lt-leb, le-ltb, leb-true}
+use borrow.Author.Tests.{le-leb, lt-leb, lt-ltb, le-ltb, leb-true, leb-false}
 use Rattle.temporal.specs.Ranges.{between, is_time}
 use Rattle.temporal.specs.Time.{mod_z, time_of}
 
 -- ---- ranges
 
-module _ (w : Width) (z : ℤ) (f : SFits w z) (low high : ℤ) where
-  pub under : lt_z (to_z w (of_z w z)) low ≡ true → false ≡ between low high z
-  under h = let k : lt_z z low ≡ true = rw (to_z-of_z w z f) at h in rw k
+at_least : (low z : ℤ) → le_z low z ≡ true → lt_z z low ≡ false
+at_least (pos a) (pos b) h = le-ltb b a (leb-true a b h)
+at_least (pos a) (negsuc b) h = absurd (false≢true h)
+at_least (negsuc a) (pos b) h = refl
+at_least (negsuc a) (negsuc b) h = le-ltb a b (leb-true b a h)
 
-  pub not_under : lt_z (to_z w (of_z w z)) low ≡ false → le_z (to_z w (of_z w z)) high ≡ between low high z
-  not_under h = let k : lt_z z low ≡ false = rw (to_z-of_z w z f) at h in rw (k, to_z-of_z w z f)
+below : (low z : ℤ) → le_z low z ≡ false → lt_z z low ≡ true
+below (pos a) (pos b) h = lt-ltb b a (leb-false a b h)
+below (pos a) (negsuc b) h = refl
+below (negsuc a) (pos b) h = absurd (false≢true (sym h))
+below (negsuc a) (negsuc b) h = lt-ltb a b (leb-false b a h)
+
+module _ (w : Width) (z : ℤ) (f : SFits w z) (low high : ℤ) where
+  pub under : le_z low (to_z w (of_z w z)) ≡ false → le_z low (to_z w (of_z w z)) ≡ between low high z
+  under h = let k : lt_z z low ≡ true = below low z (rw (to_z-of_z w z f) at h) in rw (h, k)
+
+  pub not_under : le_z low (to_z w (of_z w z)) ≡ true → le_z (to_z w (of_z w z)) high ≡ between low high z
+  not_under h = let k : lt_z z low ≡ false = at_least low z (rw (to_z-of_z w z f) at h) in rw (k, to_z-of_z w z f)
 
 -- ---- the low 32 bits are the number modulo 2 ^ 32
 

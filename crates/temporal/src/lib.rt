@@ -5,34 +5,37 @@ ghost use Rattle.std.specs.Prelude.{◌≡◌, ◌^◌};
 ghost use Rattle.temporal.specs.Ranges.{is_date, is_time, is_timestamp};
 ghost use Rattle.temporal.specs.Time.{mod_z, time_of};
 
-// Days from 1970-01-01: the years 1 to 9999.
+// Days from 1970-01-01.
+const FIRST_DAY: i32 = -719_162;
+
+const LAST_DAY: i32 = 2_932_896;
+
+// The years 1 to 9999.
 pub fn is_date(days: i32) -> bool
     ensures { result ≡ is_date days }
 {
-    if days < -719_162 {
-        return false;
-    }
-    days <= 2_932_896
+    FIRST_DAY <= days && days <= LAST_DAY
 }
 
 // Microseconds since midnight.
+const LAST_TIME: i64 = 86_399_999_999;
+
 pub fn is_time(micros: i64) -> bool
     ensures { result ≡ is_time micros }
 {
-    if micros < 0 {
-        return false;
-    }
-    micros <= 86_399_999_999
+    0 <= micros && micros <= LAST_TIME
 }
 
-// Microseconds from 1970-01-01: the years 1 to 9999.
+// Microseconds from 1970-01-01.
+const FIRST_MOMENT: i64 = -62_135_596_800_000_000;
+
+const LAST_MOMENT: i64 = 253_402_300_799_999_999;
+
+// The years 1 to 9999.
 pub fn is_timestamp(micros: i64) -> bool
     ensures { result ≡ is_timestamp micros }
 {
-    if micros < -62_135_596_800_000_000 {
-        return false;
-    }
-    micros <= 253_402_300_799_999_999
+    FIRST_MOMENT <= micros && micros <= LAST_MOMENT
 }
 
 fn low_32(q: i64) -> u32
@@ -53,6 +56,6 @@ pub fn time_of(micros: i64) -> Option<i64>
     if seconds >= 86_400 {
         return None;
     }
-    let count = (seconds as u64) * 1_000_000 + (rest as u64);
+    let count = u64::from(seconds) * 1_000_000 + rest as u64;
     Some(count as i64)
 }

@@ -42,5 +42,5 @@ returns c =
     let d = c.read_moment-2 in
     let ea = a.ensures.0 ∙ ap (λ (at : ℕ). moment_column 2 at r) p in
     let ed = d.ensures.0 ∙ ap (λ (at : ℕ). moment_column 3 (at + 8) r) p in
-    rw (← c.is_long-is_long.ensures, c.span_of-platform.ensures, c.span_of-unit.ensures, c.count_of.ensures, c.count_of-2.ensures, t.0, u.0)
+    rw (← c.is_long-is_long.ensures, c.span_of.ensures, c.span_of-2.ensures, c.unwrap_or.ensures, c.unwrap_or-2.ensures, t.0, u.0)
     (read_again k r (subst (Inside r) t.0 t.1) (subst (Inside r) u.0 u.1) a.result d.result ea ed a.ensures.1 d.ensures.1 (good-sort r c.is_long-is_long.ensures c.requires))

@@ -1,21 +1,12 @@
 -- `is_unprintable` meets its contract.
-use mathlib.Core.Path.{refl, sym, ◌∙◌}
-use native.Mathlib.Omega.{arith}
-use borrow.Author.Rules.{rules}
-use Rattle.occupation.proofs.Texts.{seen_next, seen_all}
+use Rattle.std.proofs.Common.{rules, tests}
+use Rattle.std.proofs.lemmas.Iterator.{YieldsList-from_slice}
+use Rattle.std.proofs.lemmas.Iterator.Search.{any_from_yields_List}
+use mathlib.Core.Path.{◌∙◌}
+use Rattle.occupation.proofs.Texts.{is_bad, any_bad}
 use Rattle.occupation.proofs.is_unprintable.Goals as goal
-
-pub loop-i-init : goal.loop-i-init
-loop-i-init c = (omega arith, refl)
-
-pub loop-i-preserved : goal.loop-i-preserved
-loop-i-preserved c =
-    let l = c.loop-i in
-    let t = c.args.text.now in
-    (search rules, seen_next l.found t l.i (search rules) ∙ l.invariant.1)
 
 pub returns : goal.returns
 returns c =
-    let l = c.loop-i in
-    let t = c.args.text.now in
-    sym (seen_all l.found t l.i (search rules)) ∙ l.invariant.1
+    any_from_yields_List is_bad _ _ _ c.any.ensures.ran (YieldsList-from_slice c.args.text.now cc) (λ x b q k. search (rules, tests))
+    ∙ any_bad c.args.text.now

@@ -1,31 +1,20 @@
 -- `read_moment` meets its contract.
-use Rattle.std.specs.Prelude.{None, Ok, Some}
-use Prim.Native.Nat.{ℕ, suc, ◌+◌}
+use Rattle.std.specs.Prelude.{None, Some}
+use Prim.Native.Nat.{ℕ}
 use mathlib.Core.Path.{◌≡◌, sym, ap, ◌∙◌}
-use native.Mathlib.Omega.{arith}
 use lib.ListN.{take, drop}
 use mir.Syntax.{w64}
 use mir.Val.{to_z}
 use Rattle.laws.specs.Bytes.{from_le}
 use Rattle.calendar.specs.InnerMoment.{moment_of}
 use Rattle.calendar.proofs.Since.{moment_lt}
-use Rattle.occupation.specs.InnerFields.{moment_from}
 use Rattle.occupation.proofs.Reading.{moment_read, moment_null, moment_told}
 use Rattle.occupation.proofs.read_moment.Goals as goal
 
 pub returns-then-column_bit_is_set : goal.returns-then-column_bit_is_set
 returns-then-column_bit_is_set c =
     let a = c.args in
-    (moment_null a.column a.at a.row.now (sym c.column_bit_is_set.ensures ∙ c.if-column_bit_is_set.true), omega arith)
-
-pub overflow_add-result : goal.overflow_add-result
-overflow_add-result c =
-    let a = c.args in
-    let z = to_z w64 (from_le (take 8 (drop a.at a.row.now))) in
-    let e : moment_of z ≡ Some c.in-Some.micros = sym (c.moment_of.ensures ∙ ap (λ (n : ℕ). moment_of (to_z w64 n)) c.read_u64.ensures) ∙ c.in-Some.is in
-    let t = moment_told a.column a.at a.row.now (sym c.column_bit_is_set.ensures ∙ c.if-column_bit_is_set.false) in
-    let m = moment_lt z c.in-Some.micros e in
-    record { fits = omega arith }
+    (moment_null a.column a.at a.row.now (sym c.column_bit_is_set.ensures ∙ c.if-column_bit_is_set.true), tt)
 
 pub returns-in-Some : goal.returns-in-Some
 returns-in-Some c =
@@ -33,9 +22,7 @@ returns-in-Some c =
     let z = to_z w64 (from_le (take 8 (drop a.at a.row.now))) in
     let e : moment_of z ≡ Some c.in-Some.micros = sym (c.moment_of.ensures ∙ ap (λ (n : ℕ). moment_of (to_z w64 n)) c.read_u64.ensures) ∙ c.in-Some.is in
     let t = moment_told a.column a.at a.row.now (sym c.column_bit_is_set.ensures ∙ c.if-column_bit_is_set.false) in
-    let m = moment_lt z c.in-Some.micros e in
-    let n : c.in-Some.micros + 1 ≡ suc c.in-Some.micros = omega arith in
-    (ap (λ (k : ℕ). Ok (moment_from k)) n ∙ (sym (ap (moment_read a.column) e) ∙ t), omega arith)
+    (sym (ap (moment_read a.column) e) ∙ t, moment_lt z c.in-Some.micros e)
 
 pub returns-in-None : goal.returns-in-None
 returns-in-None c =

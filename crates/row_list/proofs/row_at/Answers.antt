@@ -9,5 +9,5 @@ use Rattle.row_list.proofs.row_at.Goals as goal
 pub returns : goal.returns
 returns c =
     let a = c.args in
-    let e : c.row_end-end.result - (a.at + 2) ≡ first_size (drop a.at a.list.now) = omega arith in
+    let e : c.row_end.result - (a.at + 2) ≡ first_size (drop a.at a.list.now) = omega arith in
     rw (e, drop-drop)

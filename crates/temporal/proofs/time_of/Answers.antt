@@ -16,18 +16,21 @@ pub returns-then-seconds-ge86400 : goal.returns-then-seconds-ge86400
 returns-then-seconds-ge86400 c =
     late c.args.micros c.ranges.micros _ (rest_read c.args.micros c.ranges.micros) c.if-rest-lt0.false c.low_32-seconds.result (seconds-read c.args.micros c.ranges.micros c.low_32-seconds.ensures) c.if-seconds-ge86400.true
 
-pub overflow_cast-count-2 : goal.overflow_cast-count-2
-overflow_cast-count-2 c =
+pub overflow_cast-count : goal.overflow_cast-count
+overflow_cast-count c =
     rest_cast c.args.micros c.ranges.micros _ (rest_read c.args.micros c.ranges.micros) c.if-rest-lt0.false
 
 pub overflow_add-count : goal.overflow_add-count
 overflow_add-count c =
-    count_fits c.args.micros c.ranges.micros _ (rest_read c.args.micros c.ranges.micros) c.if-rest-lt0.false c.low_32-seconds.result (seconds-read c.args.micros c.ranges.micros c.low_32-seconds.ensures) c.if-seconds-ge86400.false
+    rw c.from.ensures
+    (count_fits c.args.micros c.ranges.micros _ (rest_read c.args.micros c.ranges.micros) c.if-rest-lt0.false c.low_32-seconds.result (seconds-read c.args.micros c.ranges.micros c.low_32-seconds.ensures) c.if-seconds-ge86400.false)
 
 pub overflow_cast-result : goal.overflow_cast-result
 overflow_cast-result c =
-    count-signed c.args.micros c.ranges.micros _ (rest_read c.args.micros c.ranges.micros) c.if-rest-lt0.false c.low_32-seconds.result (seconds-read c.args.micros c.ranges.micros c.low_32-seconds.ensures) c.if-seconds-ge86400.false
+    rw c.from.ensures
+    (count-signed c.args.micros c.ranges.micros _ (rest_read c.args.micros c.ranges.micros) c.if-rest-lt0.false c.low_32-seconds.result (seconds-read c.args.micros c.ranges.micros c.low_32-seconds.ensures) c.if-seconds-ge86400.false)
 
 pub returns : goal.returns
 returns c =
-    in_day c.args.micros c.ranges.micros _ (rest_read c.args.micros c.ranges.micros) c.if-rest-lt0.false c.low_32-seconds.result (seconds-read c.args.micros c.ranges.micros c.low_32-seconds.ensures) c.if-seconds-ge86400.false
+    rw c.from.ensures
+    (in_day c.args.micros c.ranges.micros _ (rest_read c.args.micros c.ranges.micros) c.if-rest-lt0.false c.low_32-seconds.result (seconds-read c.args.micros c.ranges.micros c.low_32-seconds.ensures) c.if-seconds-ge86400.false)
