@@ -145,7 +145,8 @@ fn store_value(ty: DataType, value: DataValue, area: &[u8], out: &mut [u8]) -> e
     place_value(ty, value, area, out)
 }
 
-fn store_list(schema: &[u8], list: &[u8], area: &[u8], out: &mut [u8]) -> error::Result<usize>
+// The stored form of a list's one value under a schema's one type, at the front of `out`: its length.
+pub fn store(schema: &[u8], list: &[u8], area: &[u8], out: &mut [u8]) -> error::Result<usize>
     ensures { (result, out.new) ≡ stored_list (only_type schema.now) list.now area.now out.old }
 {
     let ty = one_type(schema)?;
@@ -153,12 +154,12 @@ fn store_list(schema: &[u8], list: &[u8], area: &[u8], out: &mut [u8]) -> error:
     store_value(ty, value, area, out)
 }
 
-// The stored form of a list's one value under a schema's one type.
+// The same, with a number for the refusal.
 pub fn rook_probe_store(schema: &[u8], list: &[u8], area: &[u8], out: &mut [u8]) -> ValueProbe
     ensures { (result, out.new)
         ≡ stored_as (only_type schema.now) list.now area.now out.old }
 {
-    ValueProbe::from(store_list(schema, list, area, out))
+    ValueProbe::from(store(schema, list, area, out))
 }
 
 fn fits_slot(ty: DataType, size: usize) -> bool
@@ -196,18 +197,19 @@ fn read_value(ty: DataType, bytes: &[u8], start: usize, out: &mut [u8]) -> error
     }
 }
 
-fn read_one(schema: &[u8], bytes: &[u8], start: usize, out: &mut [u8]) -> error::Result<usize>
+// What bytes that stand at `start` of a row read as under a schema's one type: a value record, whose text area is the
+// row, at the front of `out`; its length.
+pub fn slot(schema: &[u8], bytes: &[u8], start: usize, out: &mut [u8]) -> error::Result<usize>
     ensures { (result, out.new) ≡ read_one (only_type schema.now) bytes.now start out.old }
 {
     let ty = one_type(schema)?;
     read_value(ty, bytes, start, out)
 }
 
-// What bytes that stand at `start` of a row read as under a schema's one type: a value record, whose text area is the
-// row.
+// The same, with a number for the refusal.
 pub fn rook_probe_slot(schema: &[u8], bytes: &[u8], start: usize, out: &mut [u8]) -> ValueProbe
     ensures { (result, out.new)
         ≡ read_as (only_type schema.now) bytes.now start out.old }
 {
-    ValueProbe::from(read_one(schema, bytes, start, out))
+    ValueProbe::from(slot(schema, bytes, start, out))
 }
