@@ -2,33 +2,19 @@
 // of a refusal.
 #![tactic(auto)]
 
-ghost use Rattle.std.specs.Prelude.{◌≤◌, length};
+use std::io::Write;
 
-// The descriptors of POSIX.
+// POSIX's descriptor of standard input.
 const STDIN_FILENO: i32 = 0;
-
-const STDOUT_FILENO: i32 = 1;
 
 // One byte more than a list may have: it is enough to refuse a longer one.
 const INPUT_LIMIT: usize = 32769;
 
-fn read_list(input: &mut [u8]) -> usize
-    ensures { result ≤ length input.new }
-{
-    if input.len() < INPUT_LIMIT {
-        return 0;
-    }
-    io::read_full(STDIN_FILENO, &mut input[..INPUT_LIMIT])
-}
-
 // A valid list needs at most 64,512 bytes of output, so that none is refused for the room.
-fn main() {
-    let mut input = io::large_buffer();
-    let n = read_list(&mut input);
+fn main(rt: HostRuntime) -> std::io::Result<()> {
+    let mut input = [0; INPUT_LIMIT];
+    let size = io::read_full(STDIN_FILENO, &mut input);
     let mut out = io::large_buffer();
-    if let Ok(size) = occupation_list::report(&input[..n], &mut out) {
-        if let Some(lines) = out.get(..size) {
-            io::write_all(STDOUT_FILENO, lines);
-        }
-    }
+    let printed = occupation_list::report(&input[..size], &mut out).unwrap_or(0);
+    std::io::writer(&rt).write_all(out.get(..printed).unwrap_or(&[]))
 }

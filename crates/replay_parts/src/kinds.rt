@@ -1,24 +1,45 @@
-// The kinds of recorded calls: a record's first byte, with PLANTED added where the answer was changed on purpose.
-pub const NOTE: u8 = 0;
+// The kinds of recorded calls.
 
-pub const TEXT: u8 = 1;
-
-pub const NULL_FLAG: u8 = 2;
-
-pub const LAYOUT: u8 = 3;
-
-pub const STORED: u8 = 4;
-
-pub const SLOT: u8 = 5;
-
-pub const READ: u8 = 6;
-
-pub const BUILT: u8 = 7;
-
-pub const FRESH: u8 = 8;
-
-pub const SET: u8 = 9;
-
-pub const SET_NULL: u8 = 10;
-
+// A record's first byte is its kind's number, with PLANTED added where the answer was changed on purpose.
 pub const PLANTED: u8 = 128;
+
+#[derive(Clone, Copy, Debug, PartialEq, Eq)]
+pub enum Kind {
+    Text,
+    NullFlag,
+    Layout,
+    Stored,
+    Slot,
+    Read,
+    Built,
+    Fresh,
+    Set,
+    SetNull,
+}
+
+// How many kinds there are.
+pub const KINDS: usize = 10;
+
+// A number of no kind.
+#[derive(Clone, Copy, Debug, PartialEq, Eq)]
+pub struct UnknownKind;
+
+impl TryFrom<u8> for Kind {
+    type Error = UnknownKind;
+
+    fn try_from(number: u8) -> Result<Kind, UnknownKind> {
+        Ok(match number {
+            1 => Kind::Text,
+            2 => Kind::NullFlag,
+            3 => Kind::Layout,
+            4 => Kind::Stored,
+            5 => Kind::Slot,
+            6 => Kind::Read,
+            7 => Kind::Built,
+            8 => Kind::Fresh,
+            9 => Kind::Set,
+            10 => Kind::SetNull,
+            _ => return Err(UnknownKind),
+        })
+    }
+}

@@ -1,7 +1,9 @@
 -- One type, one value: what the code knows of them where it calls on.
-use Rattle.std.specs.Prelude.{Err, None, Ok, Some}
+use Rattle.std.specs.Prelude.{⊤, Err, MatchOption, None, Ok, Option, Some}
 use Prim.Native.Nat.{ℕ, ◌≤◌}
-use mathlib.Core.Path.{◌≡◌, ◌∙◌}
+use mathlib.Core.Path.{◌≡◌, ◌∙◌, refl, ap, subst}
+use Rattle.std.specs.Result.{result_ok}
+use Rattle.error.specs.Result.{Result}
 use mathlib.Core.Bool.{true, false}
 use mathlib.Core.List.{List}
 use native.Mathlib.Omega.{arith}
@@ -17,7 +19,7 @@ use Rattle.value.specs.Ranges.{range_of, text_of}
 use Rattle.value_list.specs.Records.{record_at, NarrowRange}
 use Rattle.value_list.specs.Lists.{checked}
 use Rattle.value_list.proofs.Records.{range_narrow}
-use Rattle.value_list.proofs.Sole.{sole_value, refused-list}
+use Rattle.value_list.proofs.Sole.{sole_value}
 use Rattle.value_list.specs.InnerRecords.{Narrow}
 use Rattle.value_list.specs.InnerLists.{answer}
 use Rattle.stored_form.specs.Write.{accepted, stored_form}
@@ -28,12 +30,17 @@ use Rattle.rook_probe.specs.Values.{only_value, form_length, fits_slot}
 
 -- ---- a list's one value
 
+pub some_ok : {A : Type 0} {r : Result A} {x : A} → result_ok r ≡ Some x → r ≡ Ok x
+some_ok {A} {r = Ok y} {x} e = ap Ok (subst (λ (o : Option A). MatchOption o ⊤ (λ z. y ≡ z)) e refl)
+some_ok {r = Err d} e = absurd (subst (λ o. MatchOption o ⊤ (λ _. ⊥)) e tt)
+
+pub none_refused : {A : Type 0} {r : Result A} → result_ok r ≡ None → (d : Refusal) × (r ≡ Err d)
+none_refused {r = Ok y} e = absurd (subst (λ o. MatchOption o ⊥ (λ _. ⊤)) e tt)
+none_refused {r = Err d} e = (d, refl)
+
 module _ (area : ℕ) (s : List ℕ) where
   pub one_value_lem : (Ok tt) ≡ answer (checked false 1 area s) → (v : DataValue) (next : ℕ) → record_at s 0 ≡ Ok (v, next) → Some v ≡ only_value (checked false 1 area s)
   one_value_lem g v next e = rw (sole_value false area s g v next e)
-
-  pub none-good : (r : Refusal) → answer (checked false 1 area s) ≡ Err r → None ≡ only_value (checked false 1 area s)
-  none-good r e = rw (refused-list false area s (checked false 1 area s) r e)
 
 -- ---- a stored form's length
 

@@ -18,6 +18,7 @@ ghost use Rattle.rook_row.specs.Answers.{row_answer, row_outcome, counted_outcom
 ghost use Rattle.rook_row.specs.Version.{version};
 
 use row_handle::RowHandle;
+use value::TextRange;
 
 #[repr(C)]
 #[derive(Clone, Copy)]
@@ -27,12 +28,51 @@ pub struct RowAnswer {
     pub length: usize,
 }
 
+impl RowAnswer {
+    // A refusal hands out `otherwise`.
+    fn new(answer: error::Result<usize>, otherwise: usize) -> RowAnswer
+        ensures { result ≡ row_answer otherwise answer }
+    {
+        match answer {
+            Ok(length) => RowAnswer {
+                number: 0,
+                place: 0,
+                length,
+            },
+            Err(e) => RowAnswer {
+                number: e.number(),
+                place: e.place(),
+                length: otherwise,
+            },
+        }
+    }
+}
+
 #[repr(C)]
 #[derive(Clone, Copy)]
 pub struct FlagAnswer {
     pub number: u32,
     pub place: usize,
     pub flag: usize,
+}
+
+impl From<error::Result<bool>> for FlagAnswer {
+    ghost from_gives = { λ given answer. answer ≡ flag_answer given };
+
+    fn from(given: error::Result<bool>) -> FlagAnswer {
+        match given {
+            Ok(flag) => FlagAnswer {
+                number: 0,
+                place: 0,
+                flag: usize::from(flag),
+            },
+            Err(e) => FlagAnswer {
+                number: e.number(),
+                place: e.place(),
+                flag: 0,
+            },
+        }
+    }
 }
 
 #[repr(C)]
@@ -44,6 +84,27 @@ pub struct TextAnswer {
     pub length: usize,
 }
 
+impl From<error::Result<TextRange>> for TextAnswer {
+    ghost from_gives = { λ given answer. answer ≡ text_answer given };
+
+    fn from(given: error::Result<TextRange>) -> TextAnswer {
+        match given {
+            Ok(part) => TextAnswer {
+                number: 0,
+                place: 0,
+                start: part.start,
+                length: part.length,
+            },
+            Err(e) => TextAnswer {
+                number: e.number(),
+                place: e.place(),
+                start: 0,
+                length: 0,
+            },
+        }
+    }
+}
+
 #[repr(C)]
 #[derive(Clone, Copy)]
 pub struct CheckAnswer {
@@ -51,38 +112,17 @@ pub struct CheckAnswer {
     pub points: usize,
 }
 
-// A refusal hands out `otherwise`.
-fn row_answer(answer: error::Result<usize>, otherwise: usize) -> RowAnswer
-    ensures { result ≡ row_answer otherwise answer }
-{
-    match answer {
-        Ok(n) => RowAnswer {
-            number: 0,
-            place: 0,
-            length: n,
-        },
-        Err(e) => RowAnswer {
-            number: e.number(),
-            place: e.place(),
-            length: otherwise,
-        },
-    }
-}
+impl From<Option<usize>> for CheckAnswer {
+    ghost from_gives = { λ points answer. answer ≡ check_answer points };
 
-fn flag_answer(answer: error::Result<bool>) -> FlagAnswer
-    ensures { result ≡ flag_answer answer }
-{
-    match answer {
-        Ok(b) => FlagAnswer {
-            number: 0,
-            place: 0,
-            flag: b as usize,
-        },
-        Err(e) => FlagAnswer {
-            number: e.number(),
-            place: e.place(),
-            flag: 0,
-        },
+    fn from(points: Option<usize>) -> CheckAnswer {
+        match points {
+            Some(points) => CheckAnswer { valid: 1, points },
+            None => CheckAnswer {
+                valid: 0,
+                points: 0,
+            },
+        }
     }
 }
 
@@ -91,7 +131,7 @@ pub fn rook_row_fresh(schema: &[u8], is_long: bool, out: &mut [u8]) -> RowAnswer
     ensures { (result, out.new)
         ≡ row_outcome 0 (fresh_call is_long schema.now out.old) }
 {
-    row_answer(row_build::fresh(schema, is_long, out), 0)
+    RowAnswer::new(row_build::fresh(schema, is_long, out), 0)
 }
 
 // The row of a value list at the front of `out`, long or short as the caller chooses; `length` is its length. The
@@ -109,7 +149,7 @@ pub fn rook_row_build(
         (build_call is_long schema.now values.now text.now
         out.old counts.old) }
 {
-    row_answer(
+    RowAnswer::new(
         row_build::serialize_nullable_typed_row(schema, is_long, values, text, out, counts),
         0,
     )
@@ -129,7 +169,7 @@ pub fn rook_row_read(
         (read_call schema.now row.now wanted.now
         out.old counts.old) }
 {
-    row_answer(row_decode::decode(schema, row, wanted, out, counts), 0)
+    RowAnswer::new(row_decode::decode(schema, row, wanted, out, counts), 0)
 }
 
 // Column `column` of the row in the first `row_length` bytes of `buf` set to the one value of the list; `length` is
@@ -147,7 +187,7 @@ pub fn rook_row_set(
         (set_call schema.now buf.old row_length column
         values.now text.now) }
 {
-    row_answer(
+    RowAnswer::new(
         row_edit::set_value(schema, buf, row_length, column, values, text),
         row_length,
     )
@@ -164,53 +204,10 @@ pub fn rook_row_set_null(
         ≡ row_outcome row_length
         (set_null_call schema.now buf.old row_length column) }
 {
-    row_answer(
+    RowAnswer::new(
         row_edit::set_null(schema, buf, row_length, column),
         row_length,
     )
-}
-
-// An answer, and the handle after the call.
-#[derive(Clone, Copy)]
-pub struct HandleAnswer {
-    pub answer: RowAnswer,
-    pub handle: RowHandle,
-}
-
-fn handle_value(
-    schema: &[u8],
-    buf: &mut [u8],
-    handle: RowHandle,
-    column: usize,
-    values: &[u8],
-    text: &[u8],
-) -> HandleAnswer
-    ensures { (result.answer, (buf.new, result.handle))
-        ≡ handle_outcome handle.length
-        (handle_set schema.now buf.old handle column
-        values.now text.now) }
-{
-    let edited = row_handle::with_value(schema, buf, handle, column, values, text);
-    let answer = edited.answer;
-    let next = edited.handle;
-    HandleAnswer {
-        answer: row_answer(answer, handle.length),
-        handle: next,
-    }
-}
-
-fn handle_null(schema: &[u8], buf: &mut [u8], handle: RowHandle, column: usize) -> HandleAnswer
-    ensures { (result.answer, (buf.new, result.handle))
-        ≡ handle_outcome handle.length
-        (handle_set_null schema.now buf.old handle column) }
-{
-    let edited = row_handle::with_null(schema, buf, handle, column);
-    let answer = edited.answer;
-    let next = edited.handle;
-    HandleAnswer {
-        answer: row_answer(answer, handle.length),
-        handle: next,
-    }
 }
 
 // As `rook_row_set`, on the row of a handle: its length is the handle's, which an accepted call changes, with the
@@ -228,10 +225,10 @@ pub fn rook_row_handle_set(
         (handle_set schema.now buf.old handle.old
         column values.now text.now) }
 {
-    let before = *handle;
-    let edited = handle_value(schema, buf, before, column, values, text);
+    let edited = row_handle::with_value(schema, buf, *handle, column, values, text);
+    let answer = RowAnswer::new(edited.answer, handle.length);
     *handle = edited.handle;
-    edited.answer
+    answer
 }
 
 // As `rook_row_set_null`, on the row of a handle.
@@ -246,30 +243,17 @@ pub fn rook_row_handle_set_null(
         (handle_set_null schema.now buf.old handle.old
         column) }
 {
-    let before = *handle;
-    let edited = handle_null(schema, buf, before, column);
+    let edited = row_handle::with_null(schema, buf, *handle, column);
+    let answer = RowAnswer::new(edited.answer, handle.length);
     *handle = edited.handle;
-    edited.answer
+    answer
 }
 
 // The text of a column: where it stands in the row. A null has number 0 and an empty range at 0.
 pub fn rook_row_text(schema: &[u8], row: &[u8], column: usize) -> TextAnswer
     ensures { result ≡ text_answer (text_call schema.now row.now column) }
 {
-    match row_text::column_text(schema, row, column) {
-        Ok(part) => TextAnswer {
-            number: 0,
-            place: 0,
-            start: part.start,
-            length: part.length,
-        },
-        Err(e) => TextAnswer {
-            number: e.number(),
-            place: e.place(),
-            start: 0,
-            length: 0,
-        },
-    }
+    TextAnswer::from(row_text::column_text(schema, row, column))
 }
 
 // Whether two rows of one schema have the same content: 1 or 0 in `flag`.
@@ -277,34 +261,28 @@ pub fn rook_row_same_content(schema: &[u8], a: &[u8], b: &[u8]) -> FlagAnswer
     ensures { result
         ≡ flag_answer (same_call schema.now a.now b.now) }
 {
-    flag_answer(row_same::same_content(schema, a, b))
+    FlagAnswer::from(row_same::same_content(schema, a, b))
 }
 
 // Whether a column of a row is null: 1 or 0 in `flag`.
 pub fn rook_row_is_null(row: &[u8], column: usize) -> FlagAnswer
     ensures { result ≡ flag_answer (null_flag row.now column) }
 {
-    flag_answer(null_bitmap::is_column_null_in_row(row, column))
+    FlagAnswer::from(null_bitmap::is_column_null_in_row(row, column))
 }
 
 // Whether bytes are text, 1 or 0, and how many code points it has.
 pub fn rook_text_check(s: &[u8]) -> CheckAnswer
     ensures { result ≡ check_answer (check_of (code_points s.now)) }
 {
-    match text::check(s) {
-        Some(points) => CheckAnswer { valid: 1, points },
-        None => CheckAnswer {
-            valid: 0,
-            points: 0,
-        },
-    }
+    CheckAnswer::from(text::check(s))
 }
 
 // The lines of a list of platform occupations at the front of `out`; `length` is their length.
 pub fn rook_occupations_print(list: &[u8], out: &mut [u8]) -> RowAnswer
     ensures { (result, out.new) ≡ row_outcome 0 (print_call list.now out.old) }
 {
-    row_answer(occupation_list::print(list, out), 0)
+    RowAnswer::new(occupation_list::print(list, out), 0)
 }
 
 // The version of this interface, 0.4.0, with a byte for each of its numbers.

@@ -1,24 +1,18 @@
 use mathlib.Core.Bool.{false}
-use Rattle.rook_probe.proofs.Single.{one_value_lem, none-good}
-use Rattle.value_list.proofs.Sole.{sole_there, sole_good}
 use mathlib.Core.Path.{sym, ◌∙◌}
+use Rattle.rook_probe.proofs.Single.{some_ok, none_refused, one_value_lem}
+use Rattle.value_list.proofs.Sole.{sole_there, sole_good}
 use Rattle.rook_probe.proofs.one_value.Goals as goal
 
 pub value_record_at-requires : goal.value_record_at-requires
 value_record_at-requires c =
-    sole_there false c.args.area c.args.list.now (sym c.in-Ok.is ∙ c.check_values.ensures)
+    sole_there false c.args.area c.args.list.now (sym (some_ok (sym c.ok.ensures.value ∙ c.in_ok-ok.was)) ∙ c.check_values.ensures)
 
-pub returns-in-Ok-value_record_at : goal.returns-in-Ok-value_record_at
-returns-in-Ok-value_record_at c =
-    let a = c.args in
-    one_value_lem a.area a.list.now (sym c.in-Ok.is ∙ c.check_values.ensures) _ _ (sym c.value_record_at.ensures ∙ c.in-Ok-value_record_at.is)
+pub returns-in_err-value : goal.returns-in_err-value
+returns-in_err-value c =
+    let p = none_refused (sym c.ok-2.ensures.value ∙ c.in_err-value.was) in
+    absurd (sole_good false c.args.area c.args.list.now (sym (some_ok (sym c.ok.ensures.value ∙ c.in_ok-ok.was)) ∙ c.check_values.ensures) p.0 (sym c.value_record_at.ensures ∙ p.1))
 
-pub returns-in-Err-value_record_at : goal.returns-in-Err-value_record_at
-returns-in-Err-value_record_at c =
-    let a = c.args in
-    absurd (sole_good false a.area a.list.now (sym c.in-Ok.is ∙ c.check_values.ensures) _ (sym c.value_record_at.ensures ∙ c.in-Err-value_record_at.is))
-
-pub returns-in-Err : goal.returns-in-Err
-returns-in-Err c =
-    let a = c.args in
-    none-good a.area a.list.now _ (sym c.check_values.ensures ∙ c.in-Err.is)
+pub returns : goal.returns
+returns c =
+    one_value_lem c.args.area c.args.list.now (sym (some_ok (sym c.ok.ensures.value ∙ c.in_ok-ok.was)) ∙ c.check_values.ensures) _ _ (sym c.value_record_at.ensures ∙ some_ok (sym c.ok-2.ensures.value ∙ c.in_ok-value.was))
