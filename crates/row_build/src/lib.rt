@@ -87,17 +87,15 @@ fn row_length(schema: &[u8], layout: RowLayout, values: &[u8], text: &[u8]) -> e
         return Err(Refusal::BadValueList(0));
     }
     let mut size = layout.min_row_size(true);
-    let mut column = 0;
     let mut at = 0;
     let mut from = 0;
-    while column < layout.num_columns {
+    for column in 0..layout.num_columns {
         let length = record_slot::record_length(values, from);
         if length == 0 {
             return Err(Refusal::BadValueList(from));
         }
         let n = record_slot::payload_at(schema, at, column, values, from, text)?;
         size += n;
-        column += 1;
         at = record_slot::after_column(schema, at);
         from += length;
     }
@@ -219,13 +217,12 @@ fn write_columns(
         ≡ sets counts.old 0
         (counts_given schema.now values.now text.now)) }
 {
-    let mut column = 0;
     let mut at = 0;
     let mut from = 0;
     let mut slot = layout.fixed_data_start();
     let mut entry = layout.varlen_table_offset();
     let mut end = layout.min_row_size(true);
-    while column < layout.num_columns {
+    for column in 0..layout.num_columns {
         let columns = layout.num_columns;
         end = write_column(
             schema,
@@ -247,7 +244,6 @@ fn write_columns(
         entry += record_slot::entry_size(value::held_kind(schema[at]), layout.is_long);
         at = record_slot::after_column(schema, at);
         from = from + 1 + value_list::body_length(values[from]);
-        column += 1;
     }
 }
 
@@ -272,10 +268,7 @@ fn place_row(
     if row_layout::row_limit(layout.is_long) < n {
         return Err(Refusal::RowLimit);
     }
-    if out.len() < n {
-        return Err(Refusal::NoRoom);
-    }
-    if counts.len() < layout.num_columns {
+    if out.len() < n || counts.len() < layout.num_columns {
         return Err(Refusal::NoRoom);
     }
     write_nulls(layout, out);
