@@ -79,6 +79,7 @@ impl Body<'_> {
     }
 }
 
+// Stays: beside `bits_suit`: the last test reads the bytes here, and only counts them there.
 // Whether a body's range is a text of at most n bytes or code points.
 fn text_suits(body: Body, by_points: bool, n: usize, text: &[u8]) -> bool
     requires { body.at + 2 * offset_width body.is_long ≤ length body.values.now }
@@ -323,6 +324,7 @@ pub fn write_slot(
 }
 
 // The code points of a text.
+// Stays: beside `char_points`, which adds the blanks to it.
 fn text_points(body: Body, text: &[u8]) -> usize
     requires { (body.at + 2 * offset_width body.is_long ≤ length body.values.now)
         × TextThere (range_at (offset_width body.is_long) body.values.now body.at) text.now }

@@ -24,6 +24,7 @@ fn bool_record(bytes: &[u8], out: &mut [u8], at: usize) -> error::Result<(usize,
     Ok((record_encode::write_8(out, at, value_kinds::BOOL, byte), 0))
 }
 
+// Stays: beside `timestamp_record`: each has its own width and test, and one function would take both as arguments.
 fn date_record(i: usize, bytes: &[u8], out: &mut [u8], at: usize) -> error::Result<(usize, u32)>
     requires { (length bytes.now ≡ 4) × (at + 18 ≤ length out.old) }
     ensures { (k : Bool) → (result, out.new)
@@ -166,6 +167,7 @@ fn text_record(
 }
 
 // The bytes of a Char or Character.
+// Stays: beside `varchar_record`: the contracts name two types, and both are one call of `text_record`.
 pub fn char_record(
     i: usize,
     part: RowPart,
