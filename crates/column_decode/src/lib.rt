@@ -150,7 +150,6 @@ fn decode_body(
             end,
         );
     }
-    // Stays: two arms with one body: in a joined one the type is not known, and the proof did not close (tried).
     match kind {
         schema_kinds::CHAR => {
             let n = endian::read_u16(schema, at + 1) as usize;
