@@ -15,6 +15,7 @@ ghost use Rattle.column_decode.specs.InnerColumn.{stepped, no_points, DecodeAt};
 use datatype::schema_kinds;
 use error::Refusal;
 use row_layout::{RowLayout, VarlenRange};
+use slot_record::RowPart;
 use value::DataValue;
 
 fn write_column(
@@ -53,7 +54,13 @@ fn decode_varchar(
     match row_layout::varlen_range(row, is_long, table, varlens, rank) {
         VarlenRange::Null => Ok((record_encode::write_null(buf, end), 0)),
         VarlenRange::Bytes(start, stop) => {
-            slot_record::varchar_record(by_points, n, i, row, is_long, start, stop, buf, end)
+            let part = RowPart {
+                row,
+                is_long,
+                start,
+                end: stop,
+            };
+            slot_record::varchar_record(by_points, n, i, part, buf, end)
         }
         VarlenRange::Outside => Err(Refusal::BadRange(i)),
     }
@@ -77,8 +84,13 @@ fn decode_char(
         (walked_place layout packed before (CharType n)) (walked_place layout packed before (CharType n) + n)) }
 {
     let start = layout.fixed_data_start() + before.slot_start(packed, 1);
-    let is_long = layout.is_long;
-    slot_record::char_record(before.num_columns, row, is_long, start, start + n, buf, end)
+    let part = RowPart {
+        row,
+        is_long: layout.is_long,
+        start,
+        end: start + n,
+    };
+    slot_record::char_record(before.num_columns, part, buf, end)
 }
 
 // The other types with a body, by their value, which is no text.

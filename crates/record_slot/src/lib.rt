@@ -13,13 +13,13 @@ ghost use Rattle.datatype.specs.InnerSteps.{type_in};
 ghost use Rattle.value.specs.Kinds.{plain_kind};
 ghost use Rattle.value.specs.Ranges.{part};
 ghost use Rattle.record_slot.specs.Stored.{is_null};
-ghost use Rattle.value_list.specs.Records.{numeric_at, range_at, record_at as valueRecordAt};
+ghost use Rattle.value_list.specs.Records.{numeric_at, range_at, record_at as valueRecordAt, NarrowRange};
 ghost use Rattle.value_list.specs.InnerSizes.{body_in};
 ghost use Rattle.record_slot.specs.InnerSteps.{length_at, HasType, Readable, declared_at, after_column, text_suits, bits_suit, number_suits, suits_at, Testable, payload_length, payload_in, Short, value_in, form_in, blank_filled, number_stored, bits_stored, SlotReady, NumberReady, TextThere, Suited, points_stored};
 
 use datatype::schema_kinds;
 use error::Refusal;
-use value::value_kinds;
+use value::{TextRange, value_kinds};
 
 // The two bytes after the kind of a column, a length or precision and scale; 0 where the record is too short for them.
 fn declared_length(schema: &[u8], at: usize) -> usize
@@ -61,39 +61,47 @@ pub fn record_length(values: &[u8], from: usize) -> usize
     1 + body
 }
 
-// Whether the range at a place of the list, its numbers of four bytes or of two, is a text of at most n bytes or code
-// points.
-fn text_suits(
-    values: &[u8],
+// The body of a value's record, at a place of the list. The numbers of its range have four bytes or two.
+#[derive(Clone, Copy)]
+struct Body<'v> {
+    values: &'v [u8],
+    at: usize,
     is_long: bool,
-    body: usize,
-    by_points: bool,
-    n: usize,
-    text: &[u8],
-) -> bool
-    requires { body + 2 * offset_width is_long ≤ length values.now }
+}
+
+impl Body<'_> {
+    fn range(self) -> TextRange
+        requires { self.at + 2 * offset_width self.is_long ≤ length self.values.now }
+        ensures { (result ≡ range_at (offset_width self.entry.is_long) self.entry.values.now self.entry.at)
+            × NarrowRange 4 result }
+    {
+        value_list::range_at(self.values, self.is_long, self.at)
+    }
+}
+
+// Stays: beside `bits_suit`: the last test reads the bytes here, and only counts them there.
+// Whether a body's range is a text of at most n bytes or code points.
+fn text_suits(body: Body, by_points: bool, n: usize, text: &[u8]) -> bool
+    requires { body.at + 2 * offset_width body.is_long ≤ length body.values.now }
     ensures { result
-        ≡ text_suits by_points n (range_at (offset_width is_long) values.now body)
-        text.now }
+        ≡ text_suits by_points n
+        (range_at (offset_width body.entry.is_long) body.entry.values.now body.entry.at) text.now }
 {
-    let range = value_list::range_at(values, is_long, body);
-    let start = range.start;
-    let length = range.length;
+    let TextRange { start, length } = body.range();
     if text.len() < start + length {
         return false;
     }
     text_limit::is_within(&text[start..start + length], by_points, n)
 }
 
-// Whether the range at a place of the list is a bit string of as many bytes as n bits fill.
-fn bits_suit(values: &[u8], is_long: bool, body: usize, n: usize, text: &[u8]) -> bool
-    requires { (body + 2 * offset_width is_long ≤ length values.now) × (n ≤ 65535) }
+// Whether a body's range is a bit string of as many bytes as n bits fill.
+fn bits_suit(body: Body, n: usize, text: &[u8]) -> bool
+    requires { (body.at + 2 * offset_width body.is_long ≤ length body.values.now) × (n ≤ 65535) }
     ensures { result
-        ≡ bits_suit n (range_at (offset_width is_long) values.now body) text.now }
+        ≡ bits_suit n (range_at (offset_width body.entry.is_long) body.entry.values.now body.entry.at)
+        text.now }
 {
-    let range = value_list::range_at(values, is_long, body);
-    let start = range.start;
-    let length = range.length;
+    let TextRange { start, length } = body.range();
     if text.len() < start + length {
         return false;
     }
@@ -112,42 +120,35 @@ fn number_suits(values: &[u8], body: usize, n: usize) -> bool
     )
 }
 
-// Whether a column that was declared with n holds a value of its kind, whose body stands at a place of the list; of a
-// Varchar n counts bytes or code points.
-fn suits_at(
-    by_points: bool,
-    is_long: bool,
-    kind: u8,
-    n: usize,
-    values: &[u8],
-    body: usize,
-    text: &[u8],
-) -> bool
-    requires { Testable is_long kind n values.now body }
+// Whether a column that was declared with n holds a value of its kind, of which this is the body; of a Varchar n counts
+// bytes or code points.
+fn suits_at(by_points: bool, kind: u8, n: usize, body: Body, text: &[u8]) -> bool
+    requires { Testable body.is_long kind n body.values.now body.at }
     ensures { result
-        ≡ suits_at by_points (offset_width is_long) kind n values.now body text.now }
+        ≡ suits_at by_points (offset_width body.entry.is_long) kind n body.entry.values.now body.entry.at
+        text.now }
 {
     match kind {
-        value_kinds::NUMERIC => number_suits(values, body, n),
-        value_kinds::BOOL => values[body] <= 1,
-        value_kinds::CHAR => text_suits(values, is_long, body, false, n, text),
-        value_kinds::VARCHAR => text_suits(values, is_long, body, by_points, n, text),
-        value_kinds::DATE => temporal::is_date(endian::read_i32(values, body)),
-        value_kinds::TIME => temporal::is_time(endian::read_i64(values, body)),
-        value_kinds::BIT => bits_suit(values, is_long, body, n, text),
-        value_kinds::TIMESTAMP => temporal::is_timestamp(endian::read_i64(values, body)),
+        value_kinds::NUMERIC => number_suits(body.values, body.at, n),
+        value_kinds::BOOL => body.values[body.at] <= 1,
+        value_kinds::CHAR => text_suits(body, false, n, text),
+        value_kinds::VARCHAR => text_suits(body, by_points, n, text),
+        value_kinds::DATE => temporal::is_date(endian::read_i32(body.values, body.at)),
+        value_kinds::TIME => temporal::is_time(endian::read_i64(body.values, body.at)),
+        value_kinds::BIT => bits_suit(body, n, text),
+        value_kinds::TIMESTAMP => temporal::is_timestamp(endian::read_i64(body.values, body.at)),
         _ => true,
     }
 }
 
-// The payload of a value whose body stands at a place of the list.
-fn payload_length(kind: u8, is_long: bool, values: &[u8], body: usize) -> usize
-    requires { body + body_in is_long kind ≤ length values.now }
-    ensures { result ≡ payload_length (offset_width is_long) kind values.now body }
+// The payload of a value of this kind.
+fn payload_length(kind: u8, body: Body) -> usize
+    requires { body.at + body_in body.is_long kind ≤ length body.values.now }
+    ensures { result
+        ≡ payload_length (offset_width body.entry.is_long) kind body.entry.values.now body.entry.at }
 {
     if kind == value_kinds::VARCHAR {
-        let range = value_list::range_at(values, is_long, body);
-        return range.length;
+        return body.range().length;
     }
     0
 }
@@ -185,17 +186,14 @@ pub fn payload_at(
         return Err(Refusal::WrongKind(column));
     }
     let is_long = value::is_long_kind(given);
-    let by_points = column_kind == schema_kinds::VARCHAR_CHARS;
-    if suits_at(
-        by_points,
-        is_long,
-        kind,
-        declared_length(schema, at),
+    let body = Body {
         values,
-        from + 1,
-        text,
-    ) {
-        return Ok(payload_length(kind, is_long, values, from + 1));
+        at: from + 1,
+        is_long,
+    };
+    let by_points = column_kind == schema_kinds::VARCHAR_CHARS;
+    if suits_at(by_points, kind, declared_length(schema, at), body, text) {
+        return Ok(payload_length(kind, body));
     }
     Err(Refusal::Unsuitable(column))
 }
@@ -229,26 +227,18 @@ pub fn entry_size(kind: u8, is_long: bool) -> usize
     0
 }
 
-// A Char's text, whose range stands at a place of the list, and blanks up to n bytes.
-fn write_char(
-    out: &mut [u8],
-    slot: usize,
-    n: usize,
-    values: &[u8],
-    is_long: bool,
-    body: usize,
-    text: &[u8],
-)
-    requires { (body + 2 * offset_width is_long ≤ length values.now)
+// A Char's text and blanks up to n bytes.
+fn write_char(out: &mut [u8], slot: usize, n: usize, body: Body, text: &[u8])
+    requires { (body.at + 2 * offset_width body.is_long ≤ length body.values.now)
         × ((slot + n ≤ length out.old)
-        × (text_suits false n (range_at (offset_width is_long) values.now body) text.now ≡ true)) }
+        × (text_suits false n (range_at (offset_width body.is_long) body.values.now body.at) text.now
+        ≡ true)) }
     ensures { out.new
         ≡ sets out.old slot
-        (blank_filled n (part text.now (range_at (offset_width is_long) values.now body))) }
+        (blank_filled n
+        (part text.now (range_at (offset_width body.entry.is_long) body.entry.values.now body.entry.at))) }
 {
-    let range = value_list::range_at(values, is_long, body);
-    let start = range.start;
-    let length = range.length;
+    let TextRange { start, length } = body.range();
     value_encode::write_char(out, slot, &text[start..start + length], n);
 }
 
@@ -263,26 +253,18 @@ fn write_number(out: &mut [u8], slot: usize, p: usize, values: &[u8], body: usiz
     value_encode::write_number(out, slot, n.high, n.low, p);
 }
 
-// The n bits whose range stands at a place of the list.
-fn write_bits(
-    out: &mut [u8],
-    slot: usize,
-    n: usize,
-    values: &[u8],
-    is_long: bool,
-    body: usize,
-    text: &[u8],
-)
-    requires { (body + 2 * offset_width is_long ≤ length values.now)
+// The n bits of a body's range.
+fn write_bits(out: &mut [u8], slot: usize, n: usize, body: Body, text: &[u8])
+    requires { (body.at + 2 * offset_width body.is_long ≤ length body.values.now)
         × ((slot + bytes_for n ≤ length out.old)
-        × (bits_suit n (range_at (offset_width is_long) values.now body) text.now ≡ true)) }
+        × (bits_suit n (range_at (offset_width body.is_long) body.values.now body.at) text.now
+        ≡ true)) }
     ensures { out.new
         ≡ sets out.old slot
-        (bits_stored n (part text.now (range_at (offset_width is_long) values.now body))) }
+        (bits_stored n
+        (part text.now (range_at (offset_width body.entry.is_long) body.entry.values.now body.entry.at))) }
 {
-    let range = value_list::range_at(values, is_long, body);
-    let start = range.start;
-    let length = range.length;
+    let TextRange { start, length } = body.range();
     value_encode::write_bits(out, slot, &text[start..start + length], n);
 }
 
@@ -306,55 +288,61 @@ pub fn write_slot(
     let given = values[from];
     let kind = value::held_kind(schema[at]);
     let is_long = value::is_long_kind(given);
-    let body = from + 1;
+    let place = from + 1;
+    let body = Body {
+        values,
+        at: place,
+        is_long,
+    };
     let n = declared_length(schema, at);
     match kind {
-        value_kinds::SMALL_INT => endian::write_u16(out, slot, endian::read_u16(values, body)),
-        value_kinds::INT => endian::write_u32(out, slot, endian::read_u32(values, body)),
-        value_kinds::BIG_INT => endian::write_u64(out, slot, endian::read_u64(values, body)),
-        value_kinds::REAL => endian::write_u32(out, slot, endian::read_u32(values, body)),
+        value_kinds::SMALL_INT => endian::write_u16(out, slot, endian::read_u16(values, place)),
+        value_kinds::INT => endian::write_u32(out, slot, endian::read_u32(values, place)),
+        value_kinds::BIG_INT => endian::write_u64(out, slot, endian::read_u64(values, place)),
+        value_kinds::REAL => endian::write_u32(out, slot, endian::read_u32(values, place)),
         value_kinds::DOUBLE_PRECISION => endian::write_u64(
             out,
             slot,
-            endian::read_u64(values, body),
+            endian::read_u64(values, place),
         ),
-        value_kinds::NUMERIC => write_number(out, slot, n % 256, values, body),
-        value_kinds::BOOL => out[slot] = values[body],
-        value_kinds::CHAR => write_char(out, slot, n, values, is_long, body, text),
-        value_kinds::DATE => endian::write_u32(out, slot, endian::read_u32(values, body)),
-        value_kinds::TIME => endian::write_u64(out, slot, endian::read_u64(values, body)),
-        value_kinds::BIT => write_bits(out, slot, n, values, is_long, body, text),
-        value_kinds::TIMESTAMP => endian::write_u64(out, slot, endian::read_u64(values, body)),
+        value_kinds::NUMERIC => write_number(out, slot, n % 256, values, place),
+        value_kinds::BOOL => out[slot] = values[place],
+        value_kinds::CHAR => write_char(out, slot, n, body, text),
+        value_kinds::DATE => endian::write_u32(out, slot, endian::read_u32(values, place)),
+        value_kinds::TIME => endian::write_u64(out, slot, endian::read_u64(values, place)),
+        value_kinds::BIT => write_bits(out, slot, n, body, text),
+        value_kinds::TIMESTAMP => endian::write_u64(out, slot, endian::read_u64(values, place)),
         _ => {}
     }
 }
 
-// The code points of the text whose range stands at a place of the list.
-fn text_points(values: &[u8], is_long: bool, body: usize, text: &[u8]) -> usize
-    requires { (body + 2 * offset_width is_long ≤ length values.now)
-        × TextThere (range_at (offset_width is_long) values.now body) text.now }
+// The code points of a text.
+// Stays: beside `char_points`, which adds the blanks to it.
+fn text_points(body: Body, text: &[u8]) -> usize
+    requires { (body.at + 2 * offset_width body.is_long ≤ length body.values.now)
+        × TextThere (range_at (offset_width body.is_long) body.values.now body.at) text.now }
     ensures { (result
-        ≡ points (part text.now (range_at (offset_width is_long) values.now body)))
+        ≡ points (part text.now
+        (range_at (offset_width body.entry.is_long) body.entry.values.now body.entry.at)))
         × (result < 4294967296) }
 {
-    let range = value_list::range_at(values, is_long, body);
-    let start = range.start;
-    let length = range.length;
+    let TextRange { start, length } = body.range();
     text::count_points(&text[start..start + length])
 }
 
 // With the blanks up to n bytes, each of which is one.
-fn char_points(values: &[u8], is_long: bool, body: usize, n: usize, text: &[u8]) -> usize
-    requires { (body + 2 * offset_width is_long ≤ length values.now)
+fn char_points(body: Body, n: usize, text: &[u8]) -> usize
+    requires { (body.at + 2 * offset_width body.is_long ≤ length body.values.now)
         × ((n ≤ 65535)
-        × (text_suits false n (range_at (offset_width is_long) values.now body) text.now ≡ true)) }
+        × (text_suits false n (range_at (offset_width body.is_long) body.values.now body.at) text.now
+        ≡ true)) }
     ensures { (result
-        ≡ points (blank_filled n
-        (part text.now (range_at (offset_width is_long) values.now body))))
+        ≡ points (blank_filled n (part text.now
+        (range_at (offset_width body.entry.is_long) body.entry.values.now body.entry.at))))
         × (result ≤ n) }
 {
-    let range = value_list::range_at(values, is_long, body);
-    text_points(values, is_long, body, text) + (n - range.length)
+    let range = body.range();
+    text_points(body, text) + (n - range.length)
 }
 
 // The code points of a column's text, as stored; 0 for a null and where the value is no text.
@@ -372,12 +360,14 @@ pub fn points_at(schema: &[u8], at: usize, values: &[u8], from: usize, text: &[u
     }
     let kind = value::held_kind(schema[at]);
     let is_long = value::is_long_kind(given);
-    let body = from + 1;
+    let body = Body {
+        values,
+        at: from + 1,
+        is_long,
+    };
     match kind {
-        value_kinds::CHAR => {
-            char_points(values, is_long, body, declared_length(schema, at), text) as u32
-        }
-        value_kinds::VARCHAR => text_points(values, is_long, body, text) as u32,
+        value_kinds::CHAR => char_points(body, declared_length(schema, at), text) as u32,
+        value_kinds::VARCHAR => text_points(body, text) as u32,
         _ => 0,
     }
 }

@@ -87,17 +87,15 @@ fn row_length(schema: &[u8], layout: RowLayout, values: &[u8], text: &[u8]) -> e
         return Err(Refusal::BadValueList(0));
     }
     let mut size = layout.min_row_size(true);
-    let mut column = 0;
     let mut at = 0;
     let mut from = 0;
-    while column < layout.num_columns {
+    for column in 0..layout.num_columns {
         let length = record_slot::record_length(values, from);
         if length == 0 {
             return Err(Refusal::BadValueList(from));
         }
         let n = record_slot::payload_at(schema, at, column, values, from, text)?;
         size += n;
-        column += 1;
         at = record_slot::after_column(schema, at);
         from += length;
     }
@@ -144,23 +142,22 @@ fn write_varchar(
     range: TextRange,
     text: &[u8],
     out: &mut [u8],
-    is_long: bool,
-    columns: usize,
+    layout: RowLayout,
     column: usize,
     entry: usize,
     end: usize,
 ) -> usize
-    requires { PayloadReady is_long range text.now entry end (length out.old)
-        × BitReady columns column (length out.old) }
+    requires { PayloadReady layout.is_long range text.now entry end (length out.old)
+        × BitReady layout.num_columns column (length out.old) }
     ensures { (result ≡ end + range.length)
         × (out.new
-        ≡ varlen_stored is_long column entry (part text.now range) end out.old) }
+        ≡ varlen_stored layout.is_long column entry (part text.now range) end out.old) }
 {
     let start = range.start;
     let length = range.length;
-    row_layout::write_offset(out, is_long, entry, end);
+    row_layout::write_offset(out, layout.is_long, entry, end);
     endian::copy(out, end, &text[start..start + length]);
-    clear_bit(out, columns, column);
+    clear_bit(out, layout.num_columns, column);
     end + length
 }
 
@@ -172,8 +169,7 @@ fn write_column(
     from: usize,
     text: &[u8],
     out: &mut [u8],
-    is_long: bool,
-    columns: usize,
+    layout: RowLayout,
     column: usize,
     slot: usize,
     entry: usize,
@@ -181,10 +177,10 @@ fn write_column(
 ) -> usize
     requires { Readable schema.now at values.now from
         × (is_null (value_in (valueRecordAt values.now from)) ≡ false
-        → Storable is_long columns column slot entry (type_in (column_record_at schema.now at))
+        → Storable layout.is_long layout.num_columns column slot entry (type_in (column_record_at schema.now at))
         (value_in (valueRecordAt values.now from)) text.now end (length out.old)) }
     ensures { (result, out.new)
-        ≡ column_stored is_long column slot entry (type_in (column_record_at schema.now at))
+        ≡ column_stored layout.is_long column slot entry (type_in (column_record_at schema.now at))
         (value_in (valueRecordAt values.now from))
         (form_in schema.now at values.now from text.now) end
         out.old }
@@ -195,8 +191,9 @@ fn write_column(
     }
     if value::held_kind(schema[at]) == value_kinds::VARCHAR {
         let range = value_list::range_at(values, value::is_long_kind(given), from + 1);
-        return write_varchar(range, text, out, is_long, columns, column, entry, end);
+        return write_varchar(range, text, out, layout, column, entry, end);
     }
+    let columns = layout.num_columns;
     write_fixed(schema, at, values, from, text, out, columns, column, slot);
     end
 }
@@ -219,35 +216,20 @@ fn write_columns(
         ≡ sets counts.old 0
         (counts_given schema.now values.now text.now)) }
 {
-    let mut column = 0;
     let mut at = 0;
     let mut from = 0;
     let mut slot = layout.fixed_data_start();
     let mut entry = layout.varlen_table_offset();
     let mut end = layout.min_row_size(true);
-    while column < layout.num_columns {
-        let columns = layout.num_columns;
+    for column in 0..layout.num_columns {
         end = write_column(
-            schema,
-            at,
-            values,
-            from,
-            text,
-            out,
-            layout.is_long,
-            columns,
-            column,
-            slot,
-            entry,
-            end,
+            schema, at, values, from, text, out, layout, column, slot, entry, end,
         );
-        let points = record_slot::points_at(schema, at, values, from, text);
-        counts[column] = points;
+        counts[column] = record_slot::points_at(schema, at, values, from, text);
         slot += record_slot::slot_size(schema, at);
         entry += record_slot::entry_size(value::held_kind(schema[at]), layout.is_long);
         at = record_slot::after_column(schema, at);
         from = from + 1 + value_list::body_length(values[from]);
-        column += 1;
     }
 }
 
@@ -272,10 +254,7 @@ fn place_row(
     if row_layout::row_limit(layout.is_long) < n {
         return Err(Refusal::RowLimit);
     }
-    if out.len() < n {
-        return Err(Refusal::NoRoom);
-    }
-    if counts.len() < layout.num_columns {
+    if out.len() < n || counts.len() < layout.num_columns {
         return Err(Refusal::NoRoom);
     }
     write_nulls(layout, out);

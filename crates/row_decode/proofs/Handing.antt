@@ -2,13 +2,14 @@
 use Rattle.error.specs.Result.{Result}
 use Rattle.std.specs.Prelude.{Err, Ok}
 use Prim.Native.Nat.{ℕ, ◌+◌, ◌≤◌, ◌<◌}
-use mathlib.Core.Path.{◌≡◌, refl, ap, ◌∙◌}
+use mathlib.Core.Path.{◌≡◌, refl, sym, ap, ◌∙◌}
 use mathlib.Core.Bool.{Bool}
-use mathlib.Core.List.{List, [], ◌∷◌, map}
+use mathlib.Core.List.{List, [], ◌∷◌, ◌++◌, map}
 use native.Mathlib.Omega.{arith}
-use lib.ListN.{length, take, replicate, length-map}
-use lib.Seq.{sets, length-sets}
+use lib.ListN.{length, take, drop, replicate, length-map}
+use lib.Seq.{sets, length-sets, length-take-le}
 use Rattle.laws.proofs.Bytes.{part-stored}
+use Rattle.laws.proofs.Stores.{sets-start}
 use Rattle.row_layout.specs.declared.RowLayout.{RowLayout}
 use Rattle.row_layout.specs.InnerLayout.{no_columns, with_column}
 use Rattle.datatype.specs.declared.DataType.{DataType}
@@ -23,6 +24,12 @@ use Rattle.row_decode.specs.Read.{is_wanted, wanted_value, on_column, hand_out}
 use Rattle.row_decode.specs.InnerWalk.{walked_read}
 use Rattle.row_decode.specs.InnerMarks.{marked, is_marked, Filled, Held, copied_out}
 use Rattle.row_decode.proofs.Marking.{marks_tell}
+
+-- the first n numbers of a list over those of another
+pub front_copied : (l vs : List ℕ) (n : ℕ) → n ≤ length l → n ≤ length vs → take n vs ++ drop n l ≡ sets l 0 (take n vs)
+front_copied l vs n h g =
+    let e : length (take n vs) ≡ n = length-take-le n vs g in
+    sym (rw e at (sets-start l (take n vs) (rw e h)))
 
 module _ (k : Bool) (r : List ℕ) (columns : ℕ) (buf points buf' points' : List ℕ) (res : Result ℕ) where
   pub filled_held : (vs : Values) → Filled k r columns vs buf points res buf' points' → Held res columns buf' points'

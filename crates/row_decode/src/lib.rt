@@ -3,8 +3,7 @@
 // finds the lent ones as they were.
 #![tactic(auto)]
 
-ghost use Rattle.std.specs.Prelude.{◌≡◌, ◌≤◌, length, set};
-ghost use Rattle.std.proofs.lemmas.List.Edits.{sets};
+ghost use Rattle.std.specs.Prelude.{◌≡◌, ◌≤◌, ◌*◌, length, set};
 ghost use Rattle.row_layout.specs.InnerLayout.{no_columns};
 ghost use Rattle.row_column.specs.InnerWalk.{walked_column, Framed};
 ghost use Rattle.stored_form.specs.Points.{points_in};
@@ -18,6 +17,7 @@ ghost use Rattle.datatype.specs.InnerCheck.{Accepted};
 use error::Refusal;
 use row_layout::RowLayout;
 
+// Stays: no clause says what a slice holds after a write through its `get_mut` (tried).
 fn mark(marks: &mut [u8], column: usize)
     ensures { marks.new ≡ set marks.old column 1 }
 {
@@ -30,22 +30,8 @@ fn mark(marks: &mut [u8], column: usize)
 fn mark_wanted(marks: &mut [u8], wanted: &[u16])
     ensures { marks.new ≡ marked marks.old wanted.now }
 {
-    let mut k = 0;
-    while k < wanted.len() {
-        mark(marks, wanted[k] as usize);
-        k += 1;
-    }
-}
-
-// The first numbers of a list.
-fn copy_numbers(counts: &mut [u32], points: &[u32])
-    requires { length points.now ≤ length counts.old }
-    ensures { counts.new ≡ sets counts.old 0 points.now }
-{
-    let mut i = 0;
-    while i < points.len() {
-        counts[i] = points[i];
-        i += 1;
+    for &column in wanted {
+        mark(marks, column as usize);
     }
 }
 
@@ -63,14 +49,11 @@ fn hand_out(
         ≡ copied_out answer columns buf.now points.now out.old counts.old }
 {
     let n = answer?;
-    if out.len() < n {
+    if out.len() < n || counts.len() < columns {
         return Err(Refusal::NoRoom);
     }
-    if counts.len() < columns {
-        return Err(Refusal::NoRoom);
-    }
-    endian::copy(out, 0, &buf[..n]);
-    copy_numbers(counts, &points[..columns]);
+    out[..n].copy_from_slice(&buf[..n]);
+    counts[..columns].copy_from_slice(&points[..columns]);
     Ok(n)
 }
 
@@ -94,10 +77,7 @@ fn decode_column(
         row.now)) }
 {
     let i = before.num_columns;
-    if marks[i] != 1 {
-        return Ok((record_encode::write_null(buf, end), 0));
-    }
-    if null_bitmap::column_bit_is_set(row, i) {
+    if marks[i] != 1 || null_bitmap::column_bit_is_set(row, i) {
         return Ok((record_encode::write_null(buf, end), 0));
     }
     column_decode::decode_present(schema, at, layout, packed, before, row, buf, end)
@@ -123,6 +103,7 @@ fn decode_columns(
     let mut before = RowLayout::new();
     let mut at = 0;
     let mut end = 0;
+    // Stays: a column's record has one byte or three, so its length is known only when its kind is read.
     while at < schema.len() {
         let (n, count) = decode_column(schema, at, layout, packed, before, row, marks, buf, end)?;
         let i = before.num_columns;
@@ -135,8 +116,9 @@ fn decode_columns(
     Ok(end)
 }
 
-// For the arrays of 14 columns the compiler calls no function: it clears up to 256 bytes in place.
-fn decode_small(
+// By local arrays for so many columns. For those of 14 the compiler calls no function: it clears up to 256 bytes in
+// place.
+fn decode_in<const BYTES: usize, const COLUMNS: usize>(
     schema: &[u8],
     layout: RowLayout,
     packed: bool,
@@ -146,63 +128,17 @@ fn decode_small(
     counts: &mut [u32],
 ) -> error::Result<usize>
     requires { Framed schema.now layout packed row.now
-        × ((length marks.now ≡ 256) × (layout.num_columns ≤ 14)) }
+        × ((length marks.now ≡ 256)
+        × ((layout.num_columns ≤ COLUMNS) × ((COLUMNS ≤ 256) × (BYTES ≡ 18 * COLUMNS)))) }
     ensures { (result, (out.new, counts.new))
         ≡ hand_out layout.is_long out.old counts.old row.now
         (walked_read layout packed (is_marked marks.now) row.now no_columns
         (types_in schema.now)) }
 {
-    let mut buf = [0; 252];
-    let mut points = [0; 14];
+    let mut buf = [0; BYTES];
+    let mut points = [0; COLUMNS];
     let answer = decode_columns(schema, layout, packed, row, marks, &mut buf, &mut points);
-    let columns = layout.num_columns;
-    hand_out(answer, columns, &buf, &points, out, counts)
-}
-
-fn decode_short(
-    schema: &[u8],
-    layout: RowLayout,
-    packed: bool,
-    row: &[u8],
-    marks: &[u8],
-    out: &mut [u8],
-    counts: &mut [u32],
-) -> error::Result<usize>
-    requires { Framed schema.now layout packed row.now
-        × ((length marks.now ≡ 256) × (layout.num_columns ≤ 32)) }
-    ensures { (result, (out.new, counts.new))
-        ≡ hand_out layout.is_long out.old counts.old row.now
-        (walked_read layout packed (is_marked marks.now) row.now no_columns
-        (types_in schema.now)) }
-{
-    let mut buf = [0; 576];
-    let mut points = [0; 32];
-    let answer = decode_columns(schema, layout, packed, row, marks, &mut buf, &mut points);
-    let columns = layout.num_columns;
-    hand_out(answer, columns, &buf, &points, out, counts)
-}
-
-fn decode_long(
-    schema: &[u8],
-    layout: RowLayout,
-    packed: bool,
-    row: &[u8],
-    marks: &[u8],
-    out: &mut [u8],
-    counts: &mut [u32],
-) -> error::Result<usize>
-    requires { Framed schema.now layout packed row.now
-        × ((length marks.now ≡ 256) × (layout.num_columns ≤ 256)) }
-    ensures { (result, (out.new, counts.new))
-        ≡ hand_out layout.is_long out.old counts.old row.now
-        (walked_read layout packed (is_marked marks.now) row.now no_columns
-        (types_in schema.now)) }
-{
-    let mut buf = [0; 4608];
-    let mut points = [0; 256];
-    let answer = decode_columns(schema, layout, packed, row, marks, &mut buf, &mut points);
-    let columns = layout.num_columns;
-    hand_out(answer, columns, &buf, &points, out, counts)
+    hand_out(answer, layout.num_columns, &buf, &points, out, counts)
 }
 
 // The row's header is good. For few columns small arrays do.
@@ -223,13 +159,11 @@ fn decode_values(
 {
     let mut marks = [0; RowLayout::COLUMN_LIMIT];
     mark_wanted(&mut marks, wanted);
-    if layout.num_columns <= 14 {
-        return decode_small(schema, layout, packed, row, &marks, out, counts);
+    match layout.num_columns {
+        0..=14 => decode_in::<252, 14>(schema, layout, packed, row, &marks, out, counts),
+        15..=32 => decode_in::<576, 32>(schema, layout, packed, row, &marks, out, counts),
+        _ => decode_in::<4608, 256>(schema, layout, packed, row, &marks, out, counts),
     }
-    if layout.num_columns <= 32 {
-        return decode_short(schema, layout, packed, row, &marks, out, counts);
-    }
-    decode_long(schema, layout, packed, row, &marks, out, counts)
 }
 
 fn decode_row(

@@ -20,12 +20,11 @@ fn bool_record(bytes: &[u8], out: &mut [u8], at: usize) -> error::Result<(usize,
     ensures { (k : Bool) → (result, out.new)
         ≡ recorded k out.old at 0 0 (read_slot BoolType 0 bytes.now) }
 {
-    if bytes[0] == 0 {
-        return Ok((record_encode::write_8(out, at, value_kinds::BOOL, 0), 0));
-    }
-    Ok((record_encode::write_8(out, at, value_kinds::BOOL, 1), 0))
+    let byte = u8::from(bytes[0] != 0);
+    Ok((record_encode::write_8(out, at, value_kinds::BOOL, byte), 0))
 }
 
+// Stays: beside `timestamp_record`: each has its own width and test, and one function would take both as arguments.
 fn date_record(i: usize, bytes: &[u8], out: &mut [u8], at: usize) -> error::Result<(usize, u32)>
     requires { (length bytes.now ≡ 4) × (at + 18 ≤ length out.old) }
     ensures { (k : Bool) → (result, out.new)
@@ -122,25 +121,38 @@ pub fn plain_record(
     }
 }
 
-// The text from `start` up to `end` of a row of a sort, of at most n bytes or code points, as a value of this kind.
+// The bytes of a row of a sort from `start` up to `end`.
+#[derive(Clone, Copy)]
+pub struct RowPart<'r> {
+    pub row: &'r [u8],
+    pub is_long: bool,
+    pub start: usize,
+    pub end: usize,
+}
+
+// The text of a part of a row, of at most n bytes or code points, as a value of this kind.
 fn text_record(
     kind: u8,
     by_points: bool,
     n: usize,
     i: usize,
-    row: &[u8],
-    is_long: bool,
-    start: usize,
-    end: usize,
+    part: RowPart,
     out: &mut [u8],
     at: usize,
 ) -> error::Result<(usize, u32)>
-    requires { (start ≤ end)
-        × ((end ≤ length row.now) × ((length row.now ≤ row_limit is_long) × (at + 18 ≤ length out.old))) }
+    requires { (part.start ≤ part.end)
+        × ((part.end ≤ length part.row.now)
+        × ((length part.row.now ≤ row_limit part.is_long) × (at + 18 ≤ length out.old))) }
     ensures { (result, out.new)
-        ≡ text_recorded is_long by_points n out.old at i kind start
-        (take (end - start) (drop start row.now)) }
+        ≡ text_recorded part.entry.is_long by_points n out.old at i kind part.entry.start
+        (take (part.entry.end - part.entry.start) (drop part.entry.start part.entry.row.now)) }
 {
+    let RowPart {
+        row,
+        is_long,
+        start,
+        end,
+    } = part;
     match text_limit::check_within(&row[start..end], by_points, n) {
         None => Err(Refusal::NoValue(i)),
         Some(points) => {
@@ -154,31 +166,29 @@ fn text_record(
     }
 }
 
-// The bytes of a row from `start` up to `end`, of a Char or Character.
+// The bytes of a Char or Character.
+// Stays: beside `varchar_record`: the contracts name two types, and both are one call of `text_record`.
 pub fn char_record(
     i: usize,
-    row: &[u8],
-    is_long: bool,
-    start: usize,
-    end: usize,
+    part: RowPart,
     out: &mut [u8],
     at: usize,
 ) -> error::Result<(usize, u32)>
-    requires { (start ≤ end)
-        × ((end ≤ length row.now) × ((length row.now ≤ row_limit is_long) × (at + 18 ≤ length out.old))) }
+    requires { (part.start ≤ part.end)
+        × ((part.end ≤ length part.row.now)
+        × ((length part.row.now ≤ row_limit part.is_long) × (at + 18 ≤ length out.old))) }
     ensures { (result, out.new)
-        ≡ recorded is_long out.old at i (points (take (end - start) (drop start row.now)))
-        (read_slot (CharType 0) start (take (end - start) (drop start row.now))) }
+        ≡ recorded part.entry.is_long out.old at i
+        (points (take (part.entry.end - part.entry.start) (drop part.entry.start part.entry.row.now)))
+        (read_slot (CharType 0) part.entry.start
+        (take (part.entry.end - part.entry.start) (drop part.entry.start part.entry.row.now))) }
 {
     text_record(
         value_kinds::CHAR,
         false,
-        end - start,
+        part.end - part.start,
         i,
-        row,
-        is_long,
-        start,
-        end,
+        part,
         out,
         at,
     )
@@ -189,29 +199,18 @@ pub fn varchar_record(
     by_points: bool,
     n: usize,
     i: usize,
-    row: &[u8],
-    is_long: bool,
-    start: usize,
-    end: usize,
+    part: RowPart,
     out: &mut [u8],
     at: usize,
 ) -> error::Result<(usize, u32)>
-    requires { (start ≤ end)
-        × ((end ≤ length row.now) × ((length row.now ≤ row_limit is_long) × (at + 18 ≤ length out.old))) }
+    requires { (part.start ≤ part.end)
+        × ((part.end ≤ length part.row.now)
+        × ((length part.row.now ≤ row_limit part.is_long) × (at + 18 ≤ length out.old))) }
     ensures { (result, out.new)
-        ≡ recorded is_long out.old at i (points (take (end - start) (drop start row.now)))
-        (read_slot (VarcharType by_points n) start (take (end - start) (drop start row.now))) }
+        ≡ recorded part.entry.is_long out.old at i
+        (points (take (part.entry.end - part.entry.start) (drop part.entry.start part.entry.row.now)))
+        (read_slot (VarcharType by_points n) part.entry.start
+        (take (part.entry.end - part.entry.start) (drop part.entry.start part.entry.row.now))) }
 {
-    text_record(
-        value_kinds::VARCHAR,
-        by_points,
-        n,
-        i,
-        row,
-        is_long,
-        start,
-        end,
-        out,
-        at,
-    )
+    text_record(value_kinds::VARCHAR, by_points, n, i, part, out, at)
 }

@@ -16,8 +16,8 @@ overflow_add-start c =
     let h = rw (← c.slot_start.ensures, ← c.fixed_data_start.ensures.0) at (c.requires.0.slot refl) in
     search rules
 
-pub overflow_add-start-2 : goal.overflow_add-start-2
-overflow_add-start-2 c =
+pub overflow_add-part : goal.overflow_add-part
+overflow_add-part c =
     let h = rw (← c.slot_start.ensures, ← c.fixed_data_start.ensures.0) at (c.requires.0.slot refl) in
     search rules
 

@@ -11,9 +11,6 @@ pub number_suits-requires : goal.number_suits-requires
 number_suits-requires c =
     let h = rw c.in-6.is at c.requires.inside in (omega (arith, h), (c.requires.word, c.requires.digits c.in-6.is))
 
-pub bounds-values-body : goal.bounds-values-body
-bounds-values-body c = let h = rw c.in-7.is at c.requires.inside in omega arith
-
 pub text_suits-requires : goal.text_suits-requires
 text_suits-requires c = let h = rw c.in-8.is at c.requires.inside in omega arith
 

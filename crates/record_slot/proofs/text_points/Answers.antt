@@ -8,13 +8,13 @@ use Rattle.record_slot.proofs.text_points.Goals as goal
 
 pub slice_bounds-count_points-end : goal.slice_bounds-count_points-end
 slice_bounds-count_points-end c =
-    let q = c.range_at-range in
+    let q = c.range-start in
     let h = rw (← start_is q.ensures.0, ← length-is q.ensures.0) at c.requires.1.inside in
     search rules
 
 pub count_points-requires : goal.count_points-requires
 count_points-requires c =
-    let q = c.range_at-range in
+    let q = c.range-start in
     let s = q.result.start in
     let l = q.result.length in
     let e : s + l - s ≡ l = omega arith in
@@ -23,7 +23,7 @@ count_points-requires c =
 pub returns : goal.returns
 returns c =
     let a = c.args in
-    let q = c.range_at-range in
+    let q = c.range-start in
     let s = q.result.start in
     let l = q.result.length in
     let e : s + l - s ≡ l = omega arith in

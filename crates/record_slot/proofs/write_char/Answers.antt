@@ -10,14 +10,14 @@ use Rattle.record_slot.proofs.write_char.Goals as goal
 pub slice_bounds-write_char-end : goal.slice_bounds-write_char-end
 slice_bounds-write_char-end c =
     let a = c.args in
-    let q = c.range_at-range in
+    let q = c.range-start in
     let h = text-inside false a.n q.result a.text.now (rw (← start_is q.ensures.0, ← length-is q.ensures.0) at c.requires.1.1) in
     search rules
 
 pub write_char-requires : goal.write_char-requires
 write_char-requires c =
     let a = c.args in
-    let q = c.range_at-range in
+    let q = c.range-start in
     let s = q.result.start in
     let l = q.result.length in
     let e : s + l - s ≡ l = omega arith in
@@ -25,7 +25,7 @@ write_char-requires c =
 
 pub returns : goal.returns
 returns c =
-    let q = c.range_at-range in
+    let q = c.range-start in
     let s = q.result.start in
     let l = q.result.length in
     let e : s + l - s ≡ l = omega arith in

@@ -50,8 +50,8 @@ write_number-requires c =
     let p = c.requires in
     rw c.declared_length-n.ensures.0 (within_at p.0 6 (sym (held_found c.requires.0 c.requires.1.match c.held_kind-kind.ensures) ∙ c.in-6.is), number_ready p.0 p.1 (sym (held_found c.requires.0 c.requires.1.match c.held_kind-kind.ensures) ∙ c.in-6.is))
 
-pub bounds-values-body : goal.bounds-values-body
-bounds-values-body c = let h = within_at c.requires.0 7 (sym (held_found c.requires.0 c.requires.1.match c.held_kind-kind.ensures) ∙ c.in-7.is) in omega (arith, h)
+pub bounds-values-place : goal.bounds-values-place
+bounds-values-place c = let h = within_at c.requires.0 7 (sym (held_found c.requires.0 c.requires.1.match c.held_kind-kind.ensures) ∙ c.in-7.is) in omega (arith, h)
 
 pub bounds-out-slot : goal.bounds-out-slot
 bounds-out-slot c =

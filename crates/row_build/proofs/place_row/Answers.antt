@@ -1,6 +1,7 @@
 use Rattle.row_build.proofs.Placing.{least, too_long, no_room, few-counts, fillable, row-placed}
 use Rattle.datatype.proofs.Again.{columns-all}
 use native.Mathlib.Omega.{arith}
+use Rattle.row_build.proofs.place_row.Goals.{then-out-n-via-then-out-n, then-out-n-via-else-out-n+then-counts-layout}
 use Rattle.row_build.proofs.place_row.Goals as goal
 
 pub returns-then-row_limit-n : goal.returns-then-row_limit-n
@@ -11,12 +12,11 @@ returns-then-row_limit-n c =
 pub returns-then-out-n : goal.returns-then-out-n
 returns-then-out-n c =
     let a = c.args in
-    no_room c.requires.0 c.requires.1 a.out.now a.counts.now (rw c.row_limit.ensures.0 at c.if-row_limit-n.false) c.if-out-n.true
-
-pub returns-then-counts-layout : goal.returns-then-counts-layout
-returns-then-counts-layout c =
-    let a = c.args in
-    few-counts c.requires.0 c.requires.1 a.out.now a.counts.now (rw c.row_limit.ensures.0 at c.if-row_limit-n.false) c.if-out-n.false (omega (arith, c.if-counts-layout.true))
+    let h = rw c.row_limit.ensures.0 at c.if-row_limit-n.false in
+    elim c.then-out-n.branch [
+      | then-out-n-via-then-out-n w ↦ no_room c.requires.0 c.requires.1 a.out.now a.counts.now h w.if-out-n.true
+      | then-out-n-via-else-out-n+then-counts-layout w ↦ few-counts c.requires.0 c.requires.1 a.out.now a.counts.now h w.if-out-n.false (omega (arith, w.if-counts-layout.true))
+    ]
 
 pub write_nulls-requires : goal.write_nulls-requires
 write_nulls-requires c =

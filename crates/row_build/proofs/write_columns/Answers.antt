@@ -29,8 +29,8 @@ write_column-end-requires c =
     let r = readable p.given c.loop-column.invariant.0.walk h in
     (r, write_room p c.loop-column.invariant.0 h (read_at r))
 
-pub points_at-points-requires : goal.points_at-points-requires
-points_at-points-requires c =
+pub points_at-requires : goal.points_at-requires
+points_at-requires c =
     let p = c.requires.0 in
     let w = c.loop-column.invariant.0 in
     let h = left p.given c.loop-column-test.true in
@@ -89,7 +89,7 @@ loop-column-preserved c =
     let p = c.requires.0 in
     let h = left p.given c.loop-column-test.true in
     let r = readable p.given c.loop-column.invariant.0.walk h in
-    (rw (c.after_column-at.ensures, c.body_length.ensures.0, c.slot_size-slot.ensures, entry_bytes r (offset_width c.args.layout.is_long) c.held_kind.ensures c.entry_size-entry.ensures.0) (write_more p c.loop-column.invariant.0 h (read_at r) c.write_column-end.result _ c.write_column-end.ensures), count-more c.loop-column.invariant.1 p c.loop-column.invariant.0 h (read_at r) c.points_at-points.result c.points_at-points.ensures)
+    (rw (c.after_column-at.ensures, c.body_length.ensures.0, c.slot_size-slot.ensures, entry_bytes r (offset_width c.args.layout.is_long) c.held_kind.ensures c.entry_size-entry.ensures.0) (write_more p c.loop-column.invariant.0 h (read_at r) c.write_column-end.result _ c.write_column-end.ensures), count-more c.loop-column.invariant.1 p c.loop-column.invariant.0 h (read_at r) c.points_at.result c.points_at.ensures)
 
 pub shape_of-out : goal.shape_of-out
 shape_of-out c = write_size c.requires.0 c.loop-column.invariant.0

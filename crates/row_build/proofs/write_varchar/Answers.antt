@@ -7,7 +7,7 @@ use Rattle.row_build.proofs.write_varchar.Goals as goal
 pub write_offset-requires : goal.write_offset-requires
 write_offset-requires c =
     let p = c.requires.0 in
-    (p.entry_in, fits_limit c.args.is_long (omega (arith, p.small)))
+    (p.entry_in, fits_limit c.args.layout.is_long (omega (arith, p.small)))
 
 pub returns : goal.returns
 returns c =

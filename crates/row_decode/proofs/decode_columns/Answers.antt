@@ -1,5 +1,4 @@
 use native.Mathlib.Omega.{arith}
-use mathlib.Core.Path.{◌∙◌}
 use Rattle.datatype.proofs.Again.{ahead-few, step_column, ahead_passable}
 use Rattle.row_decode.proofs.Decoding.{decode_start, decode_end, decode_size, decode_numbers, decode_at, count-inside, decode_next, decode_refused}
 use borrow.Author.Rules.{rules}

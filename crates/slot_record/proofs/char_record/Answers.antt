@@ -13,8 +13,8 @@ use Rattle.slot_record.proofs.char_record.Goals as goal
 pub returns : goal.returns
 returns c =
     let a = c.args in
-    let part = take (a.end - a.start) (drop a.start a.row.now) in
-    let few = part_length a.row.now a.start a.end c.requires.0 c.requires.1.0 in
+    let part = take (a.part.end - a.part.start) (drop a.part.start a.part.row.now) in
+    let few = part_length a.part.row.now a.part.start a.part.end c.requires.0 c.requires.1.0 in
     c.text_record.ensures
-    ∙ rw (few_bytes false (a.end - a.start) part (omega (arith, few)))
-    (char_text a.is_long part a.out.now a.at a.i a.start (points part) (is_text part))
+    ∙ rw (few_bytes false (a.part.end - a.part.start) part (omega (arith, few)))
+    (char_text a.part.is_long part a.out.now a.at a.i a.part.start (points part) (is_text part))

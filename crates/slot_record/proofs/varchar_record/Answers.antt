@@ -9,6 +9,6 @@ use Rattle.slot_record.proofs.varchar_record.Goals as goal
 pub returns : goal.returns
 returns c =
     let a = c.args in
-    let part = take (a.end - a.start) (drop a.start a.row.now) in
+    let part = take (a.part.end - a.part.start) (drop a.part.start a.part.row.now) in
     c.text_record.ensures
-    ∙ varchar-text a.is_long part a.out.now a.at a.i a.start (points part) (fits_text a.by_points a.n part)
+    ∙ varchar-text a.part.is_long part a.out.now a.at a.i a.part.start (points part) (fits_text a.by_points a.n part)

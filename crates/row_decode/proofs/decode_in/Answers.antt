@@ -5,17 +5,17 @@ use Rattle.datatype.specs.Check.{types_in}
 use Rattle.row_decode.specs.InnerWalk.{walked_read}
 use Rattle.row_decode.specs.InnerMarks.{is_marked}
 use Rattle.row_layout.specs.InnerLayout.{no_columns}
-use Rattle.row_decode.proofs.decode_short.Goals as goal
+use Rattle.row_decode.proofs.decode_in.Goals as goal
 
 pub hand_out-requires : goal.hand_out-requires
-hand_out-requires c =
+hand_out-requires g c =
     let a = c.args in
-    filled_held a.layout.is_long a.row.now a.layout.num_columns (replicate 576 0) (replicate 32 0) _ _ c.decode_columns-answer.result
+    filled_held a.layout.is_long a.row.now a.layout.num_columns (replicate g.row.BYTES 0) (replicate g.row.COLUMNS 0) _ _ c.decode_columns-answer.result
     (walked_read a.layout a.packed (is_marked a.marks.now) a.row.now no_columns (types_in a.schema.now)) c.decode_columns-answer.ensures
 
 pub returns : goal.returns
-returns c =
+returns g c =
     let a = c.args in
     c.hand_out.ensures
-    ∙ filled_out a.layout.is_long a.row.now a.layout.num_columns (replicate 576 0) (replicate 32 0) _ _ c.decode_columns-answer.result
+    ∙ filled_out a.layout.is_long a.row.now a.layout.num_columns (replicate g.row.BYTES 0) (replicate g.row.COLUMNS 0) _ _ c.decode_columns-answer.result
     (walked_read a.layout a.packed (is_marked a.marks.now) a.row.now no_columns (types_in a.schema.now)) c.decode_columns-answer.ensures a.out.now a.counts.now
