@@ -27,7 +27,7 @@ pub enum DataType {
     Bool,
     Char(u16),
     Character(u16),
-    // Whether n counts code points, or else bytes.
+    // Whether n counts code points, or else bytes. Stays a flag: definitions and theorems build `Varchar by_points n`.
     Varchar { by_points: bool, n: u16 },
     Date,
     Time,
@@ -48,7 +48,7 @@ impl DataType {
         }
     }
 
-    // The bytes of a fixed column's slot; 0 for a Varchar, which has none.
+    // The bytes of a fixed column's slot; 0 for a Varchar, which has none. Stays 0, as `size_of` has it.
     pub fn fixed_size(self) -> usize
         ensures { (result ≡ size_of self) × (result ≤ 65535) }
     {
@@ -68,7 +68,7 @@ impl DataType {
         matches!(self, DataType::Varchar { .. })
     }
 
-    // The digits of a Numeric or Decimal; 0 for other types.
+    // The digits of a Numeric or Decimal; 0 for other types. Stays 0, as `precision_of` has it.
     pub fn precision(self) -> u8
         ensures { result ≡ precision_of self }
     {
@@ -78,7 +78,7 @@ impl DataType {
         }
     }
 
-    // How many of the digits stand after the point; 0 for other types.
+    // How many of the digits stand after the point; 0 for other types. Stays 0, as `scale_of` has it.
     pub fn scale(self) -> u8
         ensures { result ≡ scale_of self }
     {
@@ -88,7 +88,7 @@ impl DataType {
         }
     }
 
-    // The n of Char(n), Character(n), Varchar(n) and Bit(n); 0 for other types.
+    // The n of Char(n), Character(n), Varchar(n) and Bit(n); 0 for other types. Stays 0, as `length_of` has it.
     pub fn declared_length(self) -> u16
         ensures { result ≡ length_of self }
     {
@@ -164,6 +164,7 @@ fn body_at(schema: &[u8], at: usize, kind: u8) -> error::Result<(DataType, usize
 }
 
 // The bytes of a column whose kind is followed by no body, which are its alignment too; 0 for other kinds.
+// Stays 0: `plain_size` of the clauses is 0 there.
 pub fn plain_size(kind: u8) -> usize
     ensures { (result ≡ plain_size (column_kind kind)) × (result ≤ 8) }
 {
@@ -207,6 +208,7 @@ pub fn is_varchar(kind: u8) -> bool
 }
 
 // A place of a schema, and the layout of the columns before it.
+// Stays apart from the schema: the loops that walk hand the place and the layout on one by one.
 #[derive(Clone, Copy)]
 pub struct Step {
     pub at: usize,
