@@ -27,7 +27,7 @@ pub enum DataType {
     Bool,
     Char(u16),
     Character(u16),
-    // Whether n counts code points, or else bytes.
+    // Whether n counts code points, or else bytes. Stays a flag: definitions and theorems build `Varchar by_points n`.
     Varchar { by_points: bool, n: u16 },
     Date,
     Time,
@@ -41,170 +41,63 @@ impl DataType {
     {
         match self {
             DataType::SmallInt => 2,
-            DataType::Int => 4,
-            DataType::BigInt => 8,
-            DataType::Real => 4,
-            DataType::DoublePrecision => 8,
-            DataType::Numeric {
-                precision: _,
-                scale: _,
-            } => 1,
-            DataType::Decimal {
-                precision: _,
-                scale: _,
-            } => 1,
-            DataType::Bool => 1,
-            DataType::Char(_) => 1,
-            DataType::Character(_) => 1,
-            DataType::Varchar { by_points: _, n: _ } => 1,
-            DataType::Date => 4,
-            DataType::Time => 8,
-            DataType::Bit(_) => 1,
-            DataType::Timestamp => 8,
+            DataType::Int | DataType::Real | DataType::Date => 4,
+            DataType::BigInt | DataType::DoublePrecision | DataType::Time | DataType::Timestamp =>
+                8,
+            _ => 1,
         }
     }
 
-    // The bytes of a fixed column's slot; 0 for a Varchar, which has none.
+    // The bytes of a fixed column's slot; 0 for a Varchar, which has none. Stays 0, as `size_of` has it.
     pub fn fixed_size(self) -> usize
         ensures { (result ≡ size_of self) × (result ≤ 65535) }
     {
         match self {
-            DataType::SmallInt => 2,
-            DataType::Int => 4,
-            DataType::BigInt => 8,
-            DataType::Real => 4,
-            DataType::DoublePrecision => 8,
-            DataType::Numeric {
-                precision,
-                scale: _,
-            } => (precision as usize + 2) / 2,
-            DataType::Decimal {
-                precision,
-                scale: _,
-            } => (precision as usize + 2) / 2,
-            DataType::Bool => 1,
-            DataType::Char(n) => n as usize,
-            DataType::Character(n) => n as usize,
-            DataType::Varchar { by_points: _, n: _ } => 0,
-            DataType::Date => 4,
-            DataType::Time => 8,
+            DataType::Numeric { precision, .. } | DataType::Decimal { precision, .. } =>
+                (precision as usize + 2) / 2,
+            DataType::Char(n) | DataType::Character(n) => n as usize,
+            DataType::Varchar { .. } => 0,
             DataType::Bit(n) => (n as usize + 7) / 8,
-            DataType::Timestamp => 8,
+            _ => self.alignment(),
         }
     }
 
     pub fn is_variable_length(self) -> bool
         ensures { result ≡ is_varlen self }
     {
-        match self {
-            DataType::SmallInt => false,
-            DataType::Int => false,
-            DataType::BigInt => false,
-            DataType::Real => false,
-            DataType::DoublePrecision => false,
-            DataType::Numeric {
-                precision: _,
-                scale: _,
-            } => false,
-            DataType::Decimal {
-                precision: _,
-                scale: _,
-            } => false,
-            DataType::Bool => false,
-            DataType::Char(_) => false,
-            DataType::Character(_) => false,
-            DataType::Varchar { by_points: _, n: _ } => true,
-            DataType::Date => false,
-            DataType::Time => false,
-            DataType::Bit(_) => false,
-            DataType::Timestamp => false,
-        }
+        matches!(self, DataType::Varchar { .. })
     }
 
-    // The digits of a Numeric or Decimal; 0 for other types.
+    // The digits of a Numeric or Decimal; 0 for other types. Stays 0, as `precision_of` has it.
     pub fn precision(self) -> u8
         ensures { result ≡ precision_of self }
     {
         match self {
-            DataType::SmallInt => 0,
-            DataType::Int => 0,
-            DataType::BigInt => 0,
-            DataType::Real => 0,
-            DataType::DoublePrecision => 0,
-            DataType::Numeric {
-                precision,
-                scale: _,
-            } => precision,
-            DataType::Decimal {
-                precision,
-                scale: _,
-            } => precision,
-            DataType::Bool => 0,
-            DataType::Char(_) => 0,
-            DataType::Character(_) => 0,
-            DataType::Varchar { by_points: _, n: _ } => 0,
-            DataType::Date => 0,
-            DataType::Time => 0,
-            DataType::Bit(_) => 0,
-            DataType::Timestamp => 0,
+            DataType::Numeric { precision, .. } | DataType::Decimal { precision, .. } => precision,
+            _ => 0,
         }
     }
 
-    // How many of the digits stand after the point; 0 for other types.
+    // How many of the digits stand after the point; 0 for other types. Stays 0, as `scale_of` has it.
     pub fn scale(self) -> u8
         ensures { result ≡ scale_of self }
     {
         match self {
-            DataType::SmallInt => 0,
-            DataType::Int => 0,
-            DataType::BigInt => 0,
-            DataType::Real => 0,
-            DataType::DoublePrecision => 0,
-            DataType::Numeric {
-                precision: _,
-                scale,
-            } => scale,
-            DataType::Decimal {
-                precision: _,
-                scale,
-            } => scale,
-            DataType::Bool => 0,
-            DataType::Char(_) => 0,
-            DataType::Character(_) => 0,
-            DataType::Varchar { by_points: _, n: _ } => 0,
-            DataType::Date => 0,
-            DataType::Time => 0,
-            DataType::Bit(_) => 0,
-            DataType::Timestamp => 0,
+            DataType::Numeric { scale, .. } | DataType::Decimal { scale, .. } => scale,
+            _ => 0,
         }
     }
 
-    // The n of Char(n), Character(n), Varchar(n) and Bit(n); 0 for other types.
+    // The n of Char(n), Character(n), Varchar(n) and Bit(n); 0 for other types. Stays 0, as `length_of` has it.
     pub fn declared_length(self) -> u16
         ensures { result ≡ length_of self }
     {
         match self {
-            DataType::SmallInt => 0,
-            DataType::Int => 0,
-            DataType::BigInt => 0,
-            DataType::Real => 0,
-            DataType::DoublePrecision => 0,
-            DataType::Numeric {
-                precision: _,
-                scale: _,
-            } => 0,
-            DataType::Decimal {
-                precision: _,
-                scale: _,
-            } => 0,
-            DataType::Bool => 0,
-            DataType::Char(n) => n,
-            DataType::Character(n) => n,
-            DataType::Varchar { by_points: _, n } => n,
-            DataType::Date => 0,
-            DataType::Time => 0,
-            DataType::Bit(n) => n,
-            DataType::Timestamp => 0,
+            DataType::Char(n)
+            | DataType::Character(n)
+            | DataType::Varchar { n, .. }
+            | DataType::Bit(n) => n,
+            _ => 0,
         }
     }
 
@@ -212,29 +105,13 @@ impl DataType {
     pub fn counts_points(self) -> bool
         ensures { result ≡ counts_points self }
     {
-        match self {
-            DataType::SmallInt => false,
-            DataType::Int => false,
-            DataType::BigInt => false,
-            DataType::Real => false,
-            DataType::DoublePrecision => false,
-            DataType::Numeric {
-                precision: _,
-                scale: _,
-            } => false,
-            DataType::Decimal {
-                precision: _,
-                scale: _,
-            } => false,
-            DataType::Bool => false,
-            DataType::Char(_) => false,
-            DataType::Character(_) => false,
-            DataType::Varchar { by_points, n: _ } => by_points,
-            DataType::Date => false,
-            DataType::Time => false,
-            DataType::Bit(_) => false,
-            DataType::Timestamp => false,
-        }
+        matches!(
+            self,
+            DataType::Varchar {
+                by_points: true,
+                ..
+            }
+        )
     }
 
     // What the layout sees of the type.
@@ -242,9 +119,10 @@ impl DataType {
         ensures { (result ≡ shape_of self) × Small result }
     {
         if self.is_variable_length() {
-            return Shape::Varlen;
+            Shape::Varlen
+        } else {
+            Shape::Fixed(self.fixed_size(), self.alignment())
         }
-        Shape::Fixed(self.fixed_size(), self.alignment())
     }
 }
 
@@ -252,7 +130,7 @@ impl DataType {
 fn good_digits(precision: u8, scale: u8) -> bool
     ensures { result ≡ good_digits precision scale }
 {
-    (1 <= precision) & (precision <= 38) & (scale <= precision)
+    1 <= precision && precision <= 38 && scale <= precision
 }
 
 // A record of a kind that is followed by two bytes, or of no kind.
@@ -266,49 +144,38 @@ fn body_at(schema: &[u8], at: usize, kind: u8) -> error::Result<(DataType, usize
     let precision = schema[at + 1];
     let scale = schema[at + 2];
     let n = endian::read_u16(schema, at + 1);
-    let next = at + 3;
-    match kind {
-        schema_kinds::NUMERIC => {
-            if good_digits(precision, scale) {
-                return Ok((DataType::Numeric { precision, scale }, next));
-            }
-            Err(Refusal::BadSchema(at))
+    let t = match kind {
+        schema_kinds::NUMERIC | schema_kinds::DECIMAL if !good_digits(precision, scale) => {
+            return Err(Refusal::BadSchema(at));
         }
-        schema_kinds::DECIMAL => {
-            if good_digits(precision, scale) {
-                return Ok((DataType::Decimal { precision, scale }, next));
-            }
-            Err(Refusal::BadSchema(at))
-        }
-        schema_kinds::CHAR => Ok((DataType::Char(n), next)),
-        schema_kinds::CHARACTER => Ok((DataType::Character(n), next)),
-        schema_kinds::VARCHAR => Ok((
-            DataType::Varchar {
-                by_points: false,
-                n,
-            },
-            next,
-        )),
-        schema_kinds::BIT => Ok((DataType::Bit(n), next)),
-        schema_kinds::VARCHAR_CHARS => Ok((DataType::Varchar { by_points: true, n }, next)),
-        _ => Err(Refusal::BadRecord(at)),
-    }
+        schema_kinds::NUMERIC => DataType::Numeric { precision, scale },
+        schema_kinds::DECIMAL => DataType::Decimal { precision, scale },
+        schema_kinds::CHAR => DataType::Char(n),
+        schema_kinds::CHARACTER => DataType::Character(n),
+        schema_kinds::VARCHAR => DataType::Varchar {
+            by_points: false,
+            n,
+        },
+        schema_kinds::BIT => DataType::Bit(n),
+        schema_kinds::VARCHAR_CHARS => DataType::Varchar { by_points: true, n },
+        _ => return Err(Refusal::BadRecord(at)),
+    };
+    Ok((t, at + 3))
 }
 
 // The bytes of a column whose kind is followed by no body, which are its alignment too; 0 for other kinds.
+// Stays 0: `plain_size` of the clauses is 0 there.
 pub fn plain_size(kind: u8) -> usize
     ensures { (result ≡ plain_size (column_kind kind)) × (result ≤ 8) }
 {
     match kind {
-        schema_kinds::SMALL_INT => 2,
-        schema_kinds::INT => 4,
-        schema_kinds::BIG_INT => 8,
-        schema_kinds::REAL => 4,
-        schema_kinds::DOUBLE_PRECISION => 8,
         schema_kinds::BOOL => 1,
-        schema_kinds::DATE => 4,
-        schema_kinds::TIME => 8,
-        schema_kinds::TIMESTAMP => 8,
+        schema_kinds::SMALL_INT => 2,
+        schema_kinds::INT | schema_kinds::REAL | schema_kinds::DATE => 4,
+        schema_kinds::BIG_INT
+        | schema_kinds::DOUBLE_PRECISION
+        | schema_kinds::TIME
+        | schema_kinds::TIMESTAMP => 8,
         _ => 0,
     }
 }
@@ -318,29 +185,30 @@ pub fn record_at(schema: &[u8], at: usize) -> error::Result<(DataType, usize)>
     ensures { result ≡ column_record_at schema.now at }
 {
     let kind = schema[at];
-    let next = at + 1;
-    match kind {
-        schema_kinds::SMALL_INT => Ok((DataType::SmallInt, next)),
-        schema_kinds::INT => Ok((DataType::Int, next)),
-        schema_kinds::BIG_INT => Ok((DataType::BigInt, next)),
-        schema_kinds::REAL => Ok((DataType::Real, next)),
-        schema_kinds::DOUBLE_PRECISION => Ok((DataType::DoublePrecision, next)),
-        schema_kinds::BOOL => Ok((DataType::Bool, next)),
-        schema_kinds::DATE => Ok((DataType::Date, next)),
-        schema_kinds::TIME => Ok((DataType::Time, next)),
-        schema_kinds::TIMESTAMP => Ok((DataType::Timestamp, next)),
-        _ => body_at(schema, at, kind),
-    }
+    let t = match kind {
+        schema_kinds::SMALL_INT => DataType::SmallInt,
+        schema_kinds::INT => DataType::Int,
+        schema_kinds::BIG_INT => DataType::BigInt,
+        schema_kinds::REAL => DataType::Real,
+        schema_kinds::DOUBLE_PRECISION => DataType::DoublePrecision,
+        schema_kinds::BOOL => DataType::Bool,
+        schema_kinds::DATE => DataType::Date,
+        schema_kinds::TIME => DataType::Time,
+        schema_kinds::TIMESTAMP => DataType::Timestamp,
+        _ => return body_at(schema, at, kind),
+    };
+    Ok((t, at + 1))
 }
 
 // Whether a kind is a Varchar's, n in bytes or in code points.
 pub fn is_varchar(kind: u8) -> bool
     ensures { result ≡ is_varchar_kind kind }
 {
-    (kind == schema_kinds::VARCHAR) | (kind == schema_kinds::VARCHAR_CHARS)
+    matches!(kind, schema_kinds::VARCHAR | schema_kinds::VARCHAR_CHARS)
 }
 
 // A place of a schema, and the layout of the columns before it.
+// Stays apart from the schema: the loops that walk hand the place and the layout on one by one.
 #[derive(Clone, Copy)]
 pub struct Step {
     pub at: usize,
@@ -354,15 +222,14 @@ fn body_shape(kind: u8, first: u8, n: u16) -> Shape
     ensures { (result ≡ body_shape (column_kind kind) first n) × Small result }
 {
     if is_varchar(kind) {
-        return Shape::Varlen;
+        Shape::Varlen
+    } else if kind <= schema_kinds::DECIMAL {
+        Shape::Fixed((first as usize + 2) / 2, 1)
+    } else if kind == schema_kinds::BIT {
+        Shape::Fixed((n as usize + 7) / 8, 1)
+    } else {
+        Shape::Fixed(n as usize, 1)
     }
-    if kind <= schema_kinds::DECIMAL {
-        return Shape::Fixed((first as usize + 2) / 2, 1);
-    }
-    if kind == schema_kinds::BIT {
-        return Shape::Fixed((n as usize + 7) / 8, 1);
-    }
-    Shape::Fixed(n as usize, 1)
 }
 
 // The walk from a column to the next, in a schema that was checked: what comes after the record at a place. It looks
@@ -374,16 +241,17 @@ pub fn next_column(schema: &[u8], at: usize, before: RowLayout) -> Step
     let kind = schema[at];
     let size = plain_size(kind);
     if size != 0 {
-        return Step {
+        Step {
             at: at + 1,
             before: before.with_column(Shape::Fixed(size, size)),
-        };
-    }
-    let first = schema[at + 1];
-    let n = endian::read_u16(schema, at + 1);
-    Step {
-        at: at + 3,
-        before: before.with_column(body_shape(kind, first, n)),
+        }
+    } else {
+        let first = schema[at + 1];
+        let n = endian::read_u16(schema, at + 1);
+        Step {
+            at: at + 3,
+            before: before.with_column(body_shape(kind, first, n)),
+        }
     }
 }
 
@@ -393,9 +261,10 @@ pub fn finish(layout: RowLayout, at: usize) -> error::Result<RowLayout>
     ensures { (result ≡ finished at layout) × BoundedIn result }
 {
     if row_layout::row_limit(layout.is_long) < layout.min_row_size(false) {
-        return Err(Refusal::BadSchema(at));
+        Err(Refusal::BadSchema(at))
+    } else {
+        Ok(layout)
     }
-    Ok(layout)
 }
 
 // The check of a schema for the rows of a sort.
@@ -404,6 +273,7 @@ pub fn check_schema(schema: &[u8], is_long: bool) -> error::Result<RowLayout>
 {
     let mut layout = RowLayout::new().of_sort(is_long);
     let mut at = 0;
+    // Stays: no range has the places, since each record says where the next begins.
     while at < schema.len() {
         if layout.num_columns == RowLayout::COLUMN_LIMIT {
             return Err(Refusal::BadSchema(at));

@@ -1,6 +1,8 @@
 // The schema kinds, in the order of documents 01 and 02: the byte that a column's record begins with. Precision and
 // scale follow NUMERIC and DECIMAL, a byte each; n follows CHAR, CHARACTER, VARCHAR, BIT and VARCHAR_CHARS, two bytes;
 // nothing the others.
+// Stays numbers: any byte may stand in a schema, and code matches it where it stands. A pattern has no cast, so an enum
+// would stand beside these numbers, with one table from it and one to it.
 pub const SMALL_INT: u8 = 1;
 
 pub const INT: u8 = 2;

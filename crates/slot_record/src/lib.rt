@@ -2,7 +2,8 @@
 // `write_value_record` do the same, but pass the value through memory.
 #![tactic(auto)]
 
-ghost use Rattle.std.specs.Prelude.{◌≡◌, Bool, ℕ, ◌+◌, ◌-◌, ◌≤◌, length, take, drop};
+ghost use Rattle.std.specs.Prelude.{◌≡◌, Bool, ℕ, ◌+◌, ◌-◌, ◌≤◌, ◌∷◌, length, take, drop};
+ghost use Rattle.std.proofs.lemmas.List.Edits.{sets};
 ghost use Rattle.row_format.specs.Places.{row_limit};
 ghost use Rattle.datatype.specs.declared.DataType.TheVariants.{Bool as BoolType, Date as DateType, Time as TimeType, Timestamp as TimestampType, Char as CharType, Varchar as VarcharType};
 ghost use Rattle.datatype.specs.Schema.{column_kind};
@@ -15,13 +16,24 @@ use datatype::schema_kinds;
 use error::Refusal;
 use value::{TextRange, value_kinds};
 
+// The record of a number, whose bytes are the body.
+fn number_record<const N: usize>(kind: u8, bytes: &[u8], out: &mut [u8], at: usize) -> usize
+    requires { (length bytes.now ≡ N) × (at + 1 + N ≤ length out.old) }
+    ensures { (result ≡ at + (1 + N)) × (out.new ≡ sets out.old at (kind ∷ bytes.now)) }
+{
+    record_encode::write_record::<N>(out, at, kind, *bytes.as_array().unwrap())
+}
+
 fn bool_record(bytes: &[u8], out: &mut [u8], at: usize) -> error::Result<(usize, u32)>
     requires { (length bytes.now ≡ 1) × (at + 18 ≤ length out.old) }
     ensures { (k : Bool) → (result, out.new)
         ≡ recorded k out.old at 0 0 (read_slot BoolType 0 bytes.now) }
 {
     let byte = u8::from(bytes[0] != 0);
-    Ok((record_encode::write_8(out, at, value_kinds::BOOL, byte), 0))
+    Ok((
+        record_encode::write_record(out, at, value_kinds::BOOL, [byte]),
+        0,
+    ))
 }
 
 // Stays: beside `timestamp_record`: each has its own width and test, and one function would take both as arguments.
@@ -30,14 +42,11 @@ fn date_record(i: usize, bytes: &[u8], out: &mut [u8], at: usize) -> error::Resu
     ensures { (k : Bool) → (result, out.new)
         ≡ recorded k out.old at i 0 (read_slot DateType 0 bytes.now) }
 {
-    let days = endian::read_i32(bytes, 0);
-    if temporal::is_date(days) {
-        return Ok((
-            record_encode::write_32(out, at, value_kinds::DATE, endian::read_u32(bytes, 0)),
-            0,
-        ));
+    if temporal::is_date(endian::read_i32(bytes, 0)) {
+        Ok((number_record::<4>(value_kinds::DATE, bytes, out, at), 0))
+    } else {
+        Err(Refusal::NoValue(i))
     }
-    Err(Refusal::NoValue(i))
 }
 
 fn time_record(i: usize, bytes: &[u8], out: &mut [u8], at: usize) -> error::Result<(usize, u32)>
@@ -47,7 +56,7 @@ fn time_record(i: usize, bytes: &[u8], out: &mut [u8], at: usize) -> error::Resu
 {
     match temporal::time_of(endian::read_i64(bytes, 0)) {
         Some(micros) => Ok((
-            record_encode::write_64(out, at, value_kinds::TIME, micros.cast_unsigned()),
+            record_encode::write_record(out, at, value_kinds::TIME, micros.to_le_bytes()),
             0,
         )),
         None => Err(Refusal::NoValue(i)),
@@ -64,14 +73,14 @@ fn timestamp_record(
     ensures { (k : Bool) → (result, out.new)
         ≡ recorded k out.old at i 0 (read_slot TimestampType 0 bytes.now) }
 {
-    let micros = endian::read_i64(bytes, 0);
-    if temporal::is_timestamp(micros) {
-        return Ok((
-            record_encode::write_64(out, at, value_kinds::TIMESTAMP, endian::read_u64(bytes, 0)),
+    if temporal::is_timestamp(endian::read_i64(bytes, 0)) {
+        Ok((
+            number_record::<8>(value_kinds::TIMESTAMP, bytes, out, at),
             0,
-        ));
+        ))
+    } else {
+        Err(Refusal::NoValue(i))
     }
-    Err(Refusal::NoValue(i))
 }
 
 // A column of a kind without a body, wherever its bytes stand. The numbers have one kind as types and as values.
@@ -90,28 +99,14 @@ pub fn plain_record(
 {
     match kind {
         schema_kinds::SMALL_INT => Ok((
-            record_encode::write_16(out, at, value_kinds::SMALL_INT, endian::read_u16(bytes, 0)),
+            number_record::<2>(value_kinds::SMALL_INT, bytes, out, at),
             0,
         )),
-        schema_kinds::INT => Ok((
-            record_encode::write_32(out, at, value_kinds::INT, endian::read_u32(bytes, 0)),
-            0,
-        )),
-        schema_kinds::BIG_INT => Ok((
-            record_encode::write_64(out, at, value_kinds::BIG_INT, endian::read_u64(bytes, 0)),
-            0,
-        )),
-        schema_kinds::REAL => Ok((
-            record_encode::write_32(out, at, value_kinds::REAL, endian::read_u32(bytes, 0)),
-            0,
-        )),
+        schema_kinds::INT => Ok((number_record::<4>(value_kinds::INT, bytes, out, at), 0)),
+        schema_kinds::BIG_INT => Ok((number_record::<8>(value_kinds::BIG_INT, bytes, out, at), 0)),
+        schema_kinds::REAL => Ok((number_record::<4>(value_kinds::REAL, bytes, out, at), 0)),
         schema_kinds::DOUBLE_PRECISION => Ok((
-            record_encode::write_64(
-                out,
-                at,
-                value_kinds::DOUBLE_PRECISION,
-                endian::read_u64(bytes, 0),
-            ),
+            number_record::<8>(value_kinds::DOUBLE_PRECISION, bytes, out, at),
             0,
         )),
         schema_kinds::BOOL => bool_record(bytes, out, at),

@@ -72,50 +72,8 @@ impl DataValue {
         ensures { result ≡ range_of self }
     {
         match self {
-            DataValue::Null => TextRange {
-                start: 0,
-                length: 0,
-            },
-            DataValue::SmallInt(_) => TextRange {
-                start: 0,
-                length: 0,
-            },
-            DataValue::Int(_) => TextRange {
-                start: 0,
-                length: 0,
-            },
-            DataValue::BigInt(_) => TextRange {
-                start: 0,
-                length: 0,
-            },
-            DataValue::Real(_) => TextRange {
-                start: 0,
-                length: 0,
-            },
-            DataValue::DoublePrecision(_) => TextRange {
-                start: 0,
-                length: 0,
-            },
-            DataValue::Numeric(_) => TextRange {
-                start: 0,
-                length: 0,
-            },
-            DataValue::Bool(_) => TextRange {
-                start: 0,
-                length: 0,
-            },
-            DataValue::Char(r) => r,
-            DataValue::Varchar(r) => r,
-            DataValue::Date(_) => TextRange {
-                start: 0,
-                length: 0,
-            },
-            DataValue::Time(_) => TextRange {
-                start: 0,
-                length: 0,
-            },
-            DataValue::Bit(r) => r,
-            DataValue::Timestamp(_) => TextRange {
+            DataValue::Char(r) | DataValue::Varchar(r) | DataValue::Bit(r) => r,
+            _ => TextRange {
                 start: 0,
                 length: 0,
             },
@@ -133,18 +91,10 @@ pub fn value_kind(ty: DataType) -> u8
         DataType::BigInt => value_kinds::BIG_INT,
         DataType::Real => value_kinds::REAL,
         DataType::DoublePrecision => value_kinds::DOUBLE_PRECISION,
-        DataType::Numeric {
-            precision: _,
-            scale: _,
-        } => value_kinds::NUMERIC,
-        DataType::Decimal {
-            precision: _,
-            scale: _,
-        } => value_kinds::NUMERIC,
+        DataType::Numeric { .. } | DataType::Decimal { .. } => value_kinds::NUMERIC,
         DataType::Bool => value_kinds::BOOL,
-        DataType::Char(_) => value_kinds::CHAR,
-        DataType::Character(_) => value_kinds::CHAR,
-        DataType::Varchar { by_points: _, n: _ } => value_kinds::VARCHAR,
+        DataType::Char(_) | DataType::Character(_) => value_kinds::CHAR,
+        DataType::Varchar { .. } => value_kinds::VARCHAR,
         DataType::Date => value_kinds::DATE,
         DataType::Time => value_kinds::TIME,
         DataType::Bit(_) => value_kinds::BIT,
@@ -162,17 +112,14 @@ pub fn held_kind(kind: u8) -> u8
         schema_kinds::BIG_INT => value_kinds::BIG_INT,
         schema_kinds::REAL => value_kinds::REAL,
         schema_kinds::DOUBLE_PRECISION => value_kinds::DOUBLE_PRECISION,
-        schema_kinds::NUMERIC => value_kinds::NUMERIC,
-        schema_kinds::DECIMAL => value_kinds::NUMERIC,
+        schema_kinds::NUMERIC | schema_kinds::DECIMAL => value_kinds::NUMERIC,
         schema_kinds::BOOL => value_kinds::BOOL,
-        schema_kinds::CHAR => value_kinds::CHAR,
-        schema_kinds::CHARACTER => value_kinds::CHAR,
-        schema_kinds::VARCHAR => value_kinds::VARCHAR,
+        schema_kinds::CHAR | schema_kinds::CHARACTER => value_kinds::CHAR,
+        schema_kinds::VARCHAR | schema_kinds::VARCHAR_CHARS => value_kinds::VARCHAR,
         schema_kinds::DATE => value_kinds::DATE,
         schema_kinds::TIME => value_kinds::TIME,
         schema_kinds::BIT => value_kinds::BIT,
         schema_kinds::TIMESTAMP => value_kinds::TIMESTAMP,
-        schema_kinds::VARCHAR_CHARS => value_kinds::VARCHAR,
         _ => value_kinds::NULL,
     }
 }
@@ -181,10 +128,8 @@ pub fn held_kind(kind: u8) -> u8
 pub fn is_value_kind(kind: u8) -> bool
     ensures { result ≡ is_value_kind kind }
 {
-    if kind <= value_kinds::TIMESTAMP {
-        return true;
-    }
-    (value_kinds::LONG_CHAR <= kind) & (kind <= value_kinds::LONG_BIT)
+    kind <= value_kinds::TIMESTAMP
+        || value_kinds::LONG_CHAR <= kind && kind <= value_kinds::LONG_BIT
 }
 
 // Whether its body is a range with four bytes for each number.

@@ -1,5 +1,7 @@
 // The value kinds, in the order of document 01: the byte that a value's record begins with. How many bytes follow says
 // value_list::body_length.
+// Stays numbers: any byte may stand in a list, and code matches it where it stands. A pattern has no cast, so an enum
+// would stand beside these numbers, with one table from it and one to it.
 pub const NULL: u8 = 0;
 
 pub const SMALL_INT: u8 = 1;

@@ -1,5 +1,5 @@
 -- A record that was written is read back, and what is read fits a record.
-use Rattle.std.specs.Prelude.{Err, Ok}
+use Rattle.std.specs.Prelude.{Ok}
 use Prim.Native.Nat.{ℕ, suc, ◌+◌, ◌^◌, ◌≤◌, ◌<◌, ◌*◌}
 use mathlib.Core.Path.{◌≡◌, refl, sym, ap, ◌∙◌, subst}
 use mathlib.Core.Bool.{Bool, true, false, cond}
@@ -18,7 +18,6 @@ use Rattle.row_format.specs.Places.{offset_width, row_limit}
 use Rattle.laws.specs.Bytes.{to_le}
 use Rattle.error.proofs.Results.{ok_first, ok_second, refused-ok}
 use Rattle.error.specs.Result.{Result}
-use Rattle.error.specs.declared.Refusal.{Refusal}
 use Rattle.laws.proofs.Bytes.{AllBytes, from_at, from-part, length-to_le}
 use Rattle.laws.proofs.Truths.{cases, by_cond}
 use Rattle.value.specs.declared.DataValue.{DataValue}

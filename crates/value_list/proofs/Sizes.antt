@@ -1,7 +1,8 @@
 -- The record at a place by its number of bytes: none, or all of them inside the list.
-use Rattle.std.specs.Prelude.{Err, Ok}
-use Prim.Native.Nat.{ℕ, ◌+◌, ◌-◌, ◌≤◌, ◌<◌}
-use mathlib.Core.Path.{◌≡◌, ap}
+use Rattle.std.specs.Prelude.{Err, Ok, Some, unwrap_or}
+use Rattle.std.proofs.lemmas.Option.{none-some}
+use Prim.Native.Nat.{ℕ, zero, suc, ◌+◌, ◌-◌, ◌≤◌, ◌<◌}
+use mathlib.Core.Path.{◌≡◌, refl, ap}
 use mathlib.Core.List.{List}
 use native.Mathlib.Omega.{arith}
 use borrow.Author.Tests.{lt-ltb, le-ltb}
@@ -13,11 +14,20 @@ use Rattle.laws.proofs.Truths.{cases}
 use Rattle.value_list.specs.Records.{body_length, range_width, value_at, record_of_kind, record_at}
 use Rattle.value.specs.Kinds.{plain_kind, is_value_kind}
 use Rattle.value_list.proofs.LongKinds.{either}
-use Rattle.value_list.specs.InnerSizes.{size_of_kind, size_at}
+use Rattle.value_list.specs.InnerSizes.{size_of_kind, size_at, some_size}
 
 -- the value of a kind's body at a place
 abbrev pub body_value : ℕ → List ℕ → ℕ → DataValue
 body_value k s at = value_at (range_width k) (plain_kind k) s at
+
+-- a number that is none where it is 0
+pub size_zero : (n : ℕ) → ((k : ℕ) → some_size n ≡ Some k → ⊥) → n ≡ 0
+size_zero zero h = refl
+size_zero (suc n) h = absurd (h (suc n) refl)
+
+pub size_is : (n : ℕ) {k : ℕ} → some_size n ≡ Some k → (n ≡ 0 → ⊥) × (n ≡ k)
+size_is zero e = absurd (none-some _ e)
+size_is (suc n) e = (λ z. omega (arith, z), ap (λ o. unwrap_or o 0) e)
 
 -- a record that is whole
 pub record Whole (s : List ℕ) (at : ℕ) : Type 0 where

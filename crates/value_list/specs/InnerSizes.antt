@@ -1,5 +1,5 @@
 -- For the proofs: the bytes of the record at a place, 0 where it is refused.
-use Rattle.std.specs.Prelude.{ℕ, ◌+◌, ◌*◌, ◌-◌, Bool, cond, List, ltb, length, get_or}
+use Rattle.std.specs.Prelude.{ℕ, zero, suc, Option, None, Some, ◌+◌, ◌*◌, ◌-◌, Bool, cond, List, ltb, length, get_or}
 use Rattle.row_format.specs.Places.{offset_width}
 use Rattle.value.specs.Kinds.{is_range_kind, is_value_kind}
 use Rattle.value_list.specs.Records.{body_length}
@@ -13,3 +13,8 @@ size_of_kind k s at = cond (is_value_kind k) (cond (ltb (length s - at - 1) (bod
 
 abbrev pub size_at : List ℕ → ℕ → ℕ
 size_at s at = size_of_kind (get_or s at 0) s at
+
+-- the bytes, none where it is refused
+abbrev pub some_size : ℕ → Option ℕ
+some_size zero = None
+some_size (suc n) = Some (suc n)

@@ -5,7 +5,7 @@ ghost use Rattle.std.specs.Prelude.{◌≡◌, ◌+◌, ◌*◌, ◌<◌, ◌≤
 ghost use Rattle.row_format.specs.Places.{offset_width};
 ghost use Rattle.value_list.specs.Records.{body_length, numeric_at, range_at, value_at, record_at, NarrowRange};
 ghost use Rattle.value_list.specs.Lists.{checked};
-ghost use Rattle.value_list.specs.InnerSizes.{body_in, size_at};
+ghost use Rattle.value_list.specs.InnerSizes.{body_in, size_at, some_size};
 ghost use Rattle.value_list.specs.InnerLists.{answer};
 
 use error::Refusal;
@@ -16,54 +16,42 @@ pub fn body_length(kind: u8) -> usize
     ensures { (result ≡ body_length kind) × (result ≤ 17) }
 {
     match kind {
-        value_kinds::SMALL_INT => 2,
-        value_kinds::INT => 4,
-        value_kinds::BIG_INT => 8,
-        value_kinds::REAL => 4,
-        value_kinds::DOUBLE_PRECISION => 8,
-        value_kinds::NUMERIC => 17,
         value_kinds::BOOL => 1,
-        value_kinds::CHAR => 4,
-        value_kinds::VARCHAR => 4,
-        value_kinds::DATE => 4,
-        value_kinds::TIME => 8,
-        value_kinds::BIT => 4,
-        value_kinds::TIMESTAMP => 8,
-        value_kinds::LONG_CHAR => 8,
-        value_kinds::LONG_VARCHAR => 8,
-        value_kinds::LONG_BIT => 8,
+        value_kinds::SMALL_INT => 2,
+        value_kinds::INT | value_kinds::REAL | value_kinds::DATE => 4,
+        value_kinds::CHAR | value_kinds::VARCHAR | value_kinds::BIT => 4,
+        value_kinds::BIG_INT
+        | value_kinds::DOUBLE_PRECISION
+        | value_kinds::TIME
+        | value_kinds::TIMESTAMP => 8,
+        value_kinds::LONG_CHAR | value_kinds::LONG_VARCHAR | value_kinds::LONG_BIT => 8,
+        value_kinds::NUMERIC => 17,
         _ => 0,
     }
 }
 
-// The bytes of the record at a place; 0 where its kind is unknown or it is cut off. The usual sizes have branches of
-// their own: a branch is foreseen, so that a walk need not wait for each record's kind.
-fn record_size(list: &[u8], at: usize) -> usize
+// The bytes of the record at a place; None where its kind is unknown or it is cut off.
+fn record_size(list: &[u8], at: usize) -> Option<usize>
     requires { at < length list.now }
-    ensures { result ≡ size_at list.now at }
+    ensures { result ≡ some_size (size_at list.now at) }
 {
     let kind = list[at];
     if !value::is_value_kind(kind) {
-        return 0;
+        return None;
     }
     let body = body_length(kind);
     let left = list.len() - at - 1;
+    // Stays: the usual sizes have branches of their own. A branch is foreseen, so that a walk need not wait for each
+    // record's kind.
     if body == 4 {
-        if left < 4 {
-            return 0;
-        }
-        return 5;
+        if left < 4 { None } else { Some(5) }
+    } else if body == 8 {
+        if left < 8 { None } else { Some(9) }
+    } else if left < body {
+        None
+    } else {
+        Some(1 + body)
     }
-    if body == 8 {
-        if left < 8 {
-            return 0;
-        }
-        return 9;
-    }
-    if left < body {
-        return 0;
-    }
-    1 + body
 }
 
 // A number: its halves, and its scale.
@@ -71,10 +59,11 @@ pub fn numeric_at(list: &[u8], at: usize) -> NumericValue
     requires { at + 17 ≤ length list.now }
     ensures { result ≡ numeric_at list.now at }
 {
-    let low = endian::read_u64(list, at);
-    let high = endian::read_i64(list, at + 8);
-    let scale = list[at + 16];
-    NumericValue { high, low, scale }
+    NumericValue {
+        high: endian::read_i64(list, at + 8),
+        low: endian::read_u64(list, at),
+        scale: list[at + 16],
+    }
 }
 
 // A range, its numbers of four bytes or of two.
@@ -83,13 +72,16 @@ pub fn range_at(list: &[u8], is_long: bool, at: usize) -> TextRange
     ensures { (result ≡ range_at (offset_width is_long) list.now at) × NarrowRange 4 result }
 {
     if is_long {
-        let start = endian::read_u32(list, at) as usize;
-        let length = endian::read_u32(list, at + 4) as usize;
-        return TextRange { start, length };
+        TextRange {
+            start: endian::read_u32(list, at) as usize,
+            length: endian::read_u32(list, at + 4) as usize,
+        }
+    } else {
+        TextRange {
+            start: endian::read_u16(list, at) as usize,
+            length: endian::read_u16(list, at + 2) as usize,
+        }
     }
-    let start = endian::read_u16(list, at) as usize;
-    let length = endian::read_u16(list, at + 2) as usize;
-    TextRange { start, length }
 }
 
 // The value whose body stands at a place, of one of document 01's kinds, ranges with numbers of four bytes or of two.
@@ -119,10 +111,9 @@ pub fn value_record_at(list: &[u8], at: usize) -> error::Result<(DataValue, usiz
     requires { at < length list.now }
     ensures { result ≡ record_at list.now at }
 {
-    let size = record_size(list, at);
-    if size == 0 {
+    let Some(size) = record_size(list, at) else {
         return Err(Refusal::BadValueList(at));
-    }
+    };
     let kind = list[at];
     let is_long = value::is_long_kind(kind);
     Ok((
@@ -138,19 +129,19 @@ pub fn check_values(list: &[u8], is_long: bool, columns: usize, area: usize) -> 
 {
     let mut at = 0;
     let mut count = 0;
+    // Stays: no range has the places, since each record says where the next begins.
     while at < list.len() {
-        let size = record_size(list, at);
-        if size == 0 {
+        let Some(size) = record_size(list, at) else {
             return Err(Refusal::BadValueList(at));
-        }
+        };
         at += size;
         count += 1;
     }
     if count != columns {
-        return Err(Refusal::BadValueList(list.len()));
+        Err(Refusal::BadValueList(list.len()))
+    } else if row_layout::row_limit(is_long) < area {
+        Err(Refusal::BadValueList(0))
+    } else {
+        Ok(())
     }
-    if row_layout::row_limit(is_long) < area {
-        return Err(Refusal::BadValueList(0));
-    }
-    Ok(())
 }

@@ -7,127 +7,52 @@ ghost use Rattle.datatype.specs.Types.{length_of};
 ghost use Rattle.value.specs.Kinds.{kind_of};
 ghost use Rattle.value.specs.Ranges.{text_of};
 ghost use Rattle.value_same.specs.Same.{same_content};
-ghost use Rattle.value_same.specs.InnerFields.{content_of, real_of, same_number, same_by_fields, stands_in};
+ghost use Rattle.value_same.specs.InnerFields.{content_of, same_by_fields, stands_in};
 
 use datatype::DataType;
-use value::{DataValue, value_kinds};
+use value::DataValue;
 
 // A value's number by its bits, a Numeric's in two halves.
-#[derive(Clone, Copy)]
+#[derive(Clone, Copy, PartialEq, Eq)]
 pub struct Content {
     pub word: u64,
     pub upper: u64,
     pub scale: u8,
 }
 
-fn word(v: DataValue) -> u64
-    ensures { result ≡ (content_of v).word }
+// The content of a value whose number has one word.
+fn of_word(word: u64) -> Content
+    ensures { (result.word ≡ word) × ((result.upper ≡ 0) × (result.scale ≡ 0)) }
 {
-    match v {
-        DataValue::Null => 0,
-        DataValue::SmallInt(x) => x.cast_unsigned() as u64,
-        DataValue::Int(x) => x.cast_unsigned() as u64,
-        DataValue::BigInt(x) => x.cast_unsigned(),
-        DataValue::Real(x) => x as u64,
-        DataValue::DoublePrecision(x) => x,
-        DataValue::Numeric(x) => x.low,
-        DataValue::Bool(b) => b as u64,
-        DataValue::Char(_) => 0,
-        DataValue::Varchar(_) => 0,
-        DataValue::Date(x) => x.cast_unsigned() as u64,
-        DataValue::Time(x) => x.cast_unsigned(),
-        DataValue::Bit(_) => 0,
-        DataValue::Timestamp(x) => x.cast_unsigned(),
-    }
-}
-
-fn upper(v: DataValue) -> u64
-    ensures { result ≡ (content_of v).upper }
-{
-    match v {
-        DataValue::Null => 0,
-        DataValue::SmallInt(_) => 0,
-        DataValue::Int(_) => 0,
-        DataValue::BigInt(_) => 0,
-        DataValue::Real(_) => 0,
-        DataValue::DoublePrecision(_) => 0,
-        DataValue::Numeric(x) => x.high.cast_unsigned(),
-        DataValue::Bool(_) => 0,
-        DataValue::Char(_) => 0,
-        DataValue::Varchar(_) => 0,
-        DataValue::Date(_) => 0,
-        DataValue::Time(_) => 0,
-        DataValue::Bit(_) => 0,
-        DataValue::Timestamp(_) => 0,
-    }
-}
-
-fn scale(v: DataValue) -> u8
-    ensures { result ≡ (content_of v).scale }
-{
-    match v {
-        DataValue::Null => 0,
-        DataValue::SmallInt(_) => 0,
-        DataValue::Int(_) => 0,
-        DataValue::BigInt(_) => 0,
-        DataValue::Real(_) => 0,
-        DataValue::DoublePrecision(_) => 0,
-        DataValue::Numeric(x) => x.scale,
-        DataValue::Bool(_) => 0,
-        DataValue::Char(_) => 0,
-        DataValue::Varchar(_) => 0,
-        DataValue::Date(_) => 0,
-        DataValue::Time(_) => 0,
-        DataValue::Bit(_) => 0,
-        DataValue::Timestamp(_) => 0,
+    Content {
+        word,
+        upper: 0,
+        scale: 0,
     }
 }
 
 fn content_of(v: DataValue) -> Content
     ensures { result ≡ content_of v }
 {
-    let low = word(v);
-    let high = upper(v);
-    let digits = scale(v);
-    Content {
-        word: low,
-        upper: high,
-        scale: digits,
-    }
-}
-
-// A Real's bits.
-fn real(v: DataValue) -> u32
-    ensures { result ≡ real_of v }
-{
     match v {
-        DataValue::Null => 0,
-        DataValue::SmallInt(_) => 0,
-        DataValue::Int(_) => 0,
-        DataValue::BigInt(_) => 0,
-        DataValue::Real(x) => x,
-        DataValue::DoublePrecision(_) => 0,
-        DataValue::Numeric(_) => 0,
-        DataValue::Bool(_) => 0,
-        DataValue::Char(_) => 0,
-        DataValue::Varchar(_) => 0,
-        DataValue::Date(_) => 0,
-        DataValue::Time(_) => 0,
-        DataValue::Bit(_) => 0,
-        DataValue::Timestamp(_) => 0,
+        DataValue::SmallInt(x) => of_word(signed::cast_unsigned_16(x) as u64),
+        DataValue::Int(x) => of_word(signed::cast_unsigned_32(x) as u64),
+        DataValue::BigInt(x) => of_word(signed::cast_unsigned_64(x)),
+        DataValue::Real(x) => of_word(x as u64),
+        DataValue::DoublePrecision(x) => of_word(x),
+        DataValue::Numeric(x) => Content {
+            word: x.low,
+            upper: signed::cast_unsigned_64(x.high),
+            scale: x.scale,
+        },
+        DataValue::Bool(b) => of_word(b as u64),
+        DataValue::Date(x) => of_word(signed::cast_unsigned_32(x) as u64),
+        DataValue::Time(x) => of_word(signed::cast_unsigned_64(x)),
+        DataValue::Timestamp(x) => of_word(signed::cast_unsigned_64(x)),
+        DataValue::Null | DataValue::Char(_) | DataValue::Varchar(_) | DataValue::Bit(_) => of_word(
+            0,
+        ),
     }
-}
-
-fn same_number(a: Content, b: Content) -> bool
-    ensures { result ≡ same_number a b }
-{
-    if a.word == b.word {
-        if a.upper == b.upper {
-            return a.scale == b.scale;
-        }
-        return false;
-    }
-    false
 }
 
 // Whether two values whose texts or packed bits are at hand are the same.
@@ -136,25 +61,16 @@ fn same_value(ty: DataType, a: DataValue, x: &[u8], b: DataValue, y: &[u8]) -> b
         × (kind_of b ≡ 12 → length y.now ≡ bytes_for (length_of ty)) }
     ensures { result ≡ same_by_fields (length_of ty) a x.now b y.now }
 {
-    let n = ty.declared_length() as usize;
-    let kind = a.kind();
-    let other = b.kind();
-    if kind != other {
-        return false;
+    match (a, b) {
+        (DataValue::Real(p), DataValue::Real(q)) => float::same_value(p, q),
+        (DataValue::DoublePrecision(p), DataValue::DoublePrecision(q)) => float::same_value(p, q),
+        (DataValue::Bit(_), DataValue::Bit(_)) => bit_utils::same_bits(
+            x,
+            y,
+            ty.declared_length() as usize,
+        ),
+        _ => a.kind() == b.kind() && endian::same_bytes(x, y) && content_of(a) == content_of(b),
     }
-    if kind == value_kinds::REAL {
-        return float::same_value(real(a), real(b));
-    }
-    if kind == value_kinds::DOUBLE_PRECISION {
-        return float::same_value(word(a), word(b));
-    }
-    if kind == value_kinds::BIT {
-        return bit_utils::same_bits(x, y, n);
-    }
-    if endian::same_bytes(x, y) {
-        return same_number(content_of(a), content_of(b));
-    }
-    false
 }
 
 // Whether two values read from columns of type ty are the same, each with its row.

@@ -10,8 +10,8 @@ returns-then-size-ne0 c =
     let added = plain_added a.schema.now a.at a.before c.plain_size-size.ensures.0 c.if-size-ne0.true c.with_column.ensures.0 in
     (rw (plain_record a.schema.now a.at (λ e. c.if-size-ne0.true (c.plain_size-size.ensures.0 ∙ e)), added), c.with_column.ensures.1)
 
-pub bounds-schema-at-2 : goal.bounds-schema-at-2
-bounds-schema-at-2 c =
+pub bounds-schema-at-else-size-ne0 : goal.bounds-schema-at-else-size-ne0
+bounds-schema-at-else-size-ne0 c =
     let a = c.args in
     let h = pass_here a.schema.now a.at a.before c.requires.0.good (sym c.plain_size-size.ensures.0 ∙ c.if-size-ne0.false) in
     search rules
@@ -27,7 +27,7 @@ body_shape-requires c =
     let body = sym c.plain_size-size.ensures.0 ∙ c.if-size-ne0.false in
     (body, known_body c.args.schema.now c.args.at c.args.before c.requires.0.good body)
 
-pub returns : goal.returns
-returns c =
+pub returns-else-size-ne0 : goal.returns-else-size-ne0
+returns-else-size-ne0 c =
     let a = c.args in
-    (rw (body_passed a.schema.now a.at a.before c.requires.0.good (sym c.plain_size-size.ensures.0 ∙ c.if-size-ne0.false), c.with_column-2.ensures.0, c.body_shape.ensures.0, c.read_u16-n.ensures), c.with_column-2.ensures.1)
+    (rw (body_passed a.schema.now a.at a.before c.requires.0.good (sym c.plain_size-size.ensures.0 ∙ c.if-size-ne0.false), c.with_column-else-size-ne0.ensures.0, c.body_shape.ensures.0, c.read_u16-n.ensures), c.with_column-else-size-ne0.ensures.1)
