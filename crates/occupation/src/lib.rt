@@ -15,7 +15,7 @@ ghost use Rattle.occupation.specs.InnerRead.{arrival_place, least_length, text_r
 ghost use Rattle.occupation.specs.InnerCompare.{Agree, comparison};
 
 use error::Refusal;
-use row_layout::{RowLayout, VarlenRange};
+use row_layout::{OffsetTable, RowLayout, VarlenRange};
 use std::cmp::Ordering;
 
 // Where the texts of a row stand in it, from 0 up to 0 for a null; and its moments, in microseconds from the year 1 on
@@ -52,7 +52,12 @@ fn text_range(row: &[u8], is_long: bool, column: usize) -> VarlenRange
     if null_bitmap::column_bit_is_set(row, column) {
         return VarlenRange::Null;
     }
-    row_layout::varlen_range(row, is_long, 5, 2, column)
+    let table = OffsetTable {
+        is_long,
+        start: 5,
+        entries: 2,
+    };
+    table.varlen_range(row, column)
 }
 
 // A text of at most n bytes.

@@ -5,6 +5,7 @@ ghost use Rattle.std.specs.Prelude.{◌≡◌, true, false, ◌+◌, ◌*◌, �
 ghost use Rattle.row_format.specs.Places.{offset_width};
 ghost use Rattle.row_layout.specs.Range.{varlen_range};
 ghost use Rattle.row_layout.specs.InnerLayout.{Bounded};
+ghost use Rattle.row_layout.specs.InnerRange.{HasEntry};
 ghost use Rattle.datatype.specs.Types.{size_of, is_varlen, precision_of};
 ghost use Rattle.row_column.specs.InnerWalk.{walked_frame, walked_column, Found, Reachable, InRow};
 ghost use Rattle.row_column.specs.Column.{read_bytes, varlen_value};
@@ -14,7 +15,7 @@ ghost use Rattle.datatype.specs.Check.{types_in};
 
 use datatype::DataType;
 use error::Refusal;
-use row_layout::{RowLayout, VarlenRange};
+use row_layout::{OffsetTable, RowLayout, VarlenRange};
 use value::DataValue;
 
 pub fn check_frame(layout: RowLayout, row: &[u8]) -> error::Result<bool>
@@ -104,19 +105,17 @@ fn read_varlen(
     ty: DataType,
     i: usize,
     row: &[u8],
-    is_long: bool,
-    table: usize,
-    varlens: usize,
+    table: OffsetTable,
     rank: usize,
 ) -> error::Result<DataValue>
     requires { (precision_of ty ≤ 38)
-        × ((is_varlen ty ≡ true) × ((rank < varlens) × (table + varlens * offset_width is_long ≤ length row.now))) }
+        × ((is_varlen ty ≡ true) × HasEntry table rank row.now) }
     ensures { (result
         ≡ varlen_value ty i row.now
-        (varlen_range (offset_width is_long) table varlens rank row.now))
+        (varlen_range (offset_width table.is_long) table.start table.entries rank row.now))
         × InRow (length row.now) result }
 {
-    match row_layout::varlen_range(row, is_long, table, varlens, rank) {
+    match table.varlen_range(row, rank) {
         VarlenRange::Null => Ok(DataValue::Null),
         VarlenRange::Bytes(start, end) => read_bytes(ty, i, row, start, end),
         VarlenRange::Outside => Err(Refusal::BadRange(i)),
@@ -140,16 +139,7 @@ pub fn read_column(
         return Ok(DataValue::Null);
     }
     if ty.is_variable_length() {
-        let table = layout.varlen_table_offset();
-        return read_varlen(
-            ty,
-            i,
-            row,
-            layout.is_long,
-            table,
-            layout.num_varlen_cols,
-            before.num_varlen_cols,
-        );
+        return read_varlen(ty, i, row, layout.offset_table(), before.num_varlen_cols);
     }
     let start = layout.fixed_data_start() + before.slot_start(packed, ty.alignment());
     read_bytes(ty, i, row, start, start + ty.fixed_size())

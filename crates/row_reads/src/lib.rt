@@ -4,6 +4,7 @@
 ghost use Rattle.std.specs.Prelude.{◌≡◌, true, false, ◌+◌, ◌*◌, ◌≤◌, ◌<◌, length, get_or, drop};
 ghost use Rattle.row_format.specs.Places.{offset_width};
 ghost use Rattle.row_layout.specs.Range.{varlen_range};
+ghost use Rattle.row_layout.specs.InnerRange.{HasEntry};
 ghost use Rattle.datatype.specs.Schema.{column_kind, column_record_at};
 ghost use Rattle.datatype.specs.InnerSteps.{plain_size, type_in};
 ghost use Rattle.datatype.specs.Check.{types_in};
@@ -14,23 +15,15 @@ ghost use Rattle.row_decode.specs.InnerWalk.{walked_read};
 ghost use Rattle.row_reads.specs.InnerReads.{range_reads, refusal_in, read_all, WalkAt};
 
 use datatype::schema_kinds;
-use row_layout::{RowLayout, VarlenRange};
+use row_layout::{OffsetTable, RowLayout, VarlenRange};
 
 // The range of a Varchar that is not marked null, whose n counts bytes or code points.
-fn range_reads(
-    by_points: bool,
-    n: usize,
-    row: &[u8],
-    is_long: bool,
-    table: usize,
-    varlens: usize,
-    rank: usize,
-) -> bool
-    requires { (rank < varlens) × (table + varlens * offset_width is_long ≤ length row.now) }
+fn range_reads(by_points: bool, n: usize, row: &[u8], table: OffsetTable, rank: usize) -> bool
+    requires { HasEntry table rank row.now }
     ensures { result ≡ range_reads by_points n row.now
-        (varlen_range (offset_width is_long) table varlens rank row.now) }
+        (varlen_range (offset_width table.is_long) table.start table.entries rank row.now) }
 {
-    match row_layout::varlen_range(row, is_long, table, varlens, rank) {
+    match table.varlen_range(row, rank) {
         VarlenRange::Null => true,
         VarlenRange::Outside => false,
         VarlenRange::Bytes(start, end) => text_limit::is_within(&row[start..end], by_points, n),
@@ -61,9 +54,7 @@ fn body_reads(
             kind == schema_kinds::VARCHAR_CHARS,
             n as usize,
             row,
-            layout.is_long,
-            layout.varlen_table_offset(),
-            layout.num_varlen_cols,
+            layout.offset_table(),
             before.num_varlen_cols,
         );
     }

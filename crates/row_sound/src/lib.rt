@@ -10,6 +10,7 @@ ghost use Rattle.text.specs.Rfc3629.{is_text};
 ghost use Rattle.temporal.specs.Time.{time_of};
 ghost use Rattle.row_format.specs.Places.{fixed_start, offset_width};
 ghost use Rattle.row_layout.specs.Range.{varlen_range};
+ghost use Rattle.row_layout.specs.InnerRange.{HasEntry};
 ghost use Rattle.row_layout.specs.InnerLayout.{Bounded, no_columns};
 ghost use Rattle.datatype.specs.declared.DataType.TheVariants.{Char, Varchar};
 ghost use Rattle.datatype.specs.Types.{is_varlen};
@@ -25,7 +26,7 @@ ghost use Rattle.row_sound.specs.InnerSlots.{range_sound, Recorded};
 ghost use Rattle.row_sound.specs.Laid.{is_value};
 
 use datatype::{DataType, schema_kinds};
-use row_layout::{RowLayout, VarlenRange};
+use row_layout::{OffsetTable, RowLayout, VarlenRange};
 
 // A stored Time, at `start`.
 fn time_sound(row: &[u8], start: usize) -> bool
@@ -78,21 +79,13 @@ pub fn plain_sound(
 }
 
 // The range of a Varchar that is not null, whose n counts bytes or code points.
-fn range_sound(
-    by_points: bool,
-    n: usize,
-    row: &[u8],
-    is_long: bool,
-    table: usize,
-    varlens: usize,
-    rank: usize,
-) -> bool
-    requires { (rank < varlens) × (table + varlens * offset_width is_long ≤ length row.now) }
+fn range_sound(by_points: bool, n: usize, row: &[u8], table: OffsetTable, rank: usize) -> bool
+    requires { HasEntry table rank row.now }
     ensures { result
         ≡ range_sound by_points n row.now
-        (varlen_range (offset_width is_long) table varlens rank row.now) }
+        (varlen_range (offset_width table.is_long) table.start table.entries rank row.now) }
 {
-    match row_layout::varlen_range(row, is_long, table, varlens, rank) {
+    match table.varlen_range(row, rank) {
         VarlenRange::Null => false,
         VarlenRange::Outside => false,
         VarlenRange::Bytes(start, end) => text_limit::is_within(&row[start..end], by_points, n),
@@ -111,21 +104,13 @@ fn varchar_sound(
     requires { Reachable layout packed before (Varchar by_points n) row.now }
     ensures { result ≡ walked_sound layout packed before (Varchar by_points n) row.now }
 {
-    let table = layout.varlen_table_offset();
+    let table = layout.offset_table();
     let rank = before.num_varlen_cols;
     if null_bitmap::column_bit_is_set(row, before.num_columns) {
-        let offset = row_layout::offset_at(row, layout.is_long, table, rank);
-        return offset == 0;
+        table.offset_at(row, rank) == 0
+    } else {
+        range_sound(by_points, n as usize, row, table, rank)
     }
-    range_sound(
-        by_points,
-        n as usize,
-        row,
-        layout.is_long,
-        table,
-        layout.num_varlen_cols,
-        rank,
-    )
 }
 
 // The slot of a Char(n).
@@ -257,16 +242,15 @@ fn first_payload(layout: RowLayout, row: &[u8]) -> usize
         ≤ length row.now) }
     ensures { result ≡ walked_first layout row.now }
 {
-    let varlens = layout.num_varlen_cols;
-    if varlens == 0 {
+    let table = layout.offset_table();
+    if table.entries == 0 {
         return row.len();
     }
-    let table = layout.varlen_table_offset();
-    let first = row_layout::offset_at(row, layout.is_long, table, 0);
+    let first = table.offset_at(row, 0);
     if first != 0 {
         return first;
     }
-    row_layout::range_end(row, layout.is_long, table, varlens, 0)
+    table.range_end(row, 0)
 }
 
 // The row's header is good.

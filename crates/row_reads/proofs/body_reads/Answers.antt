@@ -24,7 +24,7 @@ range_reads-requires c =
     let p = c.requires in
     let is = sym c.is_varchar.ensures ∙ c.if-is_varchar.true in
     let k = rw (varchar-typed (bodily p.0 p.1.0 p.1.1.0) is) at p.1.1.1 in
-    (k.rank refl, rw c.varlen_table_offset.ensures k.table)
+    rw c.offset_table.ensures (k.rank refl, k.table)
 
 pub returns-then-is_varchar : goal.returns-then-is_varchar
 returns-then-is_varchar c =
@@ -39,7 +39,7 @@ returns-then-is_varchar c =
       ← c.column_bit_is_set.ensures,
       c.if-column_bit_is_set.false,
     )
-    (rw c.varlen_table_offset.ensures at c.range_reads.ensures
+    (rw c.offset_table.ensures at c.range_reads.ensures
     ∙ range-reads (eqb a.kind 16) n.result a.before.num_columns a.row.now
     (varlen_range (offset_width l.is_long) (table_start l.num_columns) l.num_varlen_cols a.before.num_varlen_cols a.row.now))
 
