@@ -9,8 +9,7 @@ ghost use Rattle.row_layout.specs.InnerRange.{HasEntry};
 ghost use Rattle.datatype.specs.Types.{size_of, is_varlen, precision_of};
 ghost use Rattle.row_column.specs.InnerWalk.{walked_frame, walked_column, Found, Reachable, InRow};
 ghost use Rattle.row_column.specs.Column.{read_bytes, varlen_value};
-ghost use Rattle.datatype.specs.Schema.{column_records, column_record_at};
-ghost use Rattle.datatype.specs.InnerSteps.{type_in};
+ghost use Rattle.datatype.specs.Schema.{column_records};
 ghost use Rattle.datatype.specs.Check.{types_in};
 
 use datatype::DataType;
@@ -50,23 +49,6 @@ pub struct Column {
     pub ty: DataType,
 }
 
-// The column whose record stands at a place of a schema that was checked, so that it is not refused.
-fn column_here(schema: &[u8], at: usize, before: RowLayout) -> Column
-    requires { at < length schema.now }
-    ensures { (result.before ≡ before) × (result.ty ≡ type_in (column_record_at schema.now at)) }
-{
-    match datatype::record_at(schema, at) {
-        Err(_) => Column {
-            before,
-            ty: DataType::Varchar {
-                by_points: false,
-                n: 0,
-            },
-        },
-        Ok((ty, _)) => Column { before, ty },
-    }
-}
-
 // The schema was checked and has this column.
 pub fn column_at(schema: &[u8], column: usize) -> Column
     requires { (column_records 256 schema.now 0 ≡ Ok (types_in schema.now))
@@ -75,12 +57,14 @@ pub fn column_at(schema: &[u8], column: usize) -> Column
 {
     let mut before = RowLayout::new();
     let mut at = 0;
+    // Stays: each record says where the next starts, which no range or iterator of std does.
     while before.num_columns < column {
         let step = datatype::next_column(schema, at, before);
         before = step.before;
         at = step.at;
     }
-    column_here(schema, at, before)
+    let (ty, _) = datatype::record_at(schema, at).unwrap();
+    Column { before, ty }
 }
 
 // The bytes from `start` up to `end`, of column i.

@@ -163,11 +163,8 @@ impl RowLayout {
         requires { Bounded self × ((0 < a) × (a ≤ 8)) }
         ensures { result ≡ start_at packed a (size_in self packed) }
     {
-        if packed {
-            self.packed_size
-        } else {
-            round_up(self.padded_size, a)
-        }
+        let end = self.fixed_size(packed);
+        if packed { end } else { round_up(end, a) }
     }
 
     pub fn varlen_table_offset(self) -> usize

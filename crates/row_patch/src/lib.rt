@@ -136,6 +136,7 @@ fn store_varlen(
 }
 
 // The range is removed, and the offset of a null is 0.
+// Stays: a null has no value, text or size; with an Option store_varlen would ask for each of them.
 fn null_varlen(
     buf: &mut [u8],
     n: usize,
@@ -172,11 +173,7 @@ fn put_bit(row: &mut [u8], columns: usize, column: usize, null: bool)
     ensures { row.new ≡ bit_put (bit_value null) column row.old }
 {
     let bitmap = RowLayout::bitmap_offset();
-    if null {
-        null_bitmap::set_null(&mut row[bitmap..], columns, column).unwrap();
-    } else {
-        null_bitmap::clear_null(&mut row[bitmap..], columns, column).unwrap();
-    }
+    null_bitmap::put_null(&mut row[bitmap..], columns, column, null).unwrap();
 }
 
 // ---- a column and its bit
@@ -220,6 +217,7 @@ fn store_column(
 }
 
 // A null leaves the slot of a fixed column as it is.
+// Stays: as null_varlen beside store_varlen.
 fn store_null(
     buf: &mut [u8],
     n: usize,
@@ -266,6 +264,7 @@ pub fn write_value(
     m
 }
 
+// Stays: as null_varlen beside store_varlen.
 pub fn write_null(
     buf: &mut [u8],
     n: usize,

@@ -160,6 +160,7 @@ fn compare_columns(
 {
     let mut before = RowLayout::new();
     let mut at = 0;
+    // Stays: each record says where the next starts, which no range or iterator of std does.
     while at < schema.len() {
         let step = datatype::next_column(schema, at, before);
         let after = step.before;

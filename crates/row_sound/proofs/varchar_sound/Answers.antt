@@ -16,10 +16,10 @@ returns-then-column_bit_is_set c =
     let offset = rw c.offset_table-table.ensures at c.offset_at.ensures.0 in
     rw (varchar-told a.layout a.packed a.before a.row.now a.by_points a.n, ← c.column_bit_is_set.ensures, c.if-column_bit_is_set.true, ← offset)
 
-pub range_sound-requires : goal.range_sound-requires
-range_sound-requires c = rw c.offset_table-table.ensures (c.requires.rank refl, c.requires.table)
+pub range_holds-requires : goal.range_holds-requires
+range_holds-requires c = rw c.offset_table-table.ensures (c.requires.rank refl, c.requires.table)
 
 pub returns-else-column_bit_is_set : goal.returns-else-column_bit_is_set
 returns-else-column_bit_is_set c =
     let a = c.args in
-    rw (varchar-told a.layout a.packed a.before a.row.now a.by_points a.n, ← c.column_bit_is_set.ensures, c.if-column_bit_is_set.false) (rw c.offset_table-table.ensures at c.range_sound.ensures)
+    rw (varchar-told a.layout a.packed a.before a.row.now a.by_points a.n, ← c.column_bit_is_set.ensures, c.if-column_bit_is_set.false) (rw c.offset_table-table.ensures at c.range_holds.ensures)
