@@ -5,6 +5,7 @@ ghost use Rattle.std.specs.Prelude.{◌≡◌, false, ◌+◌, ◌*◌, ◌<◌,
 ghost use Rattle.laws.specs.Bits.{bit_at};
 ghost use Rattle.row_format.specs.Places.{offset_width, row_limit, bitmap_start};
 ghost use Rattle.row_layout.specs.Range.{varlen_range};
+ghost use Rattle.row_layout.specs.InnerRange.{HasEntry};
 ghost use Rattle.datatype.specs.declared.DataType.TheVariants.{Char as CharType, Varchar as VarcharType};
 ghost use Rattle.datatype.specs.Check.{type_at, types_in};
 ghost use Rattle.row_column.specs.Column.{read_bytes, varlen_value};
@@ -14,7 +15,7 @@ ghost use Rattle.column_decode.specs.InnerColumn.{stepped, no_points, DecodeAt};
 
 use datatype::schema_kinds;
 use error::Refusal;
-use row_layout::{RowLayout, VarlenRange};
+use row_layout::{OffsetTable, RowLayout, VarlenRange};
 use slot_record::RowPart;
 use value::DataValue;
 
@@ -37,26 +38,24 @@ fn decode_varchar(
     n: usize,
     i: usize,
     row: &[u8],
-    is_long: bool,
-    table: usize,
-    varlens: usize,
+    table: OffsetTable,
     rank: usize,
     buf: &mut [u8],
     end: usize,
 ) -> error::Result<(usize, u32)>
-    requires { ((rank < varlens) × (table + varlens * offset_width is_long ≤ length row.now))
-        × ((length row.now ≤ row_limit is_long) × (end + 18 ≤ length buf.old)) }
+    requires { HasEntry table rank row.now
+        × ((length row.now ≤ row_limit table.is_long) × (end + 18 ≤ length buf.old)) }
     ensures { (result, buf.new)
-        ≡ stepped is_long buf.old end (points_in row.now)
+        ≡ stepped table.is_long buf.old end (points_in row.now)
         (varlen_value (VarcharType by_points n) i row.now
-        (varlen_range (offset_width is_long) table varlens rank row.now)) }
+        (varlen_range (offset_width table.is_long) table.start table.entries rank row.now)) }
 {
-    match row_layout::varlen_range(row, is_long, table, varlens, rank) {
+    match table.varlen_range(row, rank) {
         VarlenRange::Null => Ok((record_encode::write_null(buf, end), 0)),
         VarlenRange::Bytes(start, stop) => {
             let part = RowPart {
                 row,
-                is_long,
+                is_long: table.is_long,
                 start,
                 end: stop,
             };
@@ -136,15 +135,12 @@ fn decode_body(
     let kind = schema[at];
     if datatype::is_varchar(kind) {
         let n = endian::read_u16(schema, at + 1) as usize;
-        let table = layout.varlen_table_offset();
         return decode_varchar(
             kind == schema_kinds::VARCHAR_CHARS,
             n,
             before.num_columns,
             row,
-            layout.is_long,
-            table,
-            layout.num_varlen_cols,
+            layout.offset_table(),
             before.num_varlen_cols,
             buf,
             end,

@@ -15,11 +15,8 @@ fn put_bit(b: u8, k: usize, set: bool) -> u8
     requires { k < 8 }
     ensures { result ≡ put_bit (bit_value set) k b }
 {
-    if (b >> k) % 2 == 1 {
-        if set { b } else { b - (1 << k) }
-    } else {
-        if set { b + (1 << k) } else { b }
-    }
+    let bit = 1 << k;
+    if set { b | bit } else { b & !bit }
 }
 
 pub fn bit_is_set(bits: &[u8], i: usize) -> bool
@@ -52,7 +49,7 @@ pub fn is_null(bits: &[u8], n: usize, i: usize) -> error::Result<bool>
 }
 
 // Column i of n marked null, or not null.
-fn put_null(bits: &mut [u8], n: usize, i: usize, null: bool) -> error::Result<()>
+pub fn put_null(bits: &mut [u8], n: usize, i: usize, null: bool) -> error::Result<()>
     ensures { (result, bits.new) ≡ flag_put (bit_value null) n i bits.old }
 {
     if n <= i {

@@ -15,7 +15,7 @@ ghost use Rattle.occupation.specs.InnerFields.{bytes_of, spanned, moment_from, f
 ghost use Rattle.occupation.specs.InnerRead.{arrival_place, least_length, text_range_in, text_column, moment_column, text_shown, moment_shown, span_of, ReadText, ReadMoment, with_platform};
 
 use error::Refusal;
-use row_layout::{RowLayout, VarlenRange};
+use row_layout::{OffsetTable, RowLayout, VarlenRange};
 
 // Where a text stands in its row.
 #[derive(Clone, Copy)]
@@ -62,10 +62,14 @@ fn text_range(row: &[u8], is_long: bool, column: usize) -> VarlenRange
     ensures { (result ≡ text_range_in is_long row.now column) × Inside row.now result }
 {
     if null_bitmap::column_bit_is_set(row, column) {
-        VarlenRange::Null
-    } else {
-        row_layout::varlen_range(row, is_long, 5, 2, column)
+        return VarlenRange::Null;
     }
+    let table = OffsetTable {
+        is_long,
+        start: 5,
+        entries: 2,
+    };
+    table.varlen_range(row, column)
 }
 
 // A text of at most n bytes.

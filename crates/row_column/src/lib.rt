@@ -5,16 +5,16 @@ ghost use Rattle.std.specs.Prelude.{◌≡◌, true, false, ◌+◌, ◌*◌, �
 ghost use Rattle.row_format.specs.Places.{offset_width};
 ghost use Rattle.row_layout.specs.Range.{varlen_range};
 ghost use Rattle.row_layout.specs.InnerLayout.{Bounded};
+ghost use Rattle.row_layout.specs.InnerRange.{HasEntry};
 ghost use Rattle.datatype.specs.Types.{size_of, is_varlen, precision_of};
 ghost use Rattle.row_column.specs.InnerWalk.{walked_frame, walked_column, Found, Reachable, InRow};
 ghost use Rattle.row_column.specs.Column.{read_bytes, varlen_value};
-ghost use Rattle.datatype.specs.Schema.{column_records, column_record_at};
-ghost use Rattle.datatype.specs.InnerSteps.{type_in};
+ghost use Rattle.datatype.specs.Schema.{column_records};
 ghost use Rattle.datatype.specs.Check.{types_in};
 
 use datatype::DataType;
 use error::Refusal;
-use row_layout::{RowLayout, VarlenRange};
+use row_layout::{OffsetTable, RowLayout, VarlenRange};
 use value::DataValue;
 
 pub fn check_frame(layout: RowLayout, row: &[u8]) -> error::Result<bool>
@@ -49,23 +49,6 @@ pub struct Column {
     pub ty: DataType,
 }
 
-// The column whose record stands at a place of a schema that was checked, so that it is not refused.
-fn column_here(schema: &[u8], at: usize, before: RowLayout) -> Column
-    requires { at < length schema.now }
-    ensures { (result.before ≡ before) × (result.ty ≡ type_in (column_record_at schema.now at)) }
-{
-    match datatype::record_at(schema, at) {
-        Err(_) => Column {
-            before,
-            ty: DataType::Varchar {
-                by_points: false,
-                n: 0,
-            },
-        },
-        Ok((ty, _)) => Column { before, ty },
-    }
-}
-
 // The schema was checked and has this column.
 pub fn column_at(schema: &[u8], column: usize) -> Column
     requires { (column_records 256 schema.now 0 ≡ Ok (types_in schema.now))
@@ -74,12 +57,14 @@ pub fn column_at(schema: &[u8], column: usize) -> Column
 {
     let mut before = RowLayout::new();
     let mut at = 0;
+    // Stays: each record says where the next starts, which no range or iterator of std does.
     while before.num_columns < column {
         let step = datatype::next_column(schema, at, before);
         before = step.before;
         at = step.at;
     }
-    column_here(schema, at, before)
+    let (ty, _) = datatype::record_at(schema, at).unwrap();
+    Column { before, ty }
 }
 
 // The bytes from `start` up to `end`, of column i.
@@ -104,19 +89,17 @@ fn read_varlen(
     ty: DataType,
     i: usize,
     row: &[u8],
-    is_long: bool,
-    table: usize,
-    varlens: usize,
+    table: OffsetTable,
     rank: usize,
 ) -> error::Result<DataValue>
     requires { (precision_of ty ≤ 38)
-        × ((is_varlen ty ≡ true) × ((rank < varlens) × (table + varlens * offset_width is_long ≤ length row.now))) }
+        × ((is_varlen ty ≡ true) × HasEntry table rank row.now) }
     ensures { (result
         ≡ varlen_value ty i row.now
-        (varlen_range (offset_width is_long) table varlens rank row.now))
+        (varlen_range (offset_width table.is_long) table.start table.entries rank row.now))
         × InRow (length row.now) result }
 {
-    match row_layout::varlen_range(row, is_long, table, varlens, rank) {
+    match table.varlen_range(row, rank) {
         VarlenRange::Null => Ok(DataValue::Null),
         VarlenRange::Bytes(start, end) => read_bytes(ty, i, row, start, end),
         VarlenRange::Outside => Err(Refusal::BadRange(i)),
@@ -140,16 +123,7 @@ pub fn read_column(
         return Ok(DataValue::Null);
     }
     if ty.is_variable_length() {
-        let table = layout.varlen_table_offset();
-        return read_varlen(
-            ty,
-            i,
-            row,
-            layout.is_long,
-            table,
-            layout.num_varlen_cols,
-            before.num_varlen_cols,
-        );
+        return read_varlen(ty, i, row, layout.offset_table(), before.num_varlen_cols);
     }
     let start = layout.fixed_data_start() + before.slot_start(packed, ty.alignment());
     read_bytes(ty, i, row, start, start + ty.fixed_size())

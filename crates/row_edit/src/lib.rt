@@ -23,30 +23,22 @@ ghost use Rattle.row_edit.specs.InnerOpened.{Opened, RangeAt};
 use error::Refusal;
 use row_column::Column;
 use row_layout::RowLayout;
+use std::ops::Range;
 use value::DataValue;
 
 // The range of a Varchar. That of a null is empty and stands where its text would.
-#[derive(Clone, Copy)]
-struct Range {
-    start: usize,
-    end: usize,
-}
-
-fn range_at(layout: RowLayout, before: RowLayout, row: &[u8]) -> Range
+fn range_at(layout: RowLayout, before: RowLayout, row: &[u8]) -> Range<usize>
     requires { Bounded layout
         × ((before.num_varlen_cols < layout.num_varlen_cols)
         × (fixed_start (offset_width layout.is_long) layout.num_columns layout.num_varlen_cols
         ≤ length row.now)) }
     ensures { RangeAt layout before row.now result.start result.end }
 {
-    let table = layout.varlen_table_offset();
+    let table = layout.offset_table();
     let rank = before.num_varlen_cols;
-    let end = row_layout::range_end(row, layout.is_long, table, layout.num_varlen_cols, rank);
-    let start = row_layout::offset_at(row, layout.is_long, table, rank);
-    if start != 0 {
-        return Range { start, end };
-    }
-    Range { start: end, end }
+    let end = table.range_end(row, rank);
+    let start = table.offset_at(row, rank);
+    if start != 0 { start..end } else { end..end }
 }
 
 // A value for a fixed column takes no more room.
@@ -131,9 +123,10 @@ fn set_suited(
 {
     let ty = found.ty;
     if ty.is_variable_length() {
-        return set_varlen(schema, layout, packed, buf, n, column, found, value, area);
+        set_varlen(schema, layout, packed, buf, n, column, found, value, area)
+    } else {
+        set_fixed(schema, layout, packed, buf, n, column, found, value, area)
     }
-    set_fixed(schema, layout, packed, buf, n, column, found, value, area)
 }
 
 // The kind is judged before the value.
@@ -154,37 +147,16 @@ fn set_column(
 {
     let found = row_column::column_at(schema, column);
     let ty = found.ty;
-    if value::data_value_matches_type(ty, value) {
-        if value_encode::suits(ty, value, area) {
-            return set_suited(schema, layout, packed, buf, n, column, found, value, area);
-        }
+    if !value::data_value_matches_type(ty, value) {
+        return Err(Refusal::WrongKind(column));
+    }
+    if !value_encode::suits(ty, value, area) {
         return Err(Refusal::Unsuitable(column));
     }
-    Err(Refusal::WrongKind(column))
+    set_suited(schema, layout, packed, buf, n, column, found, value, area)
 }
 
-// The list was checked and has one record.
-fn set_record(
-    schema: &[u8],
-    layout: RowLayout,
-    packed: bool,
-    buf: &mut [u8],
-    n: usize,
-    column: usize,
-    values: &[u8],
-    area: &[u8],
-) -> error::Result<usize>
-    requires { Opened schema.now layout packed buf.old n column
-        × (answer (checked layout.is_long 1 (length area.now) values.now) ≡ Ok tt) }
-    ensures { (result, buf.new)
-        ≡ written layout.is_long (types_in schema.now) packed buf.old n column
-        (given layout.is_long (type_at (types_in schema.now) column) column values.now
-        area.now) }
-{
-    let (v, _) = value_list::value_record_at(values, 0)?;
-    set_column(schema, layout, packed, buf, n, column, v, area)
-}
-
+// The list is checked, and has one record then.
 fn set_list(
     schema: &[u8],
     layout: RowLayout,
@@ -202,7 +174,8 @@ fn set_list(
         area.now) }
 {
     value_list::check_values(values, layout.is_long, 1, area.len())?;
-    set_record(schema, layout, packed, buf, n, column, values, area)
+    let (v, _) = value_list::value_record_at(values, 0)?;
+    set_column(schema, layout, packed, buf, n, column, v, area)
 }
 
 fn null_column(

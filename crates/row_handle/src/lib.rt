@@ -4,7 +4,6 @@
 #![tactic(auto)]
 
 ghost use Rattle.std.specs.Prelude.{◌≡◌};
-ghost use Rattle.row_layout.specs.Layout.{size_in};
 ghost use Rattle.row_format.specs.Header.{is_packed};
 ghost use Rattle.row_handle.specs.Handle.{geometry, handle_after, handle_set, handle_set_null};
 
@@ -47,23 +46,13 @@ fn is_packed(row: &[u8]) -> bool
     RowLayout::PACKED_LAYOUT_FLAG <= endian::read_u16(row, 2)
 }
 
-fn fixed_size(layout: RowLayout, packed: bool) -> usize
-    ensures { result ≡ size_in layout packed }
-{
-    if packed {
-        layout.packed_size
-    } else {
-        layout.padded_size
-    }
-}
-
 fn geometry_of(layout: RowLayout, packed: bool) -> HandleLayout
     ensures { result ≡ geometry layout packed }
 {
     HandleLayout {
         num_columns: layout.num_columns,
         num_varlen_cols: layout.num_varlen_cols,
-        fixed_size: fixed_size(layout, packed),
+        fixed_size: layout.fixed_size(packed),
         packed: packed as usize,
         is_long: layout.is_long as usize,
     }

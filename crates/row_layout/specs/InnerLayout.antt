@@ -3,7 +3,8 @@
 use Rattle.std.specs.Prelude.{ℕ, ◌+◌, ◌*◌, ◌≤◌, ◌<◌, Bool, true, false, []}
 use Rattle.row_format.specs.declared.Shape.{Shape}
 use Rattle.row_format.specs.declared.Shape.TheVariants.{Fixed, Varlen}
-use Rattle.row_format.specs.Places.{rank_after, end_after, fixed_start, offset_width}
+use Rattle.row_format.specs.Places.{rank_after, end_after, table_start, fixed_start, offset_width}
+use Rattle.row_layout.specs.declared.OffsetTable.{OffsetTable}
 use Rattle.row_layout.specs.declared.RowLayout.{RowLayout}
 use Rattle.row_layout.specs.Layout.{layout_of, size_in}
 
@@ -30,6 +31,10 @@ with_column l s =
       padded_size = end_after false s l.padded_size;
       is_long = l.is_long;
     }
+
+-- `offset_table`
+abbrev pub table_of : RowLayout → OffsetTable
+table_of l = record { is_long = l.is_long; start = table_start l.num_columns; entries = l.num_varlen_cols }
 
 -- `min_row_size`
 abbrev pub minimum_of : RowLayout → Bool → ℕ

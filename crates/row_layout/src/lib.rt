@@ -10,8 +10,8 @@ ghost use Rattle.row_format.specs.Table.{range_end};
 ghost use Rattle.laws.specs.Bytes.{to_le, entry_at};
 ghost use Rattle.row_layout.specs.Layout.{size_in};
 ghost use Rattle.row_layout.specs.Range.{varlen_range};
-ghost use Rattle.row_layout.specs.InnerLayout.{Bounded, Small, minimum_of, no_columns, of_sort, with_column};
-ghost use Rattle.row_layout.specs.InnerRange.{Inside};
+ghost use Rattle.row_layout.specs.InnerLayout.{Bounded, Small, minimum_of, no_columns, of_sort, table_of, with_column};
+ghost use Rattle.row_layout.specs.InnerRange.{Inside, HasEntry};
 
 use row_format::Shape;
 
@@ -59,9 +59,10 @@ pub fn varlen_count(field: u16, is_long: bool) -> usize
     ensures { result ≡ field % least_mark is_long }
 {
     if is_long {
-        return (field % RowLayout::LONG_LAYOUT_FLAG) as usize;
+        (field % RowLayout::LONG_LAYOUT_FLAG) as usize
+    } else {
+        (field % RowLayout::PACKED_LAYOUT_FLAG) as usize
     }
-    (field % RowLayout::PACKED_LAYOUT_FLAG) as usize
 }
 
 // The marks of a packed row, which the header adds to that count.
@@ -162,11 +163,8 @@ impl RowLayout {
         requires { Bounded self × ((0 < a) × (a ≤ 8)) }
         ensures { result ≡ start_at packed a (size_in self packed) }
     {
-        if packed {
-            self.packed_size
-        } else {
-            round_up(self.padded_size, a)
-        }
+        let end = self.fixed_size(packed);
+        if packed { end } else { round_up(end, a) }
     }
 
     pub fn varlen_table_offset(self) -> usize
@@ -174,6 +172,17 @@ impl RowLayout {
         ensures { result ≡ table_start self.num_columns }
     {
         RowLayout::bitmap_offset() + (self.num_columns + 7) / 8
+    }
+
+    pub fn offset_table(self) -> OffsetTable
+        requires { Bounded self }
+        ensures { result ≡ table_of self }
+    {
+        OffsetTable {
+            is_long: self.is_long,
+            start: self.varlen_table_offset(),
+            entries: self.num_varlen_cols,
+        }
     }
 
     pub fn fixed_data_start(self) -> usize
@@ -185,32 +194,27 @@ impl RowLayout {
         self.varlen_table_offset() + self.num_varlen_cols * offset_width(self.is_long)
     }
 
+    // The bytes of the fixed columns.
+    pub fn fixed_size(self, packed: bool) -> usize
+        ensures { result ≡ size_in self packed }
+    {
+        if packed {
+            self.packed_size
+        } else {
+            self.padded_size
+        }
+    }
+
     // The bytes before the payloads.
     pub fn min_row_size(self, packed: bool) -> usize
         requires { Bounded self }
         ensures { result ≡ minimum_of self packed }
     {
-        if packed {
-            self.fixed_data_start() + self.packed_size
-        } else {
-            self.fixed_data_start() + self.padded_size
-        }
+        self.fixed_data_start() + self.fixed_size(packed)
     }
 }
 
-// The offset of a rank, in the table that starts at `table`.
-pub fn offset_at(row: &[u8], is_long: bool, table: usize, rank: usize) -> usize
-    requires { table + (rank + 1) * offset_width is_long ≤ length row.now }
-    ensures { (result ≡ entry_at (offset_width is_long) table rank row.now)
-        × (result < 256 ^ offset_width is_long) }
-{
-    if is_long {
-        return endian::read_u32(row, table + rank * 4) as usize;
-    }
-    endian::read_u16(row, table + rank * 2) as usize
-}
-
-// An offset stored where its entry stands.
+// An offset stored at `at`, where an entry of the table stands.
 pub fn write_offset(row: &mut [u8], is_long: bool, at: usize, offset: usize)
     requires { (at + offset_width is_long ≤ length row.old) × (offset < 256 ^ offset_width is_long) }
     ensures { row.new ≡ sets row.old at (to_le (offset_width is_long) offset) }
@@ -222,25 +226,6 @@ pub fn write_offset(row: &mut [u8], is_long: bool, at: usize, offset: usize)
     }
 }
 
-// Where the range of a rank ends: at the first offset of a higher rank that is not 0, else at the row's end.
-pub fn range_end(row: &[u8], is_long: bool, table: usize, varlens: usize, rank: usize) -> usize
-    requires { (rank < varlens) × (table + varlens * offset_width is_long ≤ length row.now) }
-    ensures { result ≡ range_end (offset_width is_long) table varlens rank row.now }
-{
-    let mut k = rank + 1;
-    let end = loop {
-        if varlens <= k {
-            break row.len();
-        }
-        let o = offset_at(row, is_long, table, k);
-        if o != 0 {
-            break o;
-        }
-        k += 1;
-    };
-    end
-}
-
 // The range of a Varchar: none for offset 0, and no part of the row for one that starts behind its end or ends behind
 // the row's.
 #[derive(Clone, Copy)]
@@ -250,27 +235,72 @@ pub enum VarlenRange {
     Outside,
 }
 
-pub fn varlen_range(
-    row: &[u8],
-    is_long: bool,
-    table: usize,
-    varlens: usize,
-    rank: usize,
-) -> VarlenRange
-    requires { (rank < varlens) × (table + varlens * offset_width is_long ≤ length row.now) }
-    ensures { (result ≡ varlen_range (offset_width is_long) table varlens rank row.now)
-        × Inside row.now result }
-{
-    let start = offset_at(row, is_long, table, rank);
-    if start == 0 {
-        return VarlenRange::Null;
+// The offset table of a row: `entries` offsets of a sort's width, the first at byte `start`.
+#[derive(Clone, Copy)]
+pub struct OffsetTable {
+    pub is_long: bool,
+    pub start: usize,
+    pub entries: usize,
+}
+
+impl OffsetTable {
+    // The offset of a rank.
+    pub fn offset_at(self, row: &[u8], rank: usize) -> usize
+        requires { self.start + (rank + 1) * offset_width self.is_long ≤ length row.now }
+        ensures { (result ≡ entry_at (offset_width self.is_long) self.start rank row.now)
+            × (result < 256 ^ offset_width self.is_long) }
+    {
+        if self.is_long {
+            endian::read_u32(row, self.start + rank * 4) as usize
+        } else {
+            endian::read_u16(row, self.start + rank * 2) as usize
+        }
     }
-    let end = range_end(row, is_long, table, varlens, rank);
-    if end < start {
-        return VarlenRange::Outside;
+
+    // The offset of a rank stored.
+    pub fn put_offset(self, row: &mut [u8], rank: usize, offset: usize)
+        requires { (self.start + (rank + 1) * offset_width self.is_long ≤ length row.old)
+            × (offset < 256 ^ offset_width self.is_long) }
+        ensures { row.new ≡ sets row.old (self.start + rank * offset_width self.is_long)
+            (to_le (offset_width self.is_long) offset) }
+    {
+        if self.is_long {
+            write_offset(row, true, self.start + rank * 4, offset);
+        } else {
+            write_offset(row, false, self.start + rank * 2, offset);
+        }
     }
-    if row.len() < end {
-        return VarlenRange::Outside;
+
+    // Where the range of a rank ends: at the first offset of a higher rank that is not 0, else at the row's end.
+    pub fn range_end(self, row: &[u8], rank: usize) -> usize
+        requires { HasEntry self rank row.now }
+        ensures { result ≡ range_end (offset_width self.is_long) self.start self.entries rank row.now }
+    {
+        for k in rank + 1..self.entries {
+            let o = self.offset_at(row, k);
+            if o != 0 {
+                return o;
+            }
+        }
+        row.len()
     }
-    VarlenRange::Bytes(start, end)
+
+    pub fn varlen_range(self, row: &[u8], rank: usize) -> VarlenRange
+        requires { HasEntry self rank row.now }
+        ensures { (result ≡ varlen_range (offset_width self.is_long) self.start self.entries rank row.now)
+            × Inside row.now result }
+    {
+        let start = self.offset_at(row, rank);
+        if start == 0 {
+            return VarlenRange::Null;
+        }
+        let end = self.range_end(row, rank);
+        if end < start {
+            return VarlenRange::Outside;
+        }
+        if row.len() < end {
+            return VarlenRange::Outside;
+        }
+        VarlenRange::Bytes(start, end)
+    }
 }

@@ -15,79 +15,56 @@ ghost use Rattle.row_patch.specs.InnerOffsets.{moved_from, table_edit, CanMove, 
 ghost use Rattle.row_patch.specs.InnerStores.{form_of, bit_put, column_set, row_set, Suited, change, Replaceable, RangeReady, Editable};
 
 use datatype::DataType;
-use row_layout::RowLayout;
+use row_layout::{OffsetTable, RowLayout};
 use value::DataValue;
 
 // ---- the offset table
 
-fn put_offset(row: &mut [u8], is_long: bool, table: usize, rank: usize, offset: usize)
-    requires { (table + (rank + 1) * offset_width is_long ≤ length row.old)
-        × (offset < 256 ^ offset_width is_long) }
-    ensures { row.new
-        ≡ sets row.old (table + rank * offset_width is_long) (to_le (offset_width is_long) offset) }
-{
-    if is_long {
-        row_layout::write_offset(row, true, table + rank * 4, offset);
-    } else {
-        row_layout::write_offset(row, false, table + rank * 2, offset);
-    }
-}
-
 // An offset of 0 says null and stays.
-fn move_offset(row: &mut [u8], is_long: bool, table: usize, rank: usize, end: usize, new_end: usize)
-    requires { (table + (rank + 1) * offset_width is_long ≤ length row.old)
-        × CanMove (offset_width is_long) end new_end (entry_at (offset_width is_long) table rank row.old) }
+fn move_offset(row: &mut [u8], table: OffsetTable, rank: usize, end: usize, new_end: usize)
+    requires { (table.start + (rank + 1) * offset_width table.is_long ≤ length row.old)
+        × CanMove (offset_width table.is_long) end new_end
+        (entry_at (offset_width table.is_long) table.start rank row.old) }
     ensures { row.new
-        ≡ sets row.old (table + rank * offset_width is_long)
-        (to_le (offset_width is_long)
-        (moved_by end new_end (entry_at (offset_width is_long) table rank row.old))) }
+        ≡ sets row.old (table.start + rank * offset_width table.is_long)
+        (to_le (offset_width table.is_long)
+        (moved_by end new_end (entry_at (offset_width table.is_long) table.start rank row.old))) }
 {
-    let o = row_layout::offset_at(row, is_long, table, rank);
+    let o = table.offset_at(row, rank);
     if o != 0 {
-        put_offset(row, is_long, table, rank, o + new_end - end);
+        table.put_offset(row, rank, o + new_end - end);
     }
 }
 
 // The offsets of higher rank.
-fn move_offsets(
-    row: &mut [u8],
-    is_long: bool,
-    table: usize,
-    varlens: usize,
-    rank: usize,
-    end: usize,
-    new_end: usize,
-)
-    requires { HigherMove (offset_width is_long) table varlens rank end new_end row.old }
+fn move_offsets(row: &mut [u8], table: OffsetTable, rank: usize, end: usize, new_end: usize)
+    requires { HigherMove (offset_width table.is_long) table.start table.entries rank end new_end row.old }
     ensures { row.new
-        ≡ moved_from (offset_width is_long) table varlens (rank + 1) end new_end row.old }
+        ≡ moved_from (offset_width table.is_long) table.start table.entries (rank + 1) end new_end
+        row.old }
 {
-    let mut k = rank + 1;
-    while k < varlens {
-        move_offset(row, is_long, table, k, end, new_end);
-        k += 1;
+    for k in rank + 1..table.entries {
+        move_offset(row, table, k, end, new_end);
     }
 }
 
 // The table, where the range of a rank ended at `end` and ends at `new_end` now, and has the offset `own`.
 fn edit_table(
     row: &mut [u8],
-    is_long: bool,
-    table: usize,
-    varlens: usize,
+    table: OffsetTable,
     rank: usize,
     own: usize,
     end: usize,
     new_end: usize,
 )
-    requires { HigherMove (offset_width is_long) table varlens rank end new_end row.old
-        × (own < 256 ^ offset_width is_long) }
+    requires { HigherMove (offset_width table.is_long) table.start table.entries rank end new_end row.old
+        × (own < 256 ^ offset_width table.is_long) }
     ensures { row.new
-        ≡ table_edit (offset_table (offset_width is_long) table varlens) rank own end new_end
-        row.old }
+        ≡ table_edit (offset_table (offset_width table.is_long) table.start table.entries) rank own
+        end new_end row.old }
 {
-    move_offsets(row, is_long, table, varlens, rank, end, new_end);
-    put_offset(row, is_long, table, rank, own);
+    move_offsets(row, table, rank, end, new_end);
+    table.put_offset(row, rank, own);
 }
 
 // ---- bytes of the row replaced
@@ -134,10 +111,8 @@ fn remove(buf: &mut [u8], n: usize, start: usize, end: usize)
 // The range of a Varchar, from `start` to `end`, gets the value's text. The answer is the row's new length.
 fn store_varlen(
     buf: &mut [u8],
-    is_long: bool,
     n: usize,
-    table: usize,
-    varlens: usize,
+    table: OffsetTable,
     rank: usize,
     start: usize,
     end: usize,
@@ -145,10 +120,10 @@ fn store_varlen(
     value: DataValue,
     area: &[u8],
 ) -> usize
-    requires { RangeReady is_long table varlens rank (change n start end (range_of value).length) buf.old
+    requires { RangeReady table.is_long table.start table.entries rank (change n start end (range_of value).length) buf.old
         × (Suited ty value area.now × (is_varlen ty ≡ true)) }
     ensures { Holds buf.old
-        (range_edit (offset_table (offset_width is_long) table varlens) rank
+        (range_edit (offset_table (offset_width table.is_long) table.start table.entries) rank
         (some (form_of ty value area.now)) (span start end) (take n buf.old))
         buf.new result }
 {
@@ -156,38 +131,28 @@ fn store_varlen(
     let size = range.length;
     replace(buf, n, start, end, size, ty, value, area);
     let m = start + size + (n - end);
-    edit_table(
-        &mut buf[..m],
-        is_long,
-        table,
-        varlens,
-        rank,
-        start,
-        end,
-        start + size,
-    );
+    edit_table(&mut buf[..m], table, rank, start, end, start + size);
     m
 }
 
 // The range is removed, and the offset of a null is 0.
+// Stays: a null has no value, text or size; with an Option store_varlen would ask for each of them.
 fn null_varlen(
     buf: &mut [u8],
-    is_long: bool,
     n: usize,
-    table: usize,
-    varlens: usize,
+    table: OffsetTable,
     rank: usize,
     start: usize,
     end: usize,
 ) -> usize
-    requires { RangeReady is_long table varlens rank (change n start end 0) buf.old }
+    requires { RangeReady table.is_long table.start table.entries rank (change n start end 0) buf.old }
     ensures { Holds buf.old
-        (range_edit (offset_table (offset_width is_long) table varlens) rank none (span start end)
-        (take n buf.old)) buf.new result }
+        (range_edit (offset_table (offset_width table.is_long) table.start table.entries) rank none
+        (span start end) (take n buf.old)) buf.new result }
 {
     remove(buf, n, start, end);
     let m = start + (n - end);
-    edit_table(&mut buf[..m], is_long, table, varlens, rank, 0, end, start);
+    edit_table(&mut buf[..m], table, rank, 0, end, start);
     m
 }
 
@@ -208,11 +173,7 @@ fn put_bit(row: &mut [u8], columns: usize, column: usize, null: bool)
     ensures { row.new ≡ bit_put (bit_value null) column row.old }
 {
     let bitmap = RowLayout::bitmap_offset();
-    if null {
-        null_bitmap::set_null(&mut row[bitmap..], columns, column).unwrap();
-    } else {
-        null_bitmap::clear_null(&mut row[bitmap..], columns, column).unwrap();
-    }
+    null_bitmap::put_null(&mut row[bitmap..], columns, column, null).unwrap();
 }
 
 // ---- a column and its bit
@@ -238,13 +199,10 @@ fn store_column(
         (take n buf.old)) buf.new result }
 {
     if ty.is_variable_length() {
-        let table = layout.varlen_table_offset();
         return store_varlen(
             buf,
-            layout.is_long,
             n,
-            table,
-            layout.num_varlen_cols,
+            layout.offset_table(),
             before.num_varlen_cols,
             start,
             end,
@@ -259,6 +217,7 @@ fn store_column(
 }
 
 // A null leaves the slot of a fixed column as it is.
+// Stays: as null_varlen beside store_varlen.
 fn store_null(
     buf: &mut [u8],
     n: usize,
@@ -275,10 +234,8 @@ fn store_null(
         result }
 {
     if ty.is_variable_length() {
-        let table = layout.varlen_table_offset();
-        let varlens = layout.num_varlen_cols;
         let rank = before.num_varlen_cols;
-        return null_varlen(buf, layout.is_long, n, table, varlens, rank, start, end);
+        return null_varlen(buf, n, layout.offset_table(), rank, start, end);
     }
     n
 }
@@ -307,6 +264,7 @@ pub fn write_value(
     m
 }
 
+// Stays: as null_varlen beside store_varlen.
 pub fn write_null(
     buf: &mut [u8],
     n: usize,

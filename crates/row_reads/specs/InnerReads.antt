@@ -2,11 +2,10 @@
 use Rattle.error.specs.Result.{Result}
 use Rattle.value.specs.declared.DataValue.{DataValue}
 use Rattle.std.specs.Prelude.{ℕ, ◌-◌, ◌≤◌, Bool, true, false, List, ◌≡◌, length, take, drop, Err, Ok}
-use Rattle.text_limit.specs.Limit.{fits_text}
 use Rattle.row_layout.specs.declared.RowLayout.{RowLayout}
 use Rattle.row_layout.specs.declared.VarlenRange.{VarlenRange}
-use Rattle.row_layout.specs.declared.VarlenRange.TheVariants as Range
 use Rattle.row_layout.specs.InnerLayout.{Bounded}
+use Rattle.row_sound.specs.InnerSlots.{range_holds}
 use Rattle.datatype.specs.Schema.{column_records}
 use Rattle.datatype.specs.Check.{types_in}
 use Rattle.datatype.specs.InnerCheck.{layout_before}
@@ -14,9 +13,7 @@ use Rattle.value_list.specs.Lists.{Values}
 
 -- whether the range of a Varchar reads: that of an offset 0 as null
 abbrev pub range_reads : Bool → ℕ → List ℕ → VarlenRange → Bool
-range_reads byPoints n r Range.Null = true
-range_reads byPoints n r (Range.Bytes a e) = fits_text byPoints n (take (e - a) (drop a r))
-range_reads byPoints n r Range.Outside = false
+range_reads = range_holds true
 
 -- the refusal of a column that does not read
 abbrev pub refusal_in : Result DataValue → Result Bool

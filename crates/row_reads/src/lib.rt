@@ -2,8 +2,6 @@
 #![tactic(auto)]
 
 ghost use Rattle.std.specs.Prelude.{◌≡◌, true, false, ◌+◌, ◌*◌, ◌≤◌, ◌<◌, length, get_or, drop};
-ghost use Rattle.row_format.specs.Places.{offset_width};
-ghost use Rattle.row_layout.specs.Range.{varlen_range};
 ghost use Rattle.datatype.specs.Schema.{column_kind, column_record_at};
 ghost use Rattle.datatype.specs.InnerSteps.{plain_size, type_in};
 ghost use Rattle.datatype.specs.Check.{types_in};
@@ -11,31 +9,10 @@ ghost use Rattle.row_column.specs.InnerWalk.{Framed, walked_column, Reachable};
 ghost use Rattle.row_sound.specs.Sound.{reads};
 ghost use Rattle.row_sound.specs.InnerSlots.{Recorded};
 ghost use Rattle.row_decode.specs.InnerWalk.{walked_read};
-ghost use Rattle.row_reads.specs.InnerReads.{range_reads, refusal_in, read_all, WalkAt};
+ghost use Rattle.row_reads.specs.InnerReads.{refusal_in, read_all, WalkAt};
 
 use datatype::schema_kinds;
-use row_layout::{RowLayout, VarlenRange};
-
-// The range of a Varchar that is not marked null, whose n counts bytes or code points.
-fn range_reads(
-    by_points: bool,
-    n: usize,
-    row: &[u8],
-    is_long: bool,
-    table: usize,
-    varlens: usize,
-    rank: usize,
-) -> bool
-    requires { (rank < varlens) × (table + varlens * offset_width is_long ≤ length row.now) }
-    ensures { result ≡ range_reads by_points n row.now
-        (varlen_range (offset_width is_long) table varlens rank row.now) }
-{
-    match row_layout::varlen_range(row, is_long, table, varlens, rank) {
-        VarlenRange::Null => true,
-        VarlenRange::Outside => false,
-        VarlenRange::Bytes(start, end) => text_limit::is_within(&row[start..end], by_points, n),
-    }
-}
+use row_layout::RowLayout;
 
 // A column whose kind is followed by a body. Any bytes are bits.
 fn body_reads(
@@ -57,13 +34,12 @@ fn body_reads(
         return true;
     }
     if datatype::is_varchar(kind) {
-        return range_reads(
+        return row_sound::range_holds(
+            true,
             kind == schema_kinds::VARCHAR_CHARS,
             n as usize,
             row,
-            layout.is_long,
-            layout.varlen_table_offset(),
-            layout.num_varlen_cols,
+            layout.offset_table(),
             before.num_varlen_cols,
         );
     }
@@ -133,6 +109,7 @@ pub fn check_columns(
 {
     let mut before = start;
     let mut at = from;
+    // Stays: each record says where the next starts, which no range or iterator of std does.
     while at < schema.len() {
         if !column_reads(schema, at, layout, packed, before, row) {
             return column_refusal(schema, at, layout, packed, before, row);

@@ -6,7 +6,6 @@
 
 ghost use Rattle.std.specs.Prelude.{◌≡◌, true, ◌<◌};
 ghost use Rattle.laws.specs.Bytes.{same_bytes};
-ghost use Rattle.row_layout.specs.Layout.{size_in};
 ghost use Rattle.row_layout.specs.InnerRange.{Inside};
 ghost use Rattle.datatype.specs.Types.{length_of};
 ghost use Rattle.datatype.specs.Schema.{column_record_at};
@@ -30,16 +29,11 @@ fn alike_ranges(a: &[u8], first: VarlenRange, b: &[u8], second: VarlenRange) -> 
     requires { Inside a.now first × Inside b.now second }
     ensures { result ≡ alike_ranges a.now first b.now second }
 {
-    match first {
-        VarlenRange::Null => false,
-        VarlenRange::Outside => false,
-        VarlenRange::Bytes(start, end) => {
-            match second {
-                VarlenRange::Null => false,
-                VarlenRange::Outside => false,
-                VarlenRange::Bytes(from, to) => { endian::same_bytes(&a[start..end], &b[from..to]) }
-            }
+    match (first, second) {
+        (VarlenRange::Bytes(start, end), VarlenRange::Bytes(from, to)) => {
+            endian::same_bytes(&a[start..end], &b[from..to])
         }
+        _ => false,
     }
 }
 
@@ -49,10 +43,8 @@ fn long_ranges(rank: usize, layout: RowLayout, a: &[u8], other: RowLayout, b: &[
     ensures { result ≡ alike_ranges a.now (range_in rank layout a.now)
         b.now (range_in rank other b.now) }
 {
-    let table = layout.varlen_table_offset();
-    let first = row_layout::varlen_range(a, layout.is_long, table, layout.num_varlen_cols, rank);
-    let beside = other.varlen_table_offset();
-    let second = row_layout::varlen_range(b, other.is_long, beside, other.num_varlen_cols, rank);
+    let first = layout.offset_table().varlen_range(a, rank);
+    let second = other.offset_table().varlen_range(b, rank);
     alike_ranges(a, first, b, second)
 }
 
@@ -65,22 +57,9 @@ fn same_ranges(rank: usize, layout: RowLayout, a: &[u8], other: RowLayout, b: &[
     if layout.is_long | other.is_long {
         return long_ranges(rank, layout, a, other, b);
     }
-    let table = layout.varlen_table_offset();
-    let first = row_layout::varlen_range(a, false, table, layout.num_varlen_cols, rank);
-    let beside = other.varlen_table_offset();
-    let second = row_layout::varlen_range(b, false, beside, other.num_varlen_cols, rank);
+    let first = layout.of_sort(false).offset_table().varlen_range(a, rank);
+    let second = other.of_sort(false).offset_table().varlen_range(b, rank);
     alike_ranges(a, first, b, second)
-}
-
-// The bytes of the fixed columns.
-fn size_in(layout: RowLayout, packed: bool) -> usize
-    ensures { result ≡ size_in layout packed }
-{
-    if packed {
-        layout.packed_size
-    } else {
-        layout.padded_size
-    }
 }
 
 // Whether the fixed bytes of a column are the same, those that pad its start included: `before` is the layout of the
@@ -101,11 +80,11 @@ fn same_slots(
         (fixed_part before after other q b.now) }
 {
     let base = layout.fixed_data_start();
-    let start = base + size_in(before, p);
-    let end = base + size_in(after, p);
+    let start = base + before.fixed_size(p);
+    let end = base + after.fixed_size(p);
     let second = other.fixed_data_start();
-    let from = second + size_in(before, q);
-    let to = second + size_in(after, q);
+    let from = second + before.fixed_size(q);
+    let to = second + after.fixed_size(q);
     endian::same_bytes(&a[start..end], &b[from..to])
 }
 
@@ -132,42 +111,10 @@ fn same_stored(
     }
     let rank = before.num_varlen_cols;
     if rank < after.num_varlen_cols {
-        return same_ranges(rank, layout, a, other, b);
+        same_ranges(rank, layout, a, other, b)
+    } else {
+        same_slots(before, after, layout, p, a, other, q, b)
     }
-    same_slots(before, after, layout, p, a, other, q, b)
-}
-
-// The column's value v in row a against what the column of row b reads as.
-fn compare(
-    ty: DataType,
-    v: DataValue,
-    a: &[u8],
-    column: error::Result<DataValue>,
-    b: &[u8],
-) -> error::Result<bool>
-    requires { (stands_in (length_of ty) v a.now ≡ true) × Stands ty b.now column }
-    ensures { result ≡ compared_with ty v a.now column b.now }
-{
-    let w = column?;
-    Ok(value_same::same_content(ty, v, a, w, b))
-}
-
-fn compare_values(
-    ty: DataType,
-    before: RowLayout,
-    layout: RowLayout,
-    p: bool,
-    a: &[u8],
-    other: RowLayout,
-    q: bool,
-    b: &[u8],
-) -> error::Result<bool>
-    requires { Reachable layout p before ty a.now × Reachable other q before ty b.now }
-    ensures { result ≡ compared_at ty before layout p a.now other q b.now }
-{
-    let v = row_column::read_column(layout, p, before, ty, a)?;
-    let column = row_column::read_column(other, q, before, ty, b);
-    compare(ty, v, a, column, b)
 }
 
 // The column whose record stands at a place of the schema, by its values.
@@ -189,7 +136,9 @@ fn compare_column(
         layout p a.now other q b.now }
 {
     let (ty, _) = datatype::record_at(schema, at)?;
-    compare_values(ty, before, layout, p, a, other, q, b)
+    let v = row_column::read_column(layout, p, before, ty, a)?;
+    let w = row_column::read_column(other, q, before, ty, b)?;
+    Ok(value_same::same_content(ty, v, a, w, b))
 }
 
 // All columns. The schema was checked, so that no record of it is refused here, and every column of row a reads.
@@ -211,6 +160,7 @@ fn compare_columns(
 {
     let mut before = RowLayout::new();
     let mut at = 0;
+    // Stays: each record says where the next starts, which no range or iterator of std does.
     while at < schema.len() {
         let step = datatype::next_column(schema, at, before);
         let after = step.before;
@@ -227,62 +177,7 @@ fn compare_columns(
     Ok(true)
 }
 
-// Every column of row a reads, and the schema is good for rows of the sort of b.
-fn compare_framed(
-    schema: &[u8],
-    layout: RowLayout,
-    p: bool,
-    a: &[u8],
-    other: RowLayout,
-    b: &[u8],
-) -> error::Result<bool>
-    requires { Framed schema.now layout p a.now × (Accepted schema.now other
-        × AllRead (walked_all (types_in schema.now) layout a.now p)) }
-    ensures { result ≡ both_read (types_in schema.now)
-        a.now (walked_all (types_in schema.now) layout a.now p)
-        b.now (walked_row (types_in schema.now) other b.now) }
-{
-    let q = row_column::check_frame(other, b)?;
-    compare_columns(schema, layout, p, a, other, q, b)
-}
-
-// Every column of row a reads. The schema was checked for its sort; only the limit of a sort is left for that of b.
-fn compare_second(
-    schema: &[u8],
-    layout: RowLayout,
-    p: bool,
-    a: &[u8],
-    other: RowLayout,
-    b: &[u8],
-) -> error::Result<bool>
-    requires { Framed schema.now layout p a.now × (Accepted schema.now other
-        × AllRead (walked_all (types_in schema.now) layout a.now p)) }
-    ensures { result ≡ both_read (types_in schema.now)
-        a.now (walked_all (types_in schema.now) layout a.now p)
-        b.now (limited_row schema.now other b.now) }
-{
-    datatype::finish(other, schema.len())?;
-    compare_framed(schema, layout, p, a, other, b)
-}
-
-// The first row's header is good.
-fn compare_read(
-    schema: &[u8],
-    layout: RowLayout,
-    p: bool,
-    a: &[u8],
-    other: RowLayout,
-    b: &[u8],
-) -> error::Result<bool>
-    requires { Framed schema.now layout p a.now × Accepted schema.now other }
-    ensures { result ≡ both_read (types_in schema.now)
-        a.now (walked_all (types_in schema.now) layout a.now p)
-        b.now (limited_row schema.now other b.now) }
-{
-    row_reads::check_columns(schema, layout, p, a, RowLayout::new(), 0, true)?;
-    compare_second(schema, layout, p, a, other, b)
-}
-
+// The schema was checked for the sort of a; only the limit of a sort is left for that of b.
 fn compare_rows(
     schema: &[u8],
     layout: RowLayout,
@@ -296,7 +191,10 @@ fn compare_rows(
         b.now (limited_row schema.now other b.now) }
 {
     let p = row_column::check_frame(layout, a)?;
-    compare_read(schema, layout, p, a, other, b)
+    row_reads::check_columns(schema, layout, p, a, RowLayout::new(), 0, true)?;
+    datatype::finish(other, schema.len())?;
+    let q = row_column::check_frame(other, b)?;
+    compare_columns(schema, layout, p, a, other, q, b)
 }
 
 // Whether two rows have the same content, each of the sort that its own mark tells.

@@ -6,11 +6,15 @@ use Rattle.row_layout.specs.declared.VarlenRange.TheVariants as Range
 use Rattle.datatype.specs.Schema.{column_record_at}
 use Rattle.datatype.specs.InnerSteps.{type_in}
 
--- whether the range of a Varchar that is not null is sound
+-- whether the range of a Varchar that is not marked null holds a text of its type; z for an offset of 0
+abbrev pub range_holds : Bool → Bool → ℕ → List ℕ → VarlenRange → Bool
+range_holds z byPoints n r Range.Null = z
+range_holds z byPoints n r (Range.Bytes a e) = fits_text byPoints n (take (e - a) (drop a r))
+range_holds z byPoints n r Range.Outside = false
+
+-- whether it is sound: an offset of 0 says null
 abbrev pub range_sound : Bool → ℕ → List ℕ → VarlenRange → Bool
-range_sound byPoints n r Range.Null = false
-range_sound byPoints n r (Range.Bytes a e) = fits_text byPoints n (take (e - a) (drop a r))
-range_sound byPoints n r Range.Outside = false
+range_sound = range_holds false
 
 -- the record at a place of a schema that was accepted
 pub record Recorded (s : List ℕ) (at : ℕ) : Type 0 where

@@ -25,7 +25,7 @@ decode_varchar-requires c =
     let n = c.read_u16-n.ensures in
     let typed = sym c.requires.0.typed ∙ (sized_record c.args.schema.now c.args.at c.requires.0.good (Varchar (eqb k 16)) (varchar-kind k (sym c.is_varchar.ensures ∙ c.if-is_varchar.true))).1 ∙ ap (Varchar (eqb k 16)) (sym n) in
     let q = subst (λ (t : DataType). Reachable a.layout a.packed a.before t a.row.now) typed c.requires.0.reach in
-    ((q.rank refl, rw c.varlen_table_offset-table.ensures q.table), (c.requires.0.short, c.requires.0.room))
+    rw c.offset_table.ensures ((q.rank refl, q.table), (c.requires.0.short, c.requires.0.room))
 
 pub returns-then-is_varchar : goal.returns-then-is_varchar
 returns-then-is_varchar c =
@@ -34,9 +34,8 @@ returns-then-is_varchar c =
     rw (
       sym c.requires.0.typed ∙ (sized_record c.args.schema.now c.args.at c.requires.0.good (Varchar (eqb k 16)) (varchar-kind k (sym c.is_varchar.ensures ∙ c.if-is_varchar.true))).1 ∙ ap (Varchar (eqb k 16)) (sym n),
       c.requires.1,
-      ← c.varlen_table_offset-table.ensures,
     )
-    c.decode_varchar.ensures
+    (rw c.offset_table.ensures at c.decode_varchar.ensures)
 
 pub read_u16-n-requires-in-9 : goal.read_u16-n-requires-in-9
 read_u16-n-requires-in-9 c =

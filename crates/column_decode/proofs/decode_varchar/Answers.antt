@@ -24,7 +24,7 @@ returns-in-Bytes c =
     let i = rw c.in-Bytes.is at c.varlen_range.ensures.1 in
     rw (← c.varlen_range.ensures.0, c.in-Bytes.is)
     (c.varchar_record.ensures
-    ∙ slot-stepped a.is_long a.buf.now a.end a.i (points bs) (points_in a.row.now) (read_slot (Varchar a.by_points a.n) c.in-Bytes.start bs)
+    ∙ slot-stepped a.table.is_long a.buf.now a.end a.i (points bs) (points_in a.row.now) (read_slot (Varchar a.by_points a.n) c.in-Bytes.start bs)
     (count-varchar a.row.now c.in-Bytes.start c.in-Bytes.stop i.0 i.1 a.by_points a.n))
 
 pub returns-in-Outside : goal.returns-in-Outside

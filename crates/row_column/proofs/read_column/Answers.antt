@@ -10,11 +10,11 @@ pub read_varlen-requires : goal.read_varlen-requires
 read_varlen-requires c =
     let p = c.requires in
     let t = sym c.is_variable_length.ensures ∙ c.if-is_variable_length.true in
-    (p.digits, (t, (p.rank t, rw c.varlen_table_offset-table.ensures p.table)))
+    (p.digits, (t, rw c.offset_table.ensures (p.rank t, p.table)))
 
 pub returns-then-is_variable_length : goal.returns-then-is_variable_length
 returns-then-is_variable_length c =
-    (rw (← c.column_bit_is_set.ensures, c.if-column_bit_is_set.false, ← c.is_variable_length.ensures, c.if-is_variable_length.true, ← c.varlen_table_offset-table.ensures) c.read_varlen.ensures.0, c.read_varlen.ensures.1)
+    (rw (← c.column_bit_is_set.ensures, c.if-column_bit_is_set.false, ← c.is_variable_length.ensures, c.if-is_variable_length.true) (rw c.offset_table.ensures at c.read_varlen.ensures.0), c.read_varlen.ensures.1)
 
 pub overflow_add-start : goal.overflow_add-start
 overflow_add-start c =

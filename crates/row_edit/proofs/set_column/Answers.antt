@@ -14,25 +14,25 @@ pub suits-requires : goal.suits-requires
 suits-requires c = c.column_at-found.ensures.digits
 
 pub set_suited-requires : goal.set_suited-requires
-set_suited-requires c = (c.requires, (c.column_at-found.ensures, record { digits = c.column_at-found.ensures.digits; kind = sym c.data_value_matches_type.ensures ∙ c.if-data_value_matches_type.true; holds = sym c.suits.ensures ∙ c.if-suits.true }))
-
-pub returns-then-suits : goal.returns-then-suits
-returns-then-suits c =
-    let a = c.args in
-    let is = ap (λ (t : DataType). stored_in a.column t a.value a.area.now) c.column_at-found.ensures.type_is in
-    let g = suit_good a.column c.column_at-found.result.ty a.value a.area.now (sym c.data_value_matches_type.ensures ∙ c.if-data_value_matches_type.true) (sym c.suits.ensures ∙ c.if-suits.true) in
-    c.set_suited.ensures ∙ ap (written a.layout.is_long (types_in a.schema.now) a.packed a.buf.now a.n a.column) (sym g ∙ is)
-
-pub returns-then-data_value_matches_type : goal.returns-then-data_value_matches_type
-returns-then-data_value_matches_type c =
-    let a = c.args in
-    let is = ap (λ (t : DataType). stored_in a.column t a.value a.area.now) c.column_at-found.ensures.type_is in
-    let g = suit_bad a.column c.column_at-found.result.ty a.value a.area.now (sym c.data_value_matches_type.ensures ∙ c.if-data_value_matches_type.true) (sym c.suits.ensures ∙ c.if-suits.false) in
-    ap (written a.layout.is_long (types_in a.schema.now) a.packed a.buf.now a.n a.column) (sym g ∙ is)
+set_suited-requires c = (c.requires, (c.column_at-found.ensures, record { digits = c.column_at-found.ensures.digits; kind = sym c.data_value_matches_type.ensures ∙ c.if-not-data_value_matches_type.false; holds = sym c.suits.ensures ∙ c.if-not-suits.false }))
 
 pub returns : goal.returns
 returns c =
     let a = c.args in
     let is = ap (λ (t : DataType). stored_in a.column t a.value a.area.now) c.column_at-found.ensures.type_is in
-    let g = kind_bad a.column c.column_at-found.result.ty a.value a.area.now (sym c.data_value_matches_type.ensures ∙ c.if-data_value_matches_type.false) in
+    let g = suit_good a.column c.column_at-found.result.ty a.value a.area.now (sym c.data_value_matches_type.ensures ∙ c.if-not-data_value_matches_type.false) (sym c.suits.ensures ∙ c.if-not-suits.false) in
+    c.set_suited.ensures ∙ ap (written a.layout.is_long (types_in a.schema.now) a.packed a.buf.now a.n a.column) (sym g ∙ is)
+
+pub returns-then-not-suits : goal.returns-then-not-suits
+returns-then-not-suits c =
+    let a = c.args in
+    let is = ap (λ (t : DataType). stored_in a.column t a.value a.area.now) c.column_at-found.ensures.type_is in
+    let g = suit_bad a.column c.column_at-found.result.ty a.value a.area.now (sym c.data_value_matches_type.ensures ∙ c.if-not-data_value_matches_type.false) (sym c.suits.ensures ∙ c.if-not-suits.true) in
+    ap (written a.layout.is_long (types_in a.schema.now) a.packed a.buf.now a.n a.column) (sym g ∙ is)
+
+pub returns-then-not-data_value_matches_type : goal.returns-then-not-data_value_matches_type
+returns-then-not-data_value_matches_type c =
+    let a = c.args in
+    let is = ap (λ (t : DataType). stored_in a.column t a.value a.area.now) c.column_at-found.ensures.type_is in
+    let g = kind_bad a.column c.column_at-found.result.ty a.value a.area.now (sym c.data_value_matches_type.ensures ∙ c.if-not-data_value_matches_type.true) in
     ap (written a.layout.is_long (types_in a.schema.now) a.packed a.buf.now a.n a.column) (sym g ∙ is)

@@ -11,5 +11,5 @@ pub set_fixed-requires : goal.set_fixed-requires
 set_fixed-requires c =
     (c.requires.0, (c.requires.1.0, (rw c.is_variable_length.ensures at c.if-is_variable_length.false, c.requires.1.1)))
 
-pub returns : goal.returns
-returns c = c.set_fixed.ensures
+pub returns-else-is_variable_length : goal.returns-else-is_variable_length
+returns-else-is_variable_length c = c.set_fixed.ensures

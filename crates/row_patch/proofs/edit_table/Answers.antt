@@ -9,11 +9,11 @@ pub put_offset-requires : goal.put_offset-requires
 put_offset-requires c =
     let a = c.args in
     let h = c.requires.0 in
-    let e = entry_in a.is_long a.table a.varlens a.rank (length a.row.now) h.ranked h.inside in
+    let e = entry_in a.table.is_long a.table.start a.table.entries a.rank (length a.row.now) h.ranked h.inside in
     search rules
 
 pub returns : goal.returns
 returns c =
     let a = c.args in
     let h = c.requires.0 in
-    table-edited (offset_width a.is_long) a.table a.varlens a.rank a.own a.end a.new_end a.row.now c.slice_known-1.given h.ranked h.inside _ _ c.move_offsets.ensures c.put_offset.ensures
+    table-edited (offset_width a.table.is_long) a.table.start a.table.entries a.rank a.own a.end a.new_end a.row.now c.slice_known-1.given h.ranked h.inside _ _ c.move_offsets.ensures c.put_offset.ensures

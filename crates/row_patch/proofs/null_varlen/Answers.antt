@@ -15,7 +15,7 @@ slice_bounds-edit_table-end-2 c =
 pub edit_table-requires : goal.edit_table-requires
 edit_table-requires c =
     let a = c.args in
-    (table_ready c.requires none refl (a.start + (a.n - a.end)) a.start (rw add-zero) (rw add-zero) _ c.remove.ensures, fits_limit a.is_long (omega arith))
+    (table_ready c.requires none refl (a.start + (a.n - a.end)) a.start (rw add-zero) (rw add-zero) _ c.remove.ensures, fits_limit a.table.is_long (omega arith))
 
 pub returns : goal.returns
 returns c =

@@ -7,10 +7,10 @@ pub store_varlen-requires : goal.store_varlen-requires
 store_varlen-requires c =
     let p = c.requires in
     let t = sym c.is_variable_length.ensures ∙ c.if-is_variable_length.true in
-    (rw c.varlen_table_offset-table.ensures (p.0.range t), (p.1, t))
+    (rw c.offset_table.ensures (p.0.range t), (p.1, t))
 
 pub returns-then-is_variable_length : goal.returns-then-is_variable_length
-returns-then-is_variable_length c = rw (← c.is_variable_length.ensures, c.if-is_variable_length.true, ← c.varlen_table_offset-table.ensures) c.store_varlen.ensures
+returns-then-is_variable_length c = rw (← c.is_variable_length.ensures, c.if-is_variable_length.true) (rw c.offset_table.ensures at c.store_varlen.ensures)
 
 pub overflow_add-at : goal.overflow_add-at
 overflow_add-at c =

@@ -52,7 +52,7 @@ edit_table-requires c =
     let e = c.range-range.ensures in
     let g = rw (← e) at p.0 in
     let size = c.range-range.result.length in
-    (table_ready g (some (form_of a.ty a.value a.area.now)) (rw e (length-text p.1.0 p.1.1)) (a.start + size + (a.n - a.end)) (a.start + size) refl refl _ c.replace.ensures, fits_limit a.is_long (omega (arith, g.short)))
+    (table_ready g (some (form_of a.ty a.value a.area.now)) (rw e (length-text p.1.0 p.1.1)) (a.start + size + (a.n - a.end)) (a.start + size) refl refl _ c.replace.ensures, fits_limit a.table.is_long (omega (arith, g.short)))
 
 pub returns : goal.returns
 returns c =

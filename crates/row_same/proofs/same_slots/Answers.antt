@@ -7,7 +7,7 @@ overflow_add-start c =
     let s = c.requires.0.0.slot n in
     let r = c.requires.0.0.rises n in
     let f = c.fixed_data_start-base.ensures.0 in
-    let x = c.size_in.ensures in
+    let x = c.fixed_size.ensures in
     search rules
 
 pub overflow_add-end : goal.overflow_add-end
@@ -16,7 +16,7 @@ overflow_add-end c =
     let s = c.requires.0.0.slot n in
     let r = c.requires.0.0.rises n in
     let f = c.fixed_data_start-base.ensures.0 in
-    let x = c.size_in-2.ensures in
+    let x = c.fixed_size-2.ensures in
     search rules
 
 pub overflow_add-from : goal.overflow_add-from
@@ -25,7 +25,7 @@ overflow_add-from c =
     let s = c.requires.0.1.slot n in
     let r = c.requires.0.1.rises n in
     let f = c.fixed_data_start-second.ensures.0 in
-    let x = c.size_in-3.ensures in
+    let x = c.fixed_size-3.ensures in
     search rules
 
 pub overflow_add-to : goal.overflow_add-to
@@ -34,7 +34,7 @@ overflow_add-to c =
     let s = c.requires.0.1.slot n in
     let r = c.requires.0.1.rises n in
     let f = c.fixed_data_start-second.ensures.0 in
-    let x = c.size_in-4.ensures in
+    let x = c.fixed_size-4.ensures in
     search rules
 
 pub slice_bounds-same_bytes-count : goal.slice_bounds-same_bytes-count
@@ -43,8 +43,8 @@ slice_bounds-same_bytes-count c =
     let s = c.requires.0.0.slot n in
     let r = c.requires.0.0.rises n in
     let f = c.fixed_data_start-base.ensures.0 in
-    let x = c.size_in.ensures in
-    let y = c.size_in-2.ensures in
+    let x = c.fixed_size.ensures in
+    let y = c.fixed_size-2.ensures in
     search rules
 
 pub slice_bounds-same_bytes-start : goal.slice_bounds-same_bytes-start
@@ -53,8 +53,8 @@ slice_bounds-same_bytes-start c =
     let s = c.requires.0.0.slot n in
     let r = c.requires.0.0.rises n in
     let f = c.fixed_data_start-base.ensures.0 in
-    let x = c.size_in.ensures in
-    let y = c.size_in-2.ensures in
+    let x = c.fixed_size.ensures in
+    let y = c.fixed_size-2.ensures in
     search rules
 
 pub slice_bounds-same_bytes-end : goal.slice_bounds-same_bytes-end
@@ -63,8 +63,8 @@ slice_bounds-same_bytes-end c =
     let s = c.requires.0.0.slot n in
     let r = c.requires.0.0.rises n in
     let f = c.fixed_data_start-base.ensures.0 in
-    let x = c.size_in.ensures in
-    let y = c.size_in-2.ensures in
+    let x = c.fixed_size.ensures in
+    let y = c.fixed_size-2.ensures in
     search rules
 
 pub slice_bounds-same_bytes-count-2 : goal.slice_bounds-same_bytes-count-2
@@ -73,8 +73,8 @@ slice_bounds-same_bytes-count-2 c =
     let s = c.requires.0.1.slot n in
     let r = c.requires.0.1.rises n in
     let f = c.fixed_data_start-second.ensures.0 in
-    let x = c.size_in-3.ensures in
-    let y = c.size_in-4.ensures in
+    let x = c.fixed_size-3.ensures in
+    let y = c.fixed_size-4.ensures in
     search rules
 
 pub slice_bounds-same_bytes-start-2 : goal.slice_bounds-same_bytes-start-2
@@ -83,8 +83,8 @@ slice_bounds-same_bytes-start-2 c =
     let s = c.requires.0.1.slot n in
     let r = c.requires.0.1.rises n in
     let f = c.fixed_data_start-second.ensures.0 in
-    let x = c.size_in-3.ensures in
-    let y = c.size_in-4.ensures in
+    let x = c.fixed_size-3.ensures in
+    let y = c.fixed_size-4.ensures in
     search rules
 
 pub slice_bounds-same_bytes-end-2 : goal.slice_bounds-same_bytes-end-2
@@ -93,18 +93,18 @@ slice_bounds-same_bytes-end-2 c =
     let s = c.requires.0.1.slot n in
     let r = c.requires.0.1.rises n in
     let f = c.fixed_data_start-second.ensures.0 in
-    let x = c.size_in-3.ensures in
-    let y = c.size_in-4.ensures in
+    let x = c.fixed_size-3.ensures in
+    let y = c.fixed_size-4.ensures in
     search rules
 
 pub returns : goal.returns
 returns c =
     rw (
       ← c.fixed_data_start-base.ensures.0,
-      ← c.size_in.ensures,
-      ← c.size_in-2.ensures,
+      ← c.fixed_size.ensures,
+      ← c.fixed_size-2.ensures,
       ← c.fixed_data_start-second.ensures.0,
-      ← c.size_in-3.ensures,
-      ← c.size_in-4.ensures,
+      ← c.fixed_size-3.ensures,
+      ← c.fixed_size-4.ensures,
     )
     c.same_bytes.ensures

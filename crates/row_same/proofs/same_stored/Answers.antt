@@ -28,8 +28,8 @@ returns-then-rank-after c =
     )
     c.same_ranges.ensures
 
-pub returns : goal.returns
-returns c =
+pub returns-else-rank-after : goal.returns-else-rank-after
+returns-else-rank-after c =
     rw (
       ← c.column_bit_is_set.ensures,
       c.if-column_bit_is_set.false,

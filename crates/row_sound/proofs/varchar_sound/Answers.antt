@@ -5,21 +5,21 @@ use Rattle.row_format.proofs.Sorts.{entry_in}
 use mathlib.Core.Path.{refl}
 use Rattle.row_sound.proofs.varchar_sound.Goals as goal
 
-pub offset_at-offset-requires : goal.offset_at-offset-requires
-offset_at-offset-requires c =
+pub offset_at-requires : goal.offset_at-requires
+offset_at-requires c =
     let a = c.args in
-    rw c.varlen_table_offset-table.ensures (entry_in a.layout.is_long (table_start a.layout.num_columns) a.layout.num_varlen_cols a.before.num_varlen_cols (length a.row.now) (c.requires.rank refl) c.requires.table)
+    rw c.offset_table-table.ensures (entry_in a.layout.is_long (table_start a.layout.num_columns) a.layout.num_varlen_cols a.before.num_varlen_cols (length a.row.now) (c.requires.rank refl) c.requires.table)
 
 pub returns-then-column_bit_is_set : goal.returns-then-column_bit_is_set
 returns-then-column_bit_is_set c =
     let a = c.args in
-    rw (varchar-told a.layout a.packed a.before a.row.now a.by_points a.n, ← c.column_bit_is_set.ensures, c.if-column_bit_is_set.true, ← c.varlen_table_offset-table.ensures, ← c.offset_at-offset.ensures.0)
+    let offset = rw c.offset_table-table.ensures at c.offset_at.ensures.0 in
+    rw (varchar-told a.layout a.packed a.before a.row.now a.by_points a.n, ← c.column_bit_is_set.ensures, c.if-column_bit_is_set.true, ← offset)
 
-pub range_sound-requires : goal.range_sound-requires
-range_sound-requires c =
-    (c.requires.rank refl, rw c.varlen_table_offset-table.ensures c.requires.table)
+pub range_holds-requires : goal.range_holds-requires
+range_holds-requires c = rw c.offset_table-table.ensures (c.requires.rank refl, c.requires.table)
 
-pub returns : goal.returns
-returns c =
+pub returns-else-column_bit_is_set : goal.returns-else-column_bit_is_set
+returns-else-column_bit_is_set c =
     let a = c.args in
-    rw (varchar-told a.layout a.packed a.before a.row.now a.by_points a.n, ← c.column_bit_is_set.ensures, c.if-column_bit_is_set.false, ← c.varlen_table_offset-table.ensures) c.range_sound.ensures
+    rw (varchar-told a.layout a.packed a.before a.row.now a.by_points a.n, ← c.column_bit_is_set.ensures, c.if-column_bit_is_set.false) (rw c.offset_table-table.ensures at c.range_holds.ensures)

@@ -1,5 +1,5 @@
 use borrow.Author.Rules.{rules}
-use Rattle.row_sound.proofs.range_sound.Goals as goal
+use Rattle.row_sound.proofs.range_holds.Goals as goal
 
 pub slice_bounds-is_within-count : goal.slice_bounds-is_within-count
 slice_bounds-is_within-count c = let h = rw c.in-Bytes.is at c.varlen_range.ensures.1 in search rules
