@@ -10,7 +10,8 @@ ghost use Rattle.calendar.specs.InnerDays.{march_days, FromMarch};
 ghost use Rattle.calendar.specs.Moment.{ascii_digits, date_text, time_text, moment_text};
 ghost use Rattle.calendar.specs.InnerMoment.{moment_of};
 
-// Of the 8 bytes of a Timestamp: 2^64 - 62,135,596,800,000,000 stands for the first microsecond of the year 1.
+// Microseconds since 0001-01-01 00:00:00, of the 8 bytes of a Timestamp: 2^64 - 62,135,596,800,000,000 stands for the
+// first of them.
 pub fn moment_of(stored: u64) -> Option<u64>
     ensures { result ≡ moment_of (to_z w64 stored) }
 {

@@ -133,7 +133,7 @@ fn good_digits(precision: u8, scale: u8) -> bool
     1 <= precision && precision <= 38 && scale <= precision
 }
 
-// A record of a kind that is followed by two bytes, or of no kind.
+// A column's type, and the place after its record, of a kind that is followed by two bytes, or of no kind.
 fn body_at(schema: &[u8], at: usize, kind: u8) -> error::Result<(DataType, usize)>
     requires { (at < length schema.now) × (plain_size (column_kind kind) ≡ 0) }
     ensures { result ≡ column_record_of (column_kind kind) schema.now at }
@@ -180,6 +180,7 @@ pub fn plain_size(kind: u8) -> usize
     }
 }
 
+// The same of any kind.
 pub fn record_at(schema: &[u8], at: usize) -> error::Result<(DataType, usize)>
     requires { at < length schema.now }
     ensures { result ≡ column_record_at schema.now at }
@@ -267,7 +268,7 @@ pub fn finish(layout: RowLayout, at: usize) -> error::Result<RowLayout>
     }
 }
 
-// The check of a schema for the rows of a sort.
+// The layout of a schema's rows of a sort, or why its bytes are no schema.
 pub fn check_schema(schema: &[u8], is_long: bool) -> error::Result<RowLayout>
     ensures { (result ≡ checked_schema is_long (schema_of is_long schema.now)) × BoundedIn result }
 {

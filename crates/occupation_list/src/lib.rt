@@ -57,7 +57,7 @@ fn insert(order: &mut [u16], k: usize, p: usize, at: u16)
     order[p] = at;
 }
 
-// The row at a place of the list, put behind all that it does not come before.
+// The row at a place of the list, put behind all that it does not come before: the bytes of its line.
 fn add_row(list: &[u8], at: usize, order: &mut [u16], k: usize) -> error::Result<usize>
     requires { Addable list.now order.old k at }
     ensures { AddedAs list.now order.old k at result order.new }
@@ -69,7 +69,7 @@ fn add_row(list: &[u8], at: usize, order: &mut [u16], k: usize) -> error::Result
     Ok(occupation::line_length(f))
 }
 
-// The rows of a list that is whole.
+// The rows of a whole list in order: how many, and the bytes of all their lines.
 fn arrange_rows(list: &[u8], order: &mut [u16]) -> error::Result<(usize, usize)>
     requires { Arrangeable list.now order.old }
     ensures { ArrangedAs list.now order.new result }

@@ -43,7 +43,8 @@ only_value (Err r) = None
 -- 11: another kind; 12: the value does not suit; 14: too little room
 abbrev pub stored_value : DataType → DataValue → List ℕ → List ℕ → Outcome
 stored_value t v area out =
-    cond (matches t v) (cond (accepted t v area) (placed out (stored_form t v (text_of area v))) (unchanged out (Unsuitable 0)))
+    cond (matches t v)
+    (cond (accepted t v area) (placed out (stored_form t v (text_of area v))) (unchanged out (Unsuitable 0)))
     (unchanged out (WrongKind 0))
 
 -- 10: no list of one value

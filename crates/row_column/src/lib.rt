@@ -17,6 +17,7 @@ use error::Refusal;
 use row_layout::{OffsetTable, RowLayout, VarlenRange};
 use value::DataValue;
 
+// Whether a row is packed whose header suits the schema.
 pub fn check_frame(layout: RowLayout, row: &[u8]) -> error::Result<bool>
     requires { Bounded layout }
     ensures { result ≡ walked_frame layout row.now }

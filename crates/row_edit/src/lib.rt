@@ -211,7 +211,7 @@ fn null_column(
     Ok(row_patch::write_null(buf, n, layout, packed, before, ty, 0, 0))
 }
 
-// What both calls ask of the row, behind the schema's check.
+// What both calls ask of the row, behind the schema's check: whether it is packed.
 fn open_row(
     schema: &[u8],
     layout: RowLayout,

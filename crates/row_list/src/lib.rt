@@ -10,7 +10,7 @@ use error::Refusal;
 // The most bytes of a list.
 pub const LIST_LIMIT: usize = 32768;
 
-// The list is looked at whole before any of its rows.
+// How many rows a whole list has. It is looked at whole before any of its rows.
 pub fn check(list: &[u8], most: usize) -> error::Result<usize>
     ensures { result ≡ list_checked (rows_of most list.now) }
 {

@@ -120,7 +120,8 @@ fn store_varlen(
     value: DataValue,
     area: &[u8],
 ) -> usize
-    requires { RangeReady table.is_long table.start table.entries rank (change n start end (range_of value).length) buf.old
+    requires { RangeReady table.is_long table.start table.entries rank
+        (change n start end (range_of value).length) buf.old
         × (Suited ty value area.now × (is_varlen ty ≡ true)) }
     ensures { Holds buf.old
         (range_edit (offset_table (offset_width table.is_long) table.start table.entries) rank

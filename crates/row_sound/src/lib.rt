@@ -271,7 +271,7 @@ fn row_sound(schema: &[u8], layout: RowLayout, packed: bool, row: &[u8]) -> Opti
     None
 }
 
-// Whether a row of a schema that was checked is sound.
+// Whether a sound row is packed; none for a row that is not sound. The schema was checked.
 pub fn check_sound(schema: &[u8], layout: RowLayout, row: &[u8]) -> Option<bool>
     requires { Accepted schema.now layout }
     ensures { result ≡ soundness layout.is_long (types_in schema.now) row.now }

@@ -44,7 +44,7 @@ fn low_32(q: i64) -> u32
     (q.cast_unsigned() % 0x1_0000_0000) as u32
 }
 
-// The count is split as the Rust does it: the seconds keep their low 32 bits.
+// What a stored Time reads as. The count is split as the Rust does it: the seconds keep their low 32 bits.
 pub fn time_of(micros: i64) -> Option<i64>
     ensures { result ≡ time_of micros }
 {

@@ -20,7 +20,7 @@ pub fn is_valid(s: &[u8]) -> bool
     check(s).is_some()
 }
 
-// Whether the bytes are valid text, and of how many code points. A text of ASCII alone is told first.
+// The number of code points of a valid text; none for other bytes. A text of ASCII alone is told first.
 pub fn check(s: &[u8]) -> Option<usize>
     ensures { result ≡ check_of (code_points s.now) }
 {

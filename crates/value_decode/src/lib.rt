@@ -129,6 +129,7 @@ fn read_timestamp(bytes: &[u8]) -> Option<DataValue>
     None
 }
 
+// What a column's bytes read as; none for bytes that are no value of its type.
 pub fn from_bytes(ty: DataType, bytes: &[u8], start: usize) -> Option<DataValue>
     requires { (precision_of ty ≤ 38) × (is_varlen ty ≡ false → length bytes.now ≡ size_of ty) }
     ensures { result ≡ read_slot ty start bytes.now }

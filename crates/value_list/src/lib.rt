@@ -107,6 +107,7 @@ fn value_at(list: &[u8], is_long: bool, at: usize, kind: u8) -> DataValue
     }
 }
 
+// A value, and the place after its record.
 pub fn value_record_at(list: &[u8], at: usize) -> error::Result<(DataValue, usize)>
     requires { at < length list.now }
     ensures { result ≡ record_at list.now at }

@@ -35,20 +35,20 @@ fn content_of(v: DataValue) -> Content
     ensures { result ≡ content_of v }
 {
     match v {
-        DataValue::SmallInt(x) => of_word(signed::cast_unsigned_16(x) as u64),
-        DataValue::Int(x) => of_word(signed::cast_unsigned_32(x) as u64),
-        DataValue::BigInt(x) => of_word(signed::cast_unsigned_64(x)),
+        DataValue::SmallInt(x) => of_word(x.cast_unsigned() as u64),
+        DataValue::Int(x) => of_word(x.cast_unsigned() as u64),
+        DataValue::BigInt(x) => of_word(x.cast_unsigned()),
         DataValue::Real(x) => of_word(x as u64),
         DataValue::DoublePrecision(x) => of_word(x),
         DataValue::Numeric(x) => Content {
             word: x.low,
-            upper: signed::cast_unsigned_64(x.high),
+            upper: x.high.cast_unsigned(),
             scale: x.scale,
         },
         DataValue::Bool(b) => of_word(b as u64),
-        DataValue::Date(x) => of_word(signed::cast_unsigned_32(x) as u64),
-        DataValue::Time(x) => of_word(signed::cast_unsigned_64(x)),
-        DataValue::Timestamp(x) => of_word(signed::cast_unsigned_64(x)),
+        DataValue::Date(x) => of_word(x.cast_unsigned() as u64),
+        DataValue::Time(x) => of_word(x.cast_unsigned()),
+        DataValue::Timestamp(x) => of_word(x.cast_unsigned()),
         DataValue::Null | DataValue::Char(_) | DataValue::Varchar(_) | DataValue::Bit(_) => of_word(
             0,
         ),

@@ -11,5 +11,5 @@ returns-in-Numeric c =
     let x = c.in-Numeric.x in
     let of : ℕ → ℕ → Content = λ low high. record { word = low; upper = high; scale = x.scale } in
     rw c.in-Numeric.is
-    (ap (λ low. of low c.cast_unsigned_64-in-Numeric.result) (unsigned_word w64 8 refl x.low (search rules))
-    ∙ ap (of _) (signed_word w64 8 refl x.high (search rules) c.cast_unsigned_64-in-Numeric.ensures))
+    (ap (λ low. of low c.cast_unsigned-in-Numeric.result) (unsigned_word w64 8 refl x.low (search rules))
+    ∙ ap (of _) (signed_word w64 8 refl x.high (search rules) c.cast_unsigned-in-Numeric.ensures))
