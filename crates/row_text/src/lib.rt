@@ -71,8 +71,8 @@ fn text_of_column(
     Err(Refusal::WrongKind(column))
 }
 
-// Where the text of a column stands in the row, for a null an empty range at 0, or why there is none. The row's own mark
-// tells its sort.
+// Where the text of a column stands in the row, for a null an empty range at 0, or why there is none. The row's own
+// mark tells its sort.
 pub fn column_text(schema: &[u8], row: &[u8], column: usize) -> error::Result<TextRange>
     ensures { (result ≡ text_call schema.now row.now column)
         × PartIn (length row.now) result }

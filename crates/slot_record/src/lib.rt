@@ -1,6 +1,6 @@
 // A column's bytes written as a value record, by kinds and without a value in between. `from_bytes` and then
-// `write_value_record` do the same, but pass the value through memory. Each answers with the place after the record, and
-// the code points of its text.
+// `write_value_record` do the same, but pass the value through memory. Each answers with the place after the record,
+// and the code points of its text.
 #![tactic(auto)]
 
 ghost use Rattle.std.specs.Prelude.{◌≡◌, Bool, ℕ, ◌+◌, ◌-◌, ◌≤◌, ◌∷◌, length, take, drop};
