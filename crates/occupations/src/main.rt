@@ -2,19 +2,33 @@
 // of a refusal.
 #![tactic(auto)]
 
-use std::io::Write;
+ghost use Rattle.std.specs.Prelude.{◌≤◌, length};
 
-// POSIX's descriptor of standard input.
+// The descriptors of POSIX.
 const STDIN_FILENO: i32 = 0;
+
+const STDOUT_FILENO: i32 = 1;
 
 // One byte more than a list may have: it is enough to refuse a longer one.
 const INPUT_LIMIT: usize = 32769;
 
+fn read_list(input: &mut [u8]) -> usize
+    ensures { result ≤ length input.new }
+{
+    if input.len() < INPUT_LIMIT {
+        return 0;
+    }
+    io::read_full(STDIN_FILENO, &mut input[..INPUT_LIMIT])
+}
+
 // A valid list needs at most 64,512 bytes of output, so that none is refused for the room.
-fn main(rt: HostRuntime) -> std::io::Result<()> {
-    let mut input = [0; INPUT_LIMIT];
-    let size = io::read_full(STDIN_FILENO, &mut input);
+fn main() {
+    let mut input = io::large_buffer();
+    let n = read_list(&mut input);
     let mut out = io::large_buffer();
-    let printed = occupation_list::report(&input[..size], &mut out).unwrap_or(0);
-    std::io::writer(&rt).write_all(out.get(..printed).unwrap_or(&[]))
+    if let Ok(size) = occupation_list::report(&input[..n], &mut out) {
+        if let Some(lines) = out.get(..size) {
+            io::write_all(STDOUT_FILENO, lines);
+        }
+    }
 }
