@@ -135,7 +135,7 @@ set-null-kept schema buf n i = opened-kept (sort_in buf n) schema buf n i (λ ts
 
 -- ---- calls with a list of counts
 
--- a build that is Err leaves both; one that is done is told by `built`
+-- a build that is refused leaves both; one that is done is told by `built`
 module _ (sort : Bool) (schema list area out counts : List ℕ) where
   abbrev call : Counted
   call = build_call sort schema list area out counts

@@ -14,7 +14,7 @@ type_at ts i = get_or ts i (Varchar false 0)
 abbrev pub layout_for : Bool → List DataType → RowLayout
 layout_for k ts = layout_of k (map shape_of ts)
 
--- the columns that records say, none where they are Err
+-- the columns that records say, none where they are refused
 abbrev pub columns_of : Parsed → List DataType
 columns_of (Ok ts) = ts
 columns_of (Err r) = []

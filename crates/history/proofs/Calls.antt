@@ -1,4 +1,4 @@
--- How a call ends: Err, with the buffer as it was, or with a row in the buffer's first bytes.
+-- How a call ends: refused, with the buffer as it was, or with a row in the buffer's first bytes.
 use Rattle.std.specs.Prelude.{Err, Ok}
 use Prim.Native.Nat.{ℕ, ◌≤◌, ◌<◌}
 use mathlib.Core.Bool.{Bool, true, false, cond}

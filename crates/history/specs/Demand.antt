@@ -36,7 +36,7 @@ AllOfBytes [] = Unit {0}
 AllOfBytes (c ∷ cs) = OfBytes c × AllOfBytes cs
 
 -- "A history starts where fresh answers 0": `out` is what fresh was lent, `start` what it left and handed back. "a
--- list of set and set null calls, Err ones included": any calls. 02, request 5: "The caller chooses short or long
+-- list of set and set null calls, refused ones included": any calls. 02, request 5: "The caller chooses short or long
 -- when a row is made", here by `sort`; each call goes by the row's own mark.
 pub record History (sort : Bool) (schema : List ℕ) (ts : List DataType) : Type 0 where
   pub columns : schema_of sort schema ≡ Ok ts
@@ -71,8 +71,8 @@ module _ {sort : Bool} {schema : List ℕ} {ts : List DataType} (h : History sor
   cells = sheet_cells ts sheet
 
   -- ---- No history ends in a row that refuses every edit: the row left is sound, so a set of a column that is there,
-  -- with a value that passes 10, 11 and 12, is Err by nothing but 13 and 14 for the row it makes, and a set null
-  -- of such a column by nothing. The other calls are Err by 9, or by what is wrong with the value. So no call of a
+  -- with a value that passes 10, 11 and 12, is refused by nothing but 13 and 14 for the row it makes, and a set null
+  -- of such a column by nothing. The other calls are refused by 9, or by what is wrong with the value. So no call of a
   -- history answers 1, 2, 15, or 14 for the row length.
   pub record Accepts : Type 0 where
     pub sound : soundness sort ts row ≡ Some true

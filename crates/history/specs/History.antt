@@ -1,4 +1,4 @@
--- FORMAT 9.1, 9.2. Demand 3, and 01, "Histories of edits": lists of set and set null calls, Err ones included, from
+-- FORMAT 9.1, 9.2. Demand 3, and 01, "Histories of edits": lists of set and set null calls, refused ones included, from
 -- a fresh row of a schema.
 use Rattle.error.specs.Result.{Result}
 use Rattle.std.specs.Prelude.{ℕ, ◌+◌, Bool, List, [], ◌∷◌, ◌++◌, length, get_or, set, take, Err, Ok}
@@ -58,7 +58,7 @@ one_value (Ok vs) = get_or vs 0 D.Null
 one_value (Err e) = D.Null
 
 -- "An accepted set puts its value, with the bytes of its text range, in its column's entry. An accepted set null puts
--- null there. A Err call changes no entry."
+-- null there. A refused call changes no entry."
 abbrev pub noted : Result ℕ → Call → List Entry → List Entry
 noted (Err e) c sheet = sheet
 noted (Ok m) (set_value i list area) sheet =

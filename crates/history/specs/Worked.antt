@@ -1,5 +1,5 @@
 -- FORMAT 9.1, 9.3. 01, "Histories of edits": "On S, setting column 0 to 1 and column 1 to "AB" leaves 1, "AB", null:
--- row 2, of 13 + 2 bytes; cases 3 and 4 go on from there." Err calls come between.
+-- row 2, of 13 + 2 bytes; cases 3 and 4 go on from there." Refused calls come between.
 use Rattle.error.specs.Result.{Result}
 use Rattle.std.specs.Prelude.{ℕ, false, List, [], ◌∷◌, ◌++◌, ◌≡◌, pos, replicate, Err, Ok}
 use Rattle.std.proofs.Math.Option.{none, some}

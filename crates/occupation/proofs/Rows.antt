@@ -81,7 +81,7 @@ good-sort r e h = subst (λ (q : Bool). is_good (occupation_as q r) ≡ true) (s
 pub good_length : (r : List ℕ) {k : Bool} → k ≡ is_long r → is_good (occupation_in r) ≡ true → least_length k ≤ length r
 good_length r {k} e h = (good-row k r (good-sort r e h)).0
 
--- the first of two steps was not Err
+-- the first of two steps was not refused
 first_good : {A : Type 0} (x : Result A) (k : A → Result Occupation) → is_good (on_result x Err k) ≡ true → (a : A) × ((x ≡ Ok a) × (is_good (k a) ≡ true))
 first_good (Ok a) k h = (a, (refl, h))
 first_good (Err e) k h = absurd (false≢true h)

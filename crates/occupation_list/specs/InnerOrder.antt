@@ -17,7 +17,7 @@ use Rattle.occupation_list.specs.Print.{row_count_limit, occupations_of, decimal
 abbrev pub row_in : List ℕ → ℕ → List ℕ
 row_in list p = first_row (drop p list)
 
--- anything for a row that is Err
+-- anything for a row that is refused
 abbrev pub good_one : Result Occupation → Occupation
 good_one (Ok o) = o
 good_one (Err e) = record { platform = none; unit = none; arrival = none; departure = none }

@@ -16,7 +16,7 @@ use Rattle.occupation_list.specs.Ordered.{ordered}
 abbrev pub row_count_limit : ℕ
 row_count_limit = 512
 
--- "then the reading refusals row by row; 17, after those of its row": the first row that is Err decides. Each row
+-- "then the reading refusals row by row; 17, after those of its row": the first row that is refused decides. Each row
 -- is of the sort that its own mark tells.
 abbrev pub occupations_in : List (List ℕ) → Result (List Occupation)
 occupations_in [] = Ok []

@@ -1,4 +1,4 @@
--- A row is Err as a read of all of its columns.
+-- A row is refused as a read of all of its columns.
 use Rattle.std.specs.Prelude.{Err, Ok}
 use Prim.Native.Nat.{ℕ}
 use mathlib.Core.Path.{◌≡◌, refl, sym, ap}

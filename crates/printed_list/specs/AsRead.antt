@@ -1,4 +1,4 @@
--- FORMAT 10.2. 02, request 2: "the reading refusals": a row is Err with a number other than 17 exactly if a read of
+-- FORMAT 10.2. 02, request 2: "the reading refusals": a row is refused with a number other than 17 exactly if a read of
 -- all of its columns is, whatever is lent to it, and not for want of room.
 use Rattle.std.specs.Prelude.{ℕ, ◌≡◌, ◌↔◌, List, [], ◌∷◌, Err}
 use Rattle.error.specs.declared.Refusal.{Refusal}

@@ -1,4 +1,4 @@
--- FORMAT 10.7. 02, request 2: "Two lists that are not Err and whose texts, nulls or seconds differ, taken in this
+-- FORMAT 10.7. 02, request 2: "Two lists that are not refused and whose texts, nulls or seconds differ, taken in this
 -- order, never give the same lines."
 use Rattle.std.specs.Prelude.{ℕ, ◌/◌, ◌≡◌, ◌↔◌, true, List, map, Err, Ok}
 use Rattle.std.proofs.Math.Option.{Option, none, some}

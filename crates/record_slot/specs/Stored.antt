@@ -1,4 +1,4 @@
--- 01's numbers 11 and 12: what a column holds of a value, or why the value is Err. FORMAT 8.3.
+-- 01's numbers 11 and 12: what a column holds of a value, or why the value is refused. FORMAT 8.3.
 use Rattle.std.specs.Prelude.{ℕ, Bool, cond, List, eqb, Err, Ok}
 use Rattle.std.proofs.Math.Option.{none, some}
 use Rattle.error.specs.declared.Refusal.TheVariants.{WrongKind, Unsuitable}

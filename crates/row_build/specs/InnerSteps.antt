@@ -37,7 +37,7 @@ null_row l =
 
 -- ---- schema and value list, walked together
 
--- the values that a list says, none where it is Err
+-- the values that a list says, none where it is refused
 abbrev pub values_given : Values → List DataValue
 values_given (Ok vs) = vs
 values_given (Err e) = []
@@ -103,7 +103,7 @@ pub record Storable (k : Bool) (columns i slot entry : ℕ) (t : DataType) (v : 
   pub payload : is_varlen t ≡ true → end + length (stored_form t v (text_of area v)) ≤ n
   pub end_fits : end + payload_added t (some (stored_form t v (text_of area v))) ≤ row_limit k
 
--- the cells, none where they are Err
+-- the cells, none where they are refused
 abbrev pub cells_given : Result (List Cell) → List Cell
 cells_given (Ok cs) = cs
 cells_given (Err e) = []

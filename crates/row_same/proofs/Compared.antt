@@ -95,7 +95,7 @@ schema-refused s a b f =
     ap (λ (x : Values). both_read (types_in s) a x b (values_read s b))
     (on_refused (is_long a) (schema_of (is_long a) s) Err _ f)
 
--- ---- a row that is Err as a whole
+-- ---- a row that is refused as a whole
 
 pub first_refused : (first : Values) {e : Refusal} → read_all true first ≡ Err e → first ≡ Err e
 first_refused (Ok vs) h = absurd (let z : ◌≡◌ {A = ℕ} 0 1 = cc in omega arith)
