@@ -62,50 +62,61 @@ pub fn write_u16(s: &mut [u8], at: usize, x: u16)
     requires { at + 2 ≤ length s.old }
     ensures { s.new ≡ sets s.old at (to_le 2 x) }
 {
-    copy(s, at, &x.to_le_bytes());
+    store(s, at, &x.to_le_bytes());
 }
 
 pub fn write_u32(s: &mut [u8], at: usize, x: u32)
     requires { at + 4 ≤ length s.old }
     ensures { s.new ≡ sets s.old at (to_le 4 x) }
 {
-    copy(s, at, &x.to_le_bytes());
+    store(s, at, &x.to_le_bytes());
 }
 
 pub fn write_u64(s: &mut [u8], at: usize, x: u64)
     requires { at + 8 ≤ length s.old }
     ensures { s.new ≡ sets s.old at (to_le 8 x) }
 {
-    copy(s, at, &x.to_le_bytes());
+    store(s, at, &x.to_le_bytes());
 }
 
 pub fn write_i16(s: &mut [u8], at: usize, x: i16)
     requires { at + 2 ≤ length s.old }
     ensures { s.new ≡ sets s.old at (to_le 2 (of_z w16 x)) }
 {
-    copy(s, at, &x.to_le_bytes());
+    store(s, at, &x.to_le_bytes());
 }
 
 pub fn write_i32(s: &mut [u8], at: usize, x: i32)
     requires { at + 4 ≤ length s.old }
     ensures { s.new ≡ sets s.old at (to_le 4 (of_z w32 x)) }
 {
-    copy(s, at, &x.to_le_bytes());
+    store(s, at, &x.to_le_bytes());
 }
 
 pub fn write_i64(s: &mut [u8], at: usize, x: i64)
     requires { at + 8 ≤ length s.old }
     ensures { s.new ≡ sets s.old at (to_le 8 (of_z w64 x)) }
 {
-    copy(s, at, &x.to_le_bytes());
+    store(s, at, &x.to_le_bytes());
 }
 
+// A number's bytes, so few that they are stored without a call.
 #[tactic(auto, using(crate::proofs::Runs::part_stored))]
-pub fn copy(s: &mut [u8], at: usize, src: &[u8])
+fn store(s: &mut [u8], at: usize, src: &[u8])
     requires { at + length src.now ≤ length s.old }
     ensures { s.new ≡ sets s.old at src.now }
 {
     s[at..at + src.len()].copy_from_slice(src);
+}
+
+// By a loop: for slices of any length `copy_from_slice` is a call of C's memmove, which the library has nowhere else.
+pub fn copy(s: &mut [u8], at: usize, src: &[u8])
+    requires { at + length src.now ≤ length s.old }
+    ensures { s.new ≡ sets s.old at src.now }
+{
+    for i in 0..src.len() {
+        s[at + i] = src[i];
+    }
 }
 
 // Stays: std's `fill` stores the last byte by itself, and takes half as long again for a few bytes.
