@@ -2,25 +2,39 @@
 // oracle/differential/src/recorded.rs describes the records on standard input, and writes them.
 #![tactic(auto)]
 
-use replay_parts::{Fields, KINDS, Kind, PLANTED};
+use replay_parts::{Fields, KINDS, Kind, NOTE, PLANTED};
 use std::fmt;
-use std::io::Write;
+use std::fmt::Write;
 
-// POSIX's descriptor of standard input.
+// The descriptors of POSIX.
 const STDIN_FILENO: i32 = 0;
 
-// The kinds of calls, in their order.
+const STDOUT_FILENO: i32 = 1;
+
+// Standard output by the crate io. A write that fails is passed over: what comes after it is written all the same, the
+// input is read to its end, and the status stays 0.
+#[derive(Clone, Copy)]
+struct Output;
+
+impl fmt::Write for Output {
+    fn write_str(&mut self, s: &str) -> fmt::Result {
+        io::write_all(STDOUT_FILENO, s.as_bytes());
+        Ok(())
+    }
+}
+
+// The kinds of calls, in their order, each as it heads its line.
 const NAMES: [&str; KINDS] = [
-    "text",
-    "null flag",
-    "schema and layout",
-    "value stored",
-    "slot read",
-    "row read",
-    "row built",
-    "fresh row",
-    "column set",
-    "column set null",
+    "text: ",
+    "null flag: ",
+    "schema and layout: ",
+    "value stored: ",
+    "slot read: ",
+    "row read: ",
+    "row built: ",
+    "fresh row: ",
+    "column set: ",
+    "column set null: ",
 ];
 
 // The answers to the calls of a kind. Of the planted ones, which are wrong, `found` were told apart.
@@ -68,29 +82,28 @@ struct Tallies {
 }
 
 impl Tallies {
-    // A record's first byte is 0 for a note, which is printed, or a kind; then come its fields. An empty one fills a
-    // block up.
-    fn run(&mut self, rt: &impl Print, record: &[u8]) -> std::io::Result<()> {
+    // A record's first byte is that of a note, which is printed, or of a kind; then come its fields. An empty one fills
+    // a block up.
+    fn run(&mut self, record: &[u8]) {
         let Some((first, fields)) = record.split_first() else {
-            return Ok(());
+            return;
         };
-        let mut fields = Fields(fields);
         let number = *first % PLANTED;
-        if number == 0 {
-            return std::io::writer(rt).write_all(fields.field());
+        if number == NOTE {
+            io::write_all(STDOUT_FILENO, Fields(fields).field());
+            return;
         }
         match Kind::try_from(number) {
             Ok(kind) => {
-                let same = replay_rows::same(kind, fields);
+                let same = replay_rows::same(number, fields);
                 self.calls[kind as usize].count(same, *first >= PLANTED);
             }
             Err(_) => self.unknown = self.unknown.saturating_add(1),
         }
-        Ok(())
     }
 
     // A block fills the buffer, and is a list of records in the form of fields.
-    fn run_all(&mut self, rt: &impl Print, buffer: &mut [u8]) -> std::io::Result<()> {
+    fn run_all(&mut self, buffer: &mut [u8]) {
         // A proved loop has to end, and nothing says that the input does.
         for _ in 0..u64::MAX {
             let size = io::read_full(STDIN_FILENO, buffer);
@@ -98,19 +111,22 @@ impl Tallies {
                 break;
             }
             for record in Fields(&buffer[..size]) {
-                self.run(rt, record)?;
+                self.run(record);
             }
         }
-        Ok(())
+    }
+
+    fn print(&self, out: &mut Output) -> fmt::Result {
+        for (name, tally) in NAMES.iter().zip(&self.calls) {
+            writeln!(out, "{name}{tally}")?;
+        }
+        writeln!(out, "records not understood: {}", self.unknown)
     }
 }
 
-fn main(rt: HostRuntime) -> std::io::Result<()> {
+fn main() {
     let mut buffer = io::large_buffer();
     let mut tallies = Tallies::default();
-    tallies.run_all(&rt, &mut buffer)?;
-    for (name, tally) in NAMES.iter().zip(&tallies.calls) {
-        println!(rt; "{name}: {tally}")?;
-    }
-    println!(rt; "records not understood: {}", tallies.unknown)
+    tallies.run_all(&mut buffer);
+    let _ = tallies.print(&mut Output);
 }

@@ -1,6 +1,8 @@
 // The kinds of recorded calls.
 
-// A record's first byte is its kind's number, with PLANTED added where the answer was changed on purpose.
+// A record's first byte is NOTE or its kind's number, with PLANTED added where the answer was changed on purpose.
+pub const NOTE: u8 = 0;
+
 pub const PLANTED: u8 = 128;
 
 #[derive(Clone, Copy, Debug, PartialEq, Eq)]

@@ -7,8 +7,7 @@ mod kinds;
 ghost use Rattle.std.specs.Prelude.{length};
 ghost use Rattle.std.specs.Iterator.{at_most};
 
-use error::Refusal;
-pub use kinds::{KINDS, Kind, PLANTED, UnknownKind};
+pub use kinds::{KINDS, Kind, NOTE, PLANTED, UnknownKind};
 
 // Fields end to end, each behind its length in four bytes; a length that passes the end counts as 0.
 #[derive(Clone, Copy, Drop)]
@@ -37,28 +36,40 @@ impl<'r> Fields<'r> {
     }
 }
 
-// What the Rust does where this is answered: 0 it answers, 1 Internal, 2 TypeMismatch, 3 a panic, 255 none of these.
-pub fn variant<T: Drop>(answer: error::Result<T>) -> u8 {
+// What a call answered: 0 and the bytes that it handed back, or the refusal's number.
+#[derive(Clone, Copy)]
+pub struct Outcome {
+    pub number: u32,
+    pub length: usize,
+}
+
+pub fn answered(answer: error::Result<usize>) -> Outcome {
     match answer {
-        Ok(_) => 0,
-        Err(
-            Refusal::RowTooShort
-            | Refusal::WrongColumnCount
-            | Refusal::WrongVarlenCount
-            | Refusal::NoSuchColumn
-            | Refusal::WrongKind(_),
-        ) => 1,
-        Err(Refusal::NoValue(_) | Refusal::Unsuitable(_)) => 2,
-        Err(Refusal::BadRange(_)) => 3,
-        Err(_) => 255,
+        Ok(length) => Outcome { number: 0, length },
+        Err(refusal) => Outcome {
+            number: refusal.number(),
+            length: 0,
+        },
+    }
+}
+
+// What the Rust does where a number is answered: 0 it answers, 1 Internal, 2 TypeMismatch, 3 a panic, 255 none of
+// these.
+pub fn variant(number: u32) -> u8 {
+    match number {
+        0 => 0,
+        3 | 5 | 6 | 9 | 11 => 1,
+        8 | 12 => 2,
+        7 => 3,
+        _ => 255,
     }
 }
 
 // An answer's variant, then the bytes that were handed back.
-pub fn same_handed(answer: error::Result<usize>, out: &[u8], recorded: &[u8]) -> bool {
-    let handed = answer.unwrap_or(0);
+pub fn same_handed(number: u32, n: usize, out: &[u8], recorded: &[u8]) -> bool {
+    let handed = if number == 0 { n } else { 0 };
     match (recorded.split_first(), out.get(..handed)) {
-        (Some((first, bytes)), Some(out)) => *first == variant(answer) && out == bytes,
+        (Some((first, bytes)), Some(out)) => *first == variant(number) && out == bytes,
         _ => false,
     }
 }
@@ -76,8 +87,11 @@ fn same_null_flag(row: &[u8], column: &[u8], recorded: &[u8]) -> bool {
     let Some(column) = number(column) else {
         return false;
     };
-    let answer = null_bitmap::is_column_null_in_row(row, column);
-    recorded == [variant(answer), u8::from(answer.unwrap_or(false))].as_slice()
+    let (number, null) = match null_bitmap::is_column_null_in_row(row, column) {
+        Ok(null) => (0, null),
+        Err(refusal) => (refusal.number(), false),
+    };
+    recorded == [variant(number), u8::from(null)].as_slice()
 }
 
 fn same_layout(schema: &[u8], recorded: &[u8]) -> bool {
@@ -93,8 +107,8 @@ fn same_layout(schema: &[u8], recorded: &[u8]) -> bool {
 
 fn same_stored(schema: &[u8], list: &[u8], area: &[u8], recorded: &[u8]) -> bool {
     let mut out = [0; 2048];
-    let answer = rook_probe::store(schema, list, area, &mut out);
-    same_handed(answer, &out, recorded)
+    let answer = rook_probe::rook_probe_store(schema, list, area, &mut out);
+    same_handed(answer.number, answer.length, &out, recorded)
 }
 
 fn same_slot(schema: &[u8], bytes: &[u8], start: &[u8], recorded: &[u8]) -> bool {
@@ -102,8 +116,8 @@ fn same_slot(schema: &[u8], bytes: &[u8], start: &[u8], recorded: &[u8]) -> bool
         return false;
     };
     let mut out = [0; 18];
-    let answer = rook_probe::slot(schema, bytes, start, &mut out);
-    same_handed(answer, &out, recorded)
+    let answer = rook_probe::rook_probe_slot(schema, bytes, start, &mut out);
+    same_handed(answer.number, answer.length, &out, recorded)
 }
 
 fn same_read(schema: &[u8], row: &[u8], wanted: &[u8], recorded: &[u8]) -> bool {
@@ -116,22 +130,23 @@ fn same_read(schema: &[u8], row: &[u8], wanted: &[u8], recorded: &[u8]) -> bool 
     };
     let mut out = [0; 2048];
     let mut counts = [0; 256];
-    let answer = row_decode::decode(schema, row, numbers, &mut out, &mut counts);
-    same_handed(answer, &out, recorded)
+    let answer = answered(row_decode::decode(schema, row, numbers, &mut out, &mut counts));
+    same_handed(answer.number, answer.length, &out, recorded)
 }
 
-// Whether the library answers a call of these kinds as its record's last field has it.
-pub fn same(kind: Kind, mut fields: Fields<'_>) -> bool {
+// Whether the library answers a call of these kinds as its record's last field has it; false for every other number.
+pub fn same(kind: u8, fields: &[u8]) -> bool {
+    let mut fields = Fields(fields);
     let a = fields.field();
     let b = fields.field();
     let c = fields.field();
-    match kind {
-        Kind::Text => same_text(a, b),
-        Kind::NullFlag => same_null_flag(a, b, c),
-        Kind::Layout => same_layout(a, b),
-        Kind::Stored => same_stored(a, b, c, fields.field()),
-        Kind::Slot => same_slot(a, b, c, fields.field()),
-        Kind::Read => same_read(a, b, c, fields.field()),
+    match Kind::try_from(kind) {
+        Ok(Kind::Text) => same_text(a, b),
+        Ok(Kind::NullFlag) => same_null_flag(a, b, c),
+        Ok(Kind::Layout) => same_layout(a, b),
+        Ok(Kind::Stored) => same_stored(a, b, c, fields.field()),
+        Ok(Kind::Slot) => same_slot(a, b, c, fields.field()),
+        Ok(Kind::Read) => same_read(a, b, c, fields.field()),
         _ => false,
     }
 }

@@ -2,34 +2,39 @@
 // edits.
 #![tactic(auto)]
 
-use replay_parts::{Fields, Kind, number, same_handed, variant};
+use replay_parts::{Fields, Kind, Outcome, answered, number, same_handed, variant};
 
 fn same_built(schema: &[u8], values: &[u8], area: &[u8], recorded: &[u8]) -> bool {
     let mut out = [0; 2048];
     let mut counts = [0; 256];
-    let answer = row_build::serialize_nullable_typed_row(
+    let answer = answered(row_build::serialize_nullable_typed_row(
         schema,
         false,
         values,
         area,
         &mut out,
         &mut counts,
-    );
-    same_handed(answer, &out, recorded)
+    ));
+    same_handed(answer.number, answer.length, &out, recorded)
 }
 
 fn same_fresh(schema: &[u8], recorded: &[u8]) -> bool {
     let mut out = [0; 2048];
-    let answer = row_build::fresh(schema, false, &mut out);
-    same_handed(answer, &out, recorded)
+    let answer = answered(row_build::fresh(schema, false, &mut out));
+    same_handed(answer.number, answer.length, &out, recorded)
 }
 
 // What an edit left: its answer's variant, the row length after it, every byte of the buffer.
-fn same_left(answer: error::Result<usize>, before: usize, buffer: &[u8], recorded: &[u8]) -> bool {
+fn same_left(answer: Outcome, before: usize, buffer: &[u8], recorded: &[u8]) -> bool {
+    let length = if answer.number == 0 {
+        answer.length
+    } else {
+        before
+    };
     match recorded.split_at_checked(9) {
         Some((head, bytes)) => {
-            head[0] == variant(answer)
-                && endian::read_u64(head, 1) as usize == answer.unwrap_or(before)
+            head[0] == variant(answer.number)
+                && endian::read_u64(head, 1) as usize == length
                 && buffer == bytes
         }
         None => false,
@@ -59,29 +64,29 @@ fn same_edit(
         Some((list, area)) => row_edit::set_value(schema, buffer, length, column, list, area),
         None => row_edit::set_null(schema, buffer, length, column),
     };
-    same_left(answer, length, buffer, recorded)
+    same_left(answered(answer), length, buffer, recorded)
 }
 
-// Whether the library answers a call as its record's last field has it.
-pub fn same(kind: Kind, record: Fields<'_>) -> bool {
-    let mut fields = record;
-    let a = fields.field();
-    let b = fields.field();
-    match kind {
-        Kind::Fresh => same_fresh(a, b),
-        Kind::Built => {
-            let area = fields.field();
-            same_built(a, b, area, fields.field())
+// Whether the library answers a call as its record's last field has it; false for a number of no kind.
+pub fn same(kind: u8, fields: &[u8]) -> bool {
+    let mut rest = Fields(fields);
+    let a = rest.field();
+    let b = rest.field();
+    match Kind::try_from(kind) {
+        Ok(Kind::Fresh) => same_fresh(a, b),
+        Ok(Kind::Built) => {
+            let area = rest.field();
+            same_built(a, b, area, rest.field())
         }
-        Kind::Set => {
-            let numbers = fields.field();
-            let value = (fields.field(), fields.field());
-            same_edit(a, b, numbers, Some(value), fields.field())
+        Ok(Kind::Set) => {
+            let numbers = rest.field();
+            let value = (rest.field(), rest.field());
+            same_edit(a, b, numbers, Some(value), rest.field())
         }
-        Kind::SetNull => {
-            let numbers = fields.field();
-            same_edit(a, b, numbers, None, fields.field())
+        Ok(Kind::SetNull) => {
+            let numbers = rest.field();
+            same_edit(a, b, numbers, None, rest.field())
         }
-        _ => replay_parts::same(kind, record),
+        _ => replay_parts::same(kind, fields),
     }
 }
