@@ -172,7 +172,9 @@ fn span_of(range: VarlenRange) -> Option<Span>
     }
 }
 
-// The fields of a row that `read` did not refuse, without its tests of the texts.
+// The fields of a row that `read` did not refuse, without its tests of the texts. Put into its callers, so that a
+// comparison reads what it compares and no more.
+#[inline(always)]
 pub fn fields_of(row: &[u8]) -> Fields
     requires { is_good (occupation_in row.now) ≡ true }
     ensures { (Ok (fields_shown row.now result) ≡ occupation_in row.now)
