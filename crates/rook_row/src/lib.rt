@@ -225,10 +225,10 @@ pub fn rook_row_handle_set(
         (handle_set schema.now buf.old handle.old
         column values.now text.now) }
 {
-    let edited = row_handle::with_value(schema, buf, *handle, column, values, text);
-    let answer = RowAnswer::new(edited.answer, handle.length);
+    let before = *handle;
+    let edited = row_handle::with_value(schema, buf, before, column, values, text);
     *handle = edited.handle;
-    answer
+    RowAnswer::new(edited.answer, before.length)
 }
 
 // As `rook_row_set_null`, on the row of a handle.
@@ -243,10 +243,10 @@ pub fn rook_row_handle_set_null(
         (handle_set_null schema.now buf.old handle.old
         column) }
 {
-    let edited = row_handle::with_null(schema, buf, *handle, column);
-    let answer = RowAnswer::new(edited.answer, handle.length);
+    let before = *handle;
+    let edited = row_handle::with_null(schema, buf, before, column);
     *handle = edited.handle;
-    answer
+    RowAnswer::new(edited.answer, before.length)
 }
 
 // The text of a column: where it stands in the row. A null has number 0 and an empty range at 0.
