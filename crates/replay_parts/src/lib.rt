@@ -4,7 +4,8 @@
 
 mod kinds;
 
-ghost use Rattle.std.specs.Prelude.{length};
+ghost use Rattle.std.specs.Prelude.{◌≡◌, ◌+◌, ◌≤◌, ◌<◌, cond, eqb, length, Some, None};
+ghost use Rattle.laws.specs.Bytes.{from_le};
 ghost use Rattle.std.specs.Iterator.{at_most};
 
 pub use kinds::{KINDS, Kind, NOTE, PLANTED, UnknownKind};
@@ -19,20 +20,30 @@ impl<'r> Iterator for Fields<'r> {
     ghost remaining = { λ s. at_most (length s.0.now) };
 
     fn next(&mut self) -> Option<&'r [u8]> {
-        let (length, rest) = self.0.split_first_chunk::<4>()?;
-        let length = u32::from_le_bytes(*length) as usize;
-        let end = if length <= rest.len() { length } else { 0 };
-        let (field, rest) = rest.split_at(end);
-        self.0 = rest;
-        Some(field)
+        if self.0.len() < 4 {
+            None
+        } else {
+            Some(self.field())
+        }
     }
 }
 
 impl<'r> Fields<'r> {
-    // The next field, or what is left where that is no field.
-    pub fn field(&mut self) -> &'r [u8] {
-        let rest = self.0;
-        self.next().unwrap_or(rest)
+    // The next field, behind the four bytes of its length, or what is left where that is no field.
+    pub fn field(&mut self) -> &'r [u8]
+        ensures apart { 4 ≤ length self.old.0.now
+            → 4 + (length result.now + length self.new.0.now) ≤ length self.old.0.now }
+        ensures left { length self.old.0.now < 4 → (result.now ≡ self.old.0.now) × (self.new.0.now ≡ self.old.0.now) }
+    {
+        let fields = self.0;
+        let Some((length, rest)) = fields.split_first_chunk::<4>() else {
+            return fields;
+        };
+        let length = u32::from_le_bytes(*length) as usize;
+        let end = if length <= rest.len() { length } else { 0 };
+        let (field, rest) = rest.split_at(end);
+        self.0 = rest;
+        field
     }
 }
 
@@ -79,8 +90,14 @@ fn same_text(s: &[u8], recorded: &[u8]) -> bool {
 }
 
 // A number of eight bytes.
-pub fn number(field: &[u8]) -> Option<usize> {
-    Some(u64::from_le_bytes(*field.as_array::<8>()?) as usize)
+pub fn number(field: &[u8]) -> Option<usize>
+    ensures { result ≡ cond (eqb (length field.now) 8) (Some (from_le field.now)) None }
+{
+    if field.len() == 8 {
+        Some(endian::read_u64(field, 0) as usize)
+    } else {
+        None
+    }
 }
 
 fn same_null_flag(row: &[u8], column: &[u8], recorded: &[u8]) -> bool {
