@@ -95,7 +95,8 @@ impl Tallies {
         }
         match Kind::try_from(number) {
             Ok(kind) => {
-                let same = replay_rows::same(number, fields);
+                // Each answers for its own kinds, and false for others.
+                let same = replay_parts::same(number, fields) || replay_rows::same(number, fields);
                 self.calls[kind as usize].count(same, *first >= PLANTED);
             }
             Err(_) => self.unknown = self.unknown.saturating_add(1),

@@ -67,7 +67,7 @@ fn same_edit(
     same_left(answered(answer), length, buffer, recorded)
 }
 
-// Whether the library answers a call as its record's last field has it; false for a number of no kind.
+// Whether the library answers a call of these kinds as its record's last field has it; false for every other number.
 pub fn same(kind: u8, fields: &[u8]) -> bool {
     let mut rest = Fields(fields);
     let a = rest.field();
@@ -87,6 +87,6 @@ pub fn same(kind: u8, fields: &[u8]) -> bool {
             let numbers = rest.field();
             same_edit(a, b, numbers, None, rest.field())
         }
-        _ => replay_parts::same(kind, fields),
+        _ => false,
     }
 }
