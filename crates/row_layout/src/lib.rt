@@ -15,18 +15,20 @@ ghost use Rattle.row_layout.specs.InnerRange.{Inside, HasEntry};
 
 use row_format::Shape;
 
-// at, rounded up to a multiple of a.
+// at, rounded up to a multiple of a. For the alignments of types it goes by a mask: a walk over a schema rounds at each
+// column, and then takes no jump by the alignment.
 pub fn round_up(at: usize, a: usize) -> usize
     requires { (0 < a) × ((a ≤ 8) × (at ≤ 0x1_0000_0000)) }
     ensures { (result ≡ round_up a at) × (result ≤ at + 7) }
 {
-    match a {
-        1 => at,
-        2 => (at + 1) / 2 * 2,
-        4 => (at + 3) / 4 * 4,
-        8 => (at + 7) / 8 * 8,
-        _ => (at + (a - 1)) / a * a,
-    }
+    let mask = match a {
+        1 => 0,
+        2 => 1,
+        4 => 3,
+        8 => 7,
+        _ => return (at + (a - 1)) / a * a,
+    };
+    (at + mask) & !mask
 }
 
 // The geometry of the rows of a schema: how many columns, how many Varchars, how many bytes the fixed columns take,
