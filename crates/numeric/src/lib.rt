@@ -58,12 +58,19 @@ fn put_pairs(s: &mut [u8], end: usize, n: u64)
     }
 }
 
-// The decimal digits of a number, two a byte as the packed form has them: 39, and a zero where the sign goes. A
-// division gives eight, until 64 bits hold the rest.
+// The decimal digits of a number, two a byte as the packed form has them: 39, and a zero where the sign goes. Up to
+// seven are taken two by two. Of more the first division gives nine and each one after it eight, until 64 bits hold the
+// rest, which is taken two by two.
 pub fn digits_of(n: u128) -> [u8; 20]
     ensures { result ≡ pairs (digits 39 n) }
 {
     let mut d = [0u8; 20];
+    if n < 10_000_000 {
+        let few = n as u64;
+        d[19] = (few % 10 * 16) as u8;
+        put_pairs(&mut d, 19, few / 10);
+        return d;
+    }
     let (mut rest, nine) = divided_by(n, 1_000_000_000);
     d[19] = (nine % 10 * 16) as u8;
     put_eight(&mut d, 15, nine / 10);

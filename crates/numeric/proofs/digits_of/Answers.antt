@@ -1,6 +1,10 @@
+use mathlib.Core.Path.{◌∙◌}
 use native.Mathlib.Omega.{arith}
-use Rattle.numeric.proofs.Packing.{wide-room, fill_nine, fill_long, fill_eight}
+use Rattle.numeric.proofs.Packing.{wide-room, fill_start, fill_nine, fill_long, fill_eight}
 use Rattle.numeric.proofs.digits_of.Goals as goal
+
+pub returns-then-n-lt10000000 : goal.returns-then-n-lt10000000
+returns-then-n-lt10000000 c = c.put_pairs.ensures ∙ (fill_start c.args.n (wide-room c.args.n c.ranges.n.fits)).stored
 
 pub loop-rest-init : goal.loop-rest-init
 loop-rest-init c =
